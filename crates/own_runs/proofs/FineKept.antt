@@ -1,20 +1,17 @@
 -- The packets of a connection of ours that never falls back break none of `data-fin`, `infinite` and `fail`.
-use Rattle.std.proofs.Common.{◌≡◌, refl, sym, ap, ◌∙◌, subst, ℕ, ◌<◌, ◌≤◌, ◌^◌, Bool, true, false, if◌then◌else◌, Option, Some, None, List, [], ◌∷◌, ◌++◌, map, arith}
+use Rattle.std.proofs.Common.{◌≡◌, refl, sym, ap, ◌∙◌, subst, ℕ, ◌<◌, ◌≤◌, ◌^◌, Bool, true, false, if◌then◌else◌, Option, Some, None, List, [], map, arith}
 use Rattle.std.specs.Prelude.{All, IfSome}
 use Rattle.std.specs.Option.{option_map}
-use Rattle.std.proofs.lemmas.List.Elements.{All-append, All-cons, All-head, All-nil, All-tail}
+use Rattle.std.proofs.lemmas.List.Elements.{All-nil}
 use Rattle.sides.specs.declared.side.Side.{Side}
 use Rattle.sides.specs.declared.side.Side.TheVariants.{A, B}
 use Rattle.sides.specs.Side.{peer}
-use Rattle.mptcp_options.specs.declared.capable.CapableKeys.{CapableKeys}
-use Rattle.mptcp_options.specs.Value.{OptionValue, Capable}
+use Rattle.mptcp_options.specs.Value.{OptionValue}
 use Rattle.capture_reader.specs.Captured.{Captured}
 use Rattle.capture_reader.specs.Seen.{Seen}
 use Rattle.judge_rules.specs.declared.finding.Finding.TheVariants.{Number32}
 use Rattle.judge_rules.specs.declared.finding.Rule.{Rule}
 use Rattle.judge_rules.specs.declared.finding.Rule.TheVariants as rule
-use Rattle.judge_rules.specs.declared.finding.Verdict.{Verdict}
-use Rattle.judge_rules.specs.declared.finding.Verdict.TheVariants.{Broke, Kept, PassedOver}
 use Rattle.judge_rules.specs.Numbers.{first_number}
 use Rattle.seen_connections.specs.declared.connections.Keys.{Keys}
 use Rattle.seen_connections.specs.declared.flow.Belongs.{Belongs}
@@ -26,38 +23,19 @@ use Rattle.seen_streams.specs.Positions.{position_of}
 use Rattle.seen_streams.specs.State.{Found, LaneValue, StreamValue}
 use Rattle.rule_book.specs.Facts.{Facts, first_of, own_base, own_lane, with_own_lane}
 use Rattle.rule_book.specs.Judged.{Told, empty_book, judged_flow, judged_formed, judged_opened, judged_side, nothing_judged, opened_facts}
-use Rattle.rule_book.specs.Signals.{KeyedValue, judged_in, judged_options, keyed_by, keyed_each, keyed_one, told_formless}
+use Rattle.rule_book.specs.Signals.{KeyedValue, judged_options, told_formless}
 use Rattle.rule_book.specs.State.{BookValue, LanesValue, stream_at, with_stream}
 use Rattle.rule_book.specs.Stream.{Left, gap_counted, judged_at, judged_from, judged_positions}
 use Rattle.capture_verdict.specs.Judging.{judged_packets}
 use Rattle.judge_laws.specs.GoesOn.{broke, stream_in}
 use Rattle.judge_laws.proofs.Folds.{TellingKeeps, options_so as fields_so}
 use Rattle.own_runs.proofs.FinePositions.{OffersWell, StreamFine, TellsNoFail, at_so, is_of_ends}
+use Rattle.own_runs.proofs.KeptOptions.{kept_so}
 use Rattle.own_runs.proofs.Own.{Drawn, IsOwn, ValueIs, own_key}
 use Rattle.own_runs.proofs.OwnFlows.{FlowOn, KeysOwn, NonceIs}
 use Rattle.own_runs.proofs.OwnOptions.{IsOf, key_is, options_so, readable_so}
 use Rattle.own_runs.proofs.OwnPackets.{IsLeft, PacketIs, SegmentsKeep, book_holds, opens_so, sender_so}
 use Rattle.own_runs.proofs.Telling.{others_keep}
-
--- ---- which options are judged on
-
-module _ (P : OptionValue → Type 0) (facts : Facts) where
-  last_so : (option : OptionValue) (options : List OptionValue) → P option → All P options → All P (options ++ option ∷ [])
-  last_so option options is each = All-append P options (option ∷ []) each (All-cons P option [] is (All-nil P))
-
-  by_so : (v : Verdict) (option : OptionValue) (keys : CapableKeys) (state : KeyedValue) → P option → All P state.options → All P (keyed_by v facts option keys state).options
-  by_so (Broke finding) option keys state is each = each
-  by_so PassedOver option keys state is each = each
-  by_so Kept option keys state is each = last_so option state.options is each
-
-  one_so : (option : OptionValue) (state : KeyedValue) → P option → All P state.options → All P (keyed_one facts option state).options
-  one_so (Capable flag_a flag_c keys) state is each = by_so (judged_in facts.flow.opening facts.side state.keys keys) (Capable flag_a flag_c keys) keys state is each
-  one_so option state is each = last_so option state.options is each
-
-  kept_so : (values : List OptionValue) (state : KeyedValue) → All P values → All P state.options → All P (keyed_each facts (map Readable values) state).options
-  kept_so [] state all each = each
-  kept_so (value ∷ values) state all each =
-      kept_so values (keyed_one facts value state) (All-tail P value values all) (one_so value state (All-head P value values all) each)
 
 module _ (d : Drawn) (limit : Side → ℕ) (few : (s : Side) → limit s < 2 ^ 31) where
   -- the mappings of a segment end within its side's stream

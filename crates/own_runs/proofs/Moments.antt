@@ -1,5 +1,5 @@
 -- What each segment of a trace says, whatever its script does.
-use Rattle.std.proofs.Common.{◌≡◌, refl, sym, ap, ◌∙◌, subst, ℕ, suc, ◌+◌, ◌≤◌, ◌<◌, ◌^◌, true, Option, Some, None, option_map, List, [], ◌∷◌, length, length-append, arith}
+use Rattle.std.proofs.Common.{◌≡◌, refl, sym, ap, ◌∙◌, subst, ℕ, suc, ◌+◌, ◌≤◌, ◌<◌, ◌^◌, true, false, Option, Some, None, option_map, List, [], ◌∷◌, length, length-append, arith}
 use Rattle.std.specs.Option.{IfSome}
 use Rattle.std.specs.List.{slice_get}
 use Rattle.std.proofs.lemmas.Option.{slice_get_within}
@@ -52,8 +52,8 @@ use Rattle.world_laws.proofs.Lanes.OfAWorld.{PathThere, WorldShows, anyhow, anyh
 use Rattle.world_laws.proofs.Lanes.Saying.{every_one}
 use Rattle.world_laws.proofs.Lanes.Showing.{EndShows, OwnIs}
 use Rattle.world_laws.proofs.Numbers.EveryTurn.{always_tells}
-use Rattle.world_laws.proofs.Numbers.PathSteps.{PathTells}
-use Rattle.world_laws.proofs.Numbers.TellSmall.{PairTells, SegmentTells}
+use Rattle.world_laws.proofs.Numbers.PathSteps.{PathTells, tells_at}
+use Rattle.world_laws.proofs.Numbers.TellSmall.{AnswerTells, PairTells, SegmentTells}
 use Rattle.world_laws.proofs.Promises.Made.{run_fresh}
 use Rattle.world_laws.proofs.Worlds.CastLifting.{each_actor, path_actor, writes_the_files}
 use Rattle.world_laws.proofs.Worlds.Casts.{Walker, walking}
@@ -63,7 +63,10 @@ use Rattle.world_laws.specs.Openings.{Start, PathPlan, path_begins, opened_world
 use Rattle.world_laws.specs.Promises.{HasRoom, NumbersFit}
 use Rattle.world_laws.specs.Worlds.{WorldState, Turn, world_run, after_turn}
 use Rattle.world_laws.specs.declared.member.Member.TheVariants.{App, Path}
+use Rattle.subflow_tcp.specs.declared.segments.Outgoing.{Outgoing}
 use Rattle.own_runs.proofs.Nonces.{always_has}
+use Rattle.own_runs.proofs.Placing.{EndStands, IsPlaced, Placed, first_placed_sent}
+use Rattle.own_runs.proofs.Syns.{always_stand}
 use Rattle.own_runs.proofs.Speaking.{Says, Sends, ToSend, first_so}
 use Rattle.own_runs.proofs.Own.{ValueIs}
 use Rattle.own_runs.proofs.Values.{drawn, values_so}
@@ -88,11 +91,12 @@ pub record Spoken (start : Start) (path : ℕ) (c : Profile) (s : Side) (e : Pat
   pub values : Every (λ o. ValueIs (drawn start) path s (said_option c.spelling s o)) sg.options
   pub tells : SegmentTells c s sg
   pub syn : sg.syn ≡ true → sg.options ≡ syn_options c s e
+  pub placed : Placed sg
 
 says_so : (start : Start) (number : ℕ) (plan : PathPlan) → slice_get start.paths number ≡ Some plan → (w : Side → Type 0) (did : Deed → Side → Type 0)
     (c : Profile) (s : Side) (e : PathEnd) (sg : PlainSegment)
-    → Says (with_nonces start.key_a start.key_b true plan.nonce_a plan.nonce_b) w did c s e sg → Spoken start number c s e sg
-says_so start number plan there w did c s e sg says = record {
+    → Says (with_nonces start.key_a start.key_b true plan.nonce_a plan.nonce_b) w did c s e sg → Placed sg → Spoken start number c s e sg
+says_so start number plan there w did c s e sg says placed = record {
   values = values_so start number w did (is_joined c) s c.spelling sg.options
       (subst (λ (n : ℕ). SegmentIs (with_nonces start.key_a start.key_b true ((drawn start).nonce_a number) n) true w did c s sg)
       (sym (ap (λ (o : Option PathPlan). unwrap_or (option_map (λ plan. plan.nonce_b) o) 0) there))
@@ -100,7 +104,13 @@ says_so start number plan there w did c s e sg says = record {
       (sym (ap (λ (o : Option PathPlan). unwrap_or (option_map (λ plan. plan.nonce_a) o) 0) there)) says.is));
   tells = says.tells;
   syn = says.syn;
+  placed = placed;
 }
+
+-- what answers for a dead end is no SYN
+unsynced : (o : Option Outgoing) → IfSome o AnswerTells → IfSome o (λ o. o.syn ≡ false)
+unsynced None tells = tt
+unsynced (Some o) tells = tells.syn
 
 -- what it hands to its link next
 abbrev pub PathSpeaks : {C : Type 0} → Start → PathState C → Type 0
@@ -203,16 +213,21 @@ module _ (start : Start) (turns : List Turn) (size : HasRoom start) (fit : Numbe
         subst (λ (d : Profile). d.mss < 2 ^ 16) (sym there.shows.profile)
         (let most = fit.size.each n plan there.plan_there in omega (arith, most))
 
+    stand : (s : Side) → EndStands (end_at s p)
+    stand A = ((always_stand start turns (suc (suc n)) (walking x) here).0, unsynced p.a.treated.answer (tells_at p.profile p told A).treated.answer)
+    stand B = ((always_stand start turns (suc (suc n)) (walking x) here).1, unsynced p.b.treated.answer (tells_at p.profile p told B).treated.answer)
+
     speaks : PathSpeaks start p
-    speaks = (n, plan, there.plan_there, there.numbered, there.shows.profile, by (first_sends p.agenda p) said)
+    speaks = (n, plan, there.plan_there, there.numbered, there.shows.profile, by (first_sends p.agenda p) said (first_placed_sent p stand p.agenda))
       where
         said : IfSome (first_sends p.agenda p) (Sends (with_nonces start.key_a start.key_b true plan.nonce_a plan.nonce_b) (Joined (books_in v.books)) (Past (books_in v.books) NoMore) p is told few wide pair)
         said = first_so (with_nonces start.key_a start.key_b true plan.nonce_a plan.nonce_b) (Joined (books_in v.books)) (Past (books_in v.books) NoMore) p is told few wide pair knows.settled
 
         by : (o : Option ToSend) → IfSome o (Sends (with_nonces start.key_a start.key_b true plan.nonce_a plan.nonce_b) (Joined (books_in v.books)) (Past (books_in v.books) NoMore) p is told few wide pair)
-            → IfSome o (λ t. Spoken start n p.profile t.from (end_at t.from p) (segment_sent p t))
-        by None s = tt
-        by (Some t) s = says_so start n plan there.plan_there (Joined (books_in v.books)) (Past (books_in v.books) NoMore) p.profile t.from (end_at t.from p) (segment_sent p t) s
+            → IfSome o (IsPlaced p stand) → IfSome o (λ t. Spoken start n p.profile t.from (end_at t.from p) (segment_sent p t))
+        by None s placed = tt
+        by (Some t) s placed =
+            says_so start n plan there.plan_there (Joined (books_in v.books)) (Past (books_in v.books) NoMore) p.profile t.from (end_at t.from p) (segment_sent p t) s placed
 
   valued : WorldSpeaks start v
   valued =

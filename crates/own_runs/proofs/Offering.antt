@@ -43,10 +43,10 @@ use Rattle.subflow_tcp.specs.State.{has_records}
 use Rattle.world_laws.proofs.Lanes.Records.{every_at, every_find}
 use Rattle.own_runs.proofs.Speaking.{ToSend}
 
-every_one : {X : Type 0} {P : X → Type 0} (x : X) → P x → Every P (x ∷ [])
+pub every_one : {X : Type 0} {P : X → Type 0} (x : X) → P x → Every P (x ∷ [])
 every_one {X} {P} x h = Every-push {xs = []} x (Every-nil P) h
 
-every_two : {X : Type 0} {P : X → Type 0} (x y : X) → P x → P y → Every P (x ∷ y ∷ [])
+pub every_two : {X : Type 0} {P : X → Type 0} (x y : X) → P x → P y → Every P (x ∷ y ∷ [])
 every_two {X} {P} x y h g = Every-push {xs = x ∷ []} y (every_one x h) g
 
 module _ (limit : Side → ℕ) where

@@ -1,5 +1,5 @@
 -- What a reader of captures finds of a segment of a connection of ours, by what was drawn for the connection.
-use Rattle.std.proofs.Common.{◌≡◌, refl, sym, ap, ◌∙◌, ℕ, Bool, true, false, Option, List, map, arith}
+use Rattle.std.proofs.Common.{◌≡◌, refl, sym, ap, ◌∙◌, ℕ, ◌+◌, ◌%◌, ◌^◌, ◌⊎◌, Bool, true, false, Option, List, map, arith}
 use Rattle.std.specs.Prelude.{All, IfSome, Some, None, unwrap_or, slice_get}
 use Rattle.sides.specs.declared.side.Side.{Side}
 use Rattle.sides.specs.declared.side.Side.TheVariants.{A, B}
@@ -18,6 +18,8 @@ use Rattle.segment_wire.specs.Options.{option_octets}
 use Rattle.segment_wire.specs.Paths.{address_of, port_of}
 use Rattle.capture_reader.specs.declared.seen.End.{End}
 use Rattle.capture_reader.specs.Seen.{Seen}
+use Rattle.judge_rules.specs.Mappings.{mapped_octets, offer_of}
+use Rattle.judge_rules.specs.declared.mappings.Offer.{Offer}
 use Rattle.seen_connections.specs.declared.asked.Answer.{Answer as Answered}
 use Rattle.seen_connections.specs.declared.asked.Answer.TheVariants as answer
 use Rattle.seen_connections.specs.declared.flow.Opening.{Opening}
@@ -29,12 +31,14 @@ use Rattle.seen_connections.specs.SeenOptions.{Readable, seen_options}
 
 -- ---- what is drawn
 
--- both keys, the nonces of both ends of each path, and whether checksums are used
+-- both keys, the nonces and the initial numbers of both ends of each path, and whether checksums are used
 pub record Drawn : Type 0 where
   pub key_a : ℕ
   pub key_b : ℕ
   pub nonce_a : ℕ → ℕ
   pub nonce_b : ℕ → ℕ
+  pub initial_a : ℕ → ℕ
+  pub initial_b : ℕ → ℕ
   pub checksums : Bool
 
 module _ (d : Drawn) where
@@ -45,6 +49,14 @@ module _ (d : Drawn) where
   abbrev pub own_nonce : ℕ → Side → ℕ
   own_nonce path A = d.nonce_a path
   own_nonce path B = d.nonce_b path
+
+  abbrev pub own_initial : ℕ → Side → ℕ
+  own_initial path A = d.initial_a path
+  own_initial path B = d.initial_b path
+
+  -- the number of position 0
+  abbrev pub first_seq : ℕ → Side → ℕ
+  first_seq path s = (own_initial path s + 0) % 2 ^ 32
 
   -- ---- in options, of a segment of this side on a path
 
@@ -82,13 +94,20 @@ module _ (d : Drawn) where
       (join.nonce ≡ d.nonce_a path) × (join.answer ≡ d.nonce_b path) × (join.hmac ≡ join_b64_of d.key_a d.key_b (d.nonce_a path) (d.nonce_b path))
   AnswerIs path _ _ = ⊥
 
+-- A mapping of octets, in a segment with this number and so many octets: it stands at the segment's position, and has its length.
+abbrev pub OfferIn : ℕ → ℕ → ℕ → Offer → Type 0
+OfferIn initial seq len offer = (mapped_octets offer ≡ 0) ⊎ ((seq ≡ (initial + offer.relative) % 2 ^ 32) × (mapped_octets offer ≡ len))
+
+abbrev pub MapsIn : ℕ → ℕ → ℕ → OptionValue → Type 0
+MapsIn initial seq len option = (first : ℕ) → IfSome (offer_of first option) (OfferIn initial seq len)
+
 -- ---- the ends of a path
 
 abbrev pub end_of : ℕ → Side → End
 end_of path side = record { address = V4 (address_of path side); port = port_of path side }
 
--- A segment of a side on a path, with a good sum. Each of its options of Multipath TCP reads as one that the side may send; a SYN asks for what
--- A asks for, and answers what B answers.
+-- A segment of a side on a path, with a good sum. Each of its options of Multipath TCP reads as one that the side may send, and maps octets of
+-- the segment; a SYN asks for what A asks for, and answers what B answers, and has the number of position 0, without octets.
 pub record IsOwn (d : Drawn) (seen : Seen) : Type 0 where
   pub path : ℕ
   pub from : Side
@@ -101,6 +120,8 @@ pub record IsOwn (d : Drawn) (seen : Seen) : Type 0 where
   pub asks : seen.segment.head.syn ≡ true → IfSome (first_asked (option_octets seen.segment.options)) (λ o. (from ≡ A) × OpeningIs d path o)
   pub answers : seen.segment.head.syn ≡ true → from ≡ B → (o : Opening) → OpeningIs d path o
       → IfSome (first_answer o (option_octets seen.segment.options)) (AnswerIs d path o)
+  pub starts : seen.segment.head.syn ≡ true → (seen.segment.head.seq ≡ first_seq d path from) × (seen.payload_len ≡ 0)
+  pub maps : All (MapsIn (own_initial d path from) seen.segment.head.seq seen.payload_len) values
 
 -- ---- an end is that of one path and side
 

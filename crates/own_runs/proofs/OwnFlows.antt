@@ -1,10 +1,10 @@
 -- The flows and connections that are seen in a capture of a connection of ours.
-use Rattle.std.proofs.Common.{◌≡◌, refl, sym, ap, ◌∙◌, subst, ℕ, zero, suc, ◌+◌, ◌⊎◌, inl, inr, ◌||◌, Bool, true, false, not, is_none, if◌then◌else◌, Option, Some, None, List, [], ◌∷◌, ◌++◌, length, arith}
+use Rattle.std.proofs.Common.{◌≡◌, refl, sym, ap, ◌∙◌, subst, ℕ, zero, suc, ◌+◌, ◌%◌, ◌^◌, nat_le, ◌⊎◌, inl, inr, ◌||◌, Bool, true, false, not, is_none, if◌then◌else◌, Option, Some, None, List, [], ◌∷◌, ◌++◌, length, arith}
 use Rattle.std.specs.Prelude.{IfSome, find}
 use Rattle.std.specs.List.{slice_get}
 use Rattle.std.specs.Option.{option_or}
 use Rattle.std.proofs.Math.ListN.{set}
-use Rattle.std.proofs.lemmas.Bool.{and_parts, eq-eqb}
+use Rattle.std.proofs.lemmas.Bool.{and_parts, eq-eqb, leb-true}
 use Rattle.sides.specs.declared.side.Side.{Side}
 use Rattle.sides.specs.declared.side.Side.TheVariants.{A, B}
 use Rattle.sides.specs.Side.{peer}
@@ -28,13 +28,13 @@ use Rattle.seen_connections.specs.declared.flow_list.Found.{Found}
 use Rattle.seen_connections.specs.declared.known_keys.KnownKey.{KnownKey}
 use Rattle.seen_connections.specs.Asked.{first_answer, first_asked}
 use Rattle.seen_connections.specs.Connections.{IsThere, SeenFlows, answer_of, answered, begins, begun_with, connections_after, ended, flow_after, followed, gone_on, instead_of, known_after, learnt_by, makes_hmac, opened_by, taken, tied, wrong_token, wrong_token_by, wrong_token_if}
-use Rattle.seen_connections.specs.Flows.{begun, counted, flow_between, goes, going_on, is_acknowledged_by, is_between, last_that, unless_over}
+use Rattle.seen_connections.specs.Flows.{begun, behind, counted, flow_between, goes, going_on, is_acknowledged_by, is_between, last_that, unless_over}
 use Rattle.seen_connections.specs.Keys.{belongs_by, has_token, joined}
 use Rattle.seen_connections.specs.SameEnds.{ends_in, same_end, turned}
 use Rattle.rule_book.specs.Judged.{with_key}
 use Rattle.judge_laws.proofs.Books.{set_there}
 use Rattle.judge_laws.proofs.Standing.{set_item, some_same}
-use Rattle.own_runs.proofs.Own.{AnswerIs, Drawn, IsOwn, OpeningIs, end_of, told_same}
+use Rattle.own_runs.proofs.Own.{AnswerIs, Drawn, IsOwn, OpeningIs, end_of, first_seq, told_same}
 
 -- ---- lists
 
@@ -67,6 +67,10 @@ module _ (d : Drawn) where
   NonceIs path (opening.Capable checksums) opened = Unit {0}
   NonceIs path (opening.Join token nonce) opened = opened.nonce ≡ d.nonce_b path
 
+  -- the numbers of position 0 of both ends
+  abbrev pub BasesAre : ℕ → Opened → Type 0
+  BasesAre path opened = (opened.opener_base ≡ first_seq d path A) × (opened.other_base ≡ first_seq d path B)
+
   -- a flow of a path, which A opened
   pub record FlowOn (path : ℕ) (flow : Flow) : Type 0 where
     pub opener : flow.opener ≡ end_of path A
@@ -74,6 +78,9 @@ module _ (d : Drawn) where
     pub opening : OpeningIs d path flow.opening
     pub belongs : IfSome flow.belongs (λ b. b.opener ≡ A)
     pub nonce : IfSome flow.opened (NonceIs path flow.opening)
+    pub number : flow.number ≡ first_seq d path A
+    pub octets : flow.syn_octets ≡ 0
+    pub bases : IfSome flow.opened (BasesAre path)
 
   abbrev pub FlowIs : Flow → Type 0
   FlowIs flow = (path : ℕ) × FlowOn path flow
@@ -158,23 +165,37 @@ module _ (d : Drawn) where
     ended_so None there = h.flows
     ended_so (Some found) there =
         let was = h.flows found.index found.flow there in
-        each_set FlowIs state.flows found.index (record found.flow { is_over = true }) h.flows
-        (was.0, record { opener = was.1.opener; other = was.1.other; opening = was.1.opening; belongs = was.1.belongs; nonce = was.1.nonce })
+        each_set FlowIs state.flows found.index (record found.flow { is_over = true }) h.flows (
+          was.0,
+          record {
+            opener = was.1.opener;
+            other = was.1.other;
+            opening = was.1.opening;
+            belongs = was.1.belongs;
+            nonce = was.1.nonce;
+            number = was.1.number;
+            octets = was.1.octets;
+            bases = was.1.bases;
+          },
+        )
 
-    begun_on : (o : Opening) → (own.from ≡ A) × OpeningIs d own.path o → FlowOn own.path (begun packet seen o (belongs_by o state.known))
-    begun_on o asks = record {
+    begun_on : (o : Opening) → seen.segment.head.syn ≡ true → (own.from ≡ A) × OpeningIs d own.path o → FlowOn own.path (begun packet seen o (belongs_by o state.known))
+    begun_on o syn asks = record {
       opener = own.source ∙ ap (end_of own.path) asks.0;
       other = own.destination ∙ ap (λ (s : Side). end_of own.path (peer s)) asks.0;
       opening = asks.1;
       belongs = belongs_so own.path o state.known state.connections asks.1 h.known;
       nonce = tt;
+      number = (own.starts syn).0 ∙ ap (first_seq d own.path) asks.0;
+      octets = (own.starts syn).1;
+      bases = tt;
     }
 
-    begun_so : (found : Option Found) (asked : Option Opening) → IsThere state.flows found → IfSome asked (λ o. (own.from ≡ A) × OpeningIs d own.path o)
+    begun_so : (found : Option Found) (asked : Option Opening) → IsThere state.flows found → seen.segment.head.syn ≡ true → IfSome asked (λ o. (own.from ≡ A) × OpeningIs d own.path o)
         → FlowsOwn (begun_with state packet seen found asked).now
-    begun_so found None there asks = record { flows = ended_so found there; connections = h.connections; known = h.known }
-    begun_so found (Some o) there asks = record {
-      flows = each_end FlowIs state.flows (begun packet seen o (belongs_by o state.known)) h.flows (own.path, begun_on o asks);
+    begun_so found None there syn asks = record { flows = ended_so found there; connections = h.connections; known = h.known }
+    begun_so found (Some o) there syn asks = record {
+      flows = each_end FlowIs state.flows (begun packet seen o (belongs_by o state.known)) h.flows (own.path, begun_on o syn asks);
       connections = h.connections;
       known = h.known;
     }
@@ -242,6 +263,30 @@ module _ (d : Drawn) where
               subst (λ (k : ℕ). OpeningIs d k flow.opening → IfSome (first_answer flow.opening (option_octets seen.segment.options)) (AnswerIs d k flow.opening))
               there.0 (own.answers is there.1 flow.opening) f.opening
 
+      -- and then it tells the numbers of both positions 0
+      acked_base : (ack number : ℕ) → (octets : ℕ) → octets ≡ 0 → number ≡ first_seq d path A → nat_le (behind ack ((number + 1) % 2 ^ 32)) octets ≡ true
+          → behind ack 1 ≡ first_seq d path A
+      acked_base ack number octets none is within = let below = leb-true (behind ack ((number + 1) % 2 ^ 32)) octets within in omega (arith, none, is, below)
+
+      bases : IfSome (answer_of seen flow) (λ x. (nonce : ℕ) → BasesAre path (opened_by seen nonce))
+      bases =
+          by seen.segment.head.syn (not seen.segment.head.ack_set || not (is_none flow.opened)) (same_end seen.source flow.other)
+          (is_acknowledged_by seen.segment.head.ack flow) (first_answer flow.opening (option_octets seen.segment.options)) refl refl refl
+        where
+          by : (syn early same right : Bool) (answers : Option Answer) → seen.segment.head.syn ≡ syn → same_end seen.source flow.other ≡ same
+              → is_acknowledged_by seen.segment.head.ack flow ≡ right
+              → IfSome (if not syn || early then None else (if not same || not right then None else answers)) (λ x. (nonce : ℕ) → BasesAre path (opened_by seen nonce))
+          by false early same right answers is at acked = tt
+          by true true same right answers is at acked = tt
+          by true false false right answers is at acked = tt
+          by true false true false answers is at acked = tt
+          by true false true true None is at acked = tt
+          by true false true true (Some x) is at acked = λ nonce.
+              let there = told_same seen.source flow.other own.path path own.from B own.source f.other at in (
+                acked_base seen.segment.head.ack flow.number flow.syn_octets f.octets f.number acked,
+                (own.starts is).0 ∙ ap (λ (k : ℕ). first_seq d k own.from) there.0 ∙ ap (first_seq d path) there.1,
+              )
+
       key_nonce : (o : Opening) (key : ℕ) (checksums : Bool) → AnswerIs d path o (answer.Key key checksums) → NonceIs path o (opened_by seen 0)
       key_nonce (opening.Capable asked) key checksums is = tt
       key_nonce (opening.Join token nonce) key checksums is = absurd is
@@ -255,11 +300,28 @@ module _ (d : Drawn) where
       join_belongs (opening.Capable asked) number join is = absurd is
       join_belongs (opening.Join token nonce) number join is = token_so 0 path state.connections number join h.connections is
 
-      flow_so : (a : Option Answer) → IfSome a (AnswerIs d path flow.opening) → FlowOn path (flow_after seen (answered state seen flow a) flow)
-      flow_so None is = record { opener = f.opener; other = f.other; opening = f.opening; belongs = f.belongs; nonce = f.nonce }
-      flow_so (Some (answer.Key key checksums)) is =
-          record { opener = f.opener; other = f.other; opening = f.opening; belongs = refl; nonce = key_nonce flow.opening key checksums is }
-      flow_so (Some (answer.Join join)) is =
+      flow_so : (a : Option Answer) → IfSome a (AnswerIs d path flow.opening) → IfSome a (λ x. (nonce : ℕ) → BasesAre path (opened_by seen nonce)) → FlowOn path (flow_after seen (answered state seen flow a) flow)
+      flow_so None is at = record {
+        opener = f.opener;
+        other = f.other;
+        opening = f.opening;
+        belongs = f.belongs;
+        nonce = f.nonce;
+        number = f.number;
+        octets = f.octets;
+        bases = f.bases;
+      }
+      flow_so (Some (answer.Key key checksums)) is at = record {
+        opener = f.opener;
+        other = f.other;
+        opening = f.opening;
+        belongs = refl;
+        nonce = key_nonce flow.opening key checksums is;
+        number = f.number;
+        octets = f.octets;
+        bases = at 0;
+      }
+      flow_so (Some (answer.Join join)) is at =
           let wrong = wrong_token 0 state.connections flow.first join in
           record {
             opener = f.opener;
@@ -268,6 +330,9 @@ module _ (d : Drawn) where
             belongs = tied_so (opened_by seen join.answer) flow.belongs wrong f.belongs (join_belongs flow.opening flow.first join is);
             nonce = subst (λ (o : Option Opened). IfSome o (NonceIs path flow.opening)) (sym (tied_opened (opened_by seen join.answer) flow.belongs wrong))
                 (join_nonce flow.opening join is);
+            number = f.number;
+            octets = f.octets;
+            bases = subst (λ (o : Option Opened). IfSome o (BasesAre path)) (sym (tied_opened (opened_by seen join.answer) flow.belongs wrong)) (at join.answer);
           }
 
       key_is : (o : Opening) (key : ℕ) (checksums : Bool) → AnswerIs d path o (answer.Key key checksums) → (key ≡ d.key_b) × (checksums ≡ d.checksums)
@@ -299,14 +364,23 @@ module _ (d : Drawn) where
         let a = answer_of seen flow in
         let is = told path flow f in
         record {
-          flows = each_set FlowIs state.flows index (flow_after seen (answered state seen flow a) flow) h.flows (path, flow_so path flow f a is);
+          flows = each_set FlowIs state.flows index (flow_after seen (answered state seen flow a) flow) h.flows (path, flow_so path flow f a is (bases path flow f));
           connections = connections_so path flow f index a is;
           known = known_so path flow f index a is;
         }
 
     -- with one packet more
     counted_on : (path : ℕ) (flow : Flow) → FlowOn path flow → FlowOn path (counted seen.is_cut true flow)
-    counted_on path flow f = record { opener = f.opener; other = f.other; opening = f.opening; belongs = f.belongs; nonce = f.nonce }
+    counted_on path flow f = record {
+      opener = f.opener;
+      other = f.other;
+      opening = f.opening;
+      belongs = f.belongs;
+      nonce = f.nonce;
+      number = f.number;
+      octets = f.octets;
+      bases = f.bases;
+    }
 
     gone_so : (found : Option Found) → IsThere state.flows found → FlowsOwn (gone_on state packet seen true found).now
     gone_so None there = record { flows = h.flows; connections = h.connections; known = h.known }
@@ -337,19 +411,19 @@ module _ (d : Drawn) where
         asked = first_asked (option_octets seen.segment.options)
 
         by : (b : Bool) → begins seen found ≡ b → FlowsOwn (if b then begun_with state packet seen found asked else gone_on state packet seen true found).now
-        by true is = begun_so found asked there (own.asks (and_parts seen.segment.head.syn _ (and_parts _ _ is).0).0)
+        by true is = let syn = (and_parts seen.segment.head.syn _ (and_parts _ _ is).0).0 in begun_so found asked there syn (own.asks syn)
         by false is = gone_so found there
 
     -- the segment's flow is one of its path
     abbrev pub IsOnPath : List Flow → Option Place → Type 0
     IsOnPath flows place = IfSome place (λ p. (flow : Flow) → slice_get flows p.flow ≡ Some flow → FlowOn own.path flow)
 
-    begun_place : (found : Option Found) (asked : Option Opening) → IfSome asked (λ o. (own.from ≡ A) × OpeningIs d own.path o)
+    begun_place : (found : Option Found) (asked : Option Opening) → seen.segment.head.syn ≡ true → IfSome asked (λ o. (own.from ≡ A) × OpeningIs d own.path o)
         → IsOnPath (begun_with state packet seen found asked).now.flows (begun_with state packet seen found asked).place
-    begun_place found None asks = tt
-    begun_place found (Some o) asks = λ flow at.
+    begun_place found None syn asks = tt
+    begun_place found (Some o) syn asks = λ flow at.
         let new = begun packet seen o (belongs_by o state.known) in
-        subst (FlowOn own.path) (some_same new flow (sym (at_end state.flows new) ∙ at)) (begun_on o asks)
+        subst (FlowOn own.path) (some_same new flow (sym (at_end state.flows new) ∙ at)) (begun_on o syn asks)
 
     gone_place : (found : Option Found) → IsThere state.flows found → IfSome found (λ f. is_between (ends_in seen) f.flow ≡ true)
         → IsOnPath (gone_on state packet seen true found).now.flows (gone_on state packet seen true found).place
@@ -361,7 +435,7 @@ module _ (d : Drawn) where
         let a = answer_of seen it in
         let new = flow_after seen (answered state seen it a) it in
         subst (FlowOn own.path) (some_same new flow (sym (set_there state.flows found.index new found.flow there) ∙ at))
-        (subst (λ (path : ℕ). FlowOn path new) (path_so was.0 found.flow was.1 between) (flow_so was.0 it on a (told was.0 it on)))
+        (subst (λ (path : ℕ). FlowOn path new) (path_so was.0 found.flow was.1 between) (flow_so was.0 it on a (told was.0 it on) (bases was.0 it on)))
 
     pub place_so : IsOnPath (taken state packet seen true).now.flows (taken state packet seen true).place
     place_so = by (begins seen found) refl
@@ -374,7 +448,7 @@ module _ (d : Drawn) where
 
         by : (b : Bool) → begins seen found ≡ b → IsOnPath (if b then begun_with state packet seen found asked else gone_on state packet seen true found).now.flows
             (if b then begun_with state packet seen found asked else gone_on state packet seen true found).place
-        by true is = begun_place found asked (own.asks (and_parts seen.segment.head.syn _ (and_parts _ _ is).0).0)
+        by true is = let syn = (and_parts seen.segment.head.syn _ (and_parts _ _ is).0).0 in begun_place found asked syn (own.asks syn)
         by false is =
             gone_place found (there_on state.flows (last_that (is_between (ends_in seen)) 0 state.flows)) (found_between (ends_in seen) state.flows)
 

@@ -1,17 +1,21 @@
--- The rules on positions and places tell none of the rules on options.
-use Rattle.std.proofs.Common.{◌≡◌, refl, ℕ, zero, suc, ◌+◌, ◌-◌, ℤ, pos, ◌==◌, Bool, true, false, if◌then◌else◌, Option, Some, None, Result, Ok, Err, List, [], ◌∷◌}
-use Rattle.std.specs.Prelude.{IfSome, int_lt}
+-- The rules on positions and places tell none of the rules on options, nor that on payload outside of its mappings.
+use Rattle.std.proofs.Common.{◌≡◌, refl, sym, ap, ◌∙◌, subst, ℕ, zero, suc, ◌+◌, ◌-◌, ◌%◌, ◌^◌, nat_le, ℤ, pos, ◌==◌, ◌&&◌, ◌||◌, ◌⊎◌, inl, inr, arith, Bool, true, false, if◌then◌else◌, Option, Some, None, Result, Ok, Err, List, [], ◌∷◌}
+use Rattle.std.specs.Prelude.{All, IfSome, int_lt, ◌+ℤ◌}
+use Rattle.std.specs.Int.{cast_signed, w32}
+use Rattle.std.proofs.lemmas.Bool.{eq-eqb, le-leb}
+use Rattle.std.proofs.lemmas.Int.{ints}
+use Rattle.std.proofs.lemmas.List.Elements.{All-append, All-cons, All-head, All-nil, All-tail}
 use Rattle.std.specs.Option.{option_or}
 use Rattle.sides.specs.Side.{peer}
 use Rattle.mptcp_options.specs.Value.{OptionValue, Dss, Fail}
 use Rattle.judge_rules.specs.declared.finding.Finding.{Finding}
-use Rattle.judge_rules.specs.declared.finding.Finding.TheVariants.{NoMapping, NoPlace, NoPosition}
+use Rattle.judge_rules.specs.declared.finding.Finding.TheVariants.{NoMapping, NoPlace, NoPosition, Outside}
 use Rattle.judge_rules.specs.declared.finding.Rule.{Rule}
 use Rattle.judge_rules.specs.declared.finding.Rule.TheVariants as rule
 use Rattle.judge_rules.specs.declared.mappings.Offer.{Offer}
 use Rattle.judge_rules.specs.Acks.{ack_place}
 use Rattle.judge_rules.specs.Clashes.{first_clash}
-use Rattle.judge_rules.specs.Mappings.{fin_fault, mapped_octets, mapped_place, natural, offer_of, position_near}
+use Rattle.judge_rules.specs.Mappings.{fin_fault, mapped_octets, mapped_place, natural, offer_of, position_near, within_fault}
 use Rattle.judge_rules.specs.Numbers.{place_near, told_number}
 use Rattle.seen_connections.specs.declared.connections.Keys.{Keys}
 use Rattle.seen_octets.specs.declared.octet.Octet.{Octet}
@@ -24,16 +28,113 @@ use Rattle.seen_streams.specs.Acks.{Acked, ack_counted, ack_facts, acked_by, end
 use Rattle.seen_streams.specs.Content.{as_part, at_place, comes, content_fault, shown_from, with_payload}
 use Rattle.seen_streams.specs.Mapped.{Mapped, against_infinite, by_rule, finite, finite_at, finite_by, finite_fault, infinite_at, infinite_by, line_fault, mapped_at, octets_fault, one_more, placed_fault, told_mapping}
 use Rattle.seen_streams.specs.Sums.{is_whole, sum_fault, tried_if_whole, tried_sums, with_sums}
-use Rattle.rule_book.specs.Facts.{Facts, first_of, payload_at}
+use Rattle.rule_book.specs.Facts.{Facts, first_of, payload_at, payload_len}
 use Rattle.rule_book.specs.Stream.{acked_each, acked_one, behind_acks, behind_payload, failed_each, failed_one, fin_taken, judged_at, mapped_each, mapped_one, mapped_with, summed, told_in, within_each, within_found, within_one}
 
--- the rules on options whose values are drawn
+-- the rules on options whose values are drawn, and that on payload and mappings of one segment
 abbrev pub is_option : Rule → Bool
 is_option rule.Form = true
 is_option rule.Keys = true
 is_option rule.JoinHmac = true
 is_option rule.AddressHmac = true
+is_option rule.Within = true
 is_option _ = false
+
+-- ---- payload within its mappings
+
+-- a mapping of octets stands at the segment's position, with the length of its payload
+abbrev pub OfferFits : Facts → ℕ → Offer → Type 0
+OfferFits facts position offer = (mapped_octets offer ≡ 0) ⊎ ((offer.relative % 2 ^ 32 ≡ position % 2 ^ 32) × (mapped_octets offer ≡ facts.seen.payload_len))
+
+abbrev pub OptionFits : Facts → ℕ → OptionValue → Type 0
+OptionFits facts position option = (first : ℕ) → IfSome (offer_of first option) (OfferFits facts position)
+
+abbrev IsWithin : Facts → ℕ → ToldMapping → Type 0
+IsWithin facts position mapping = within_found facts position mapping ≡ None
+
+same_position : (position relative : ℕ) → relative % 2 ^ 32 ≡ position % 2 ^ 32 → position_near position relative ≡ pos position
+same_position position relative same =
+    ap (λ (n : ℕ). pos position +ℤ cast_signed w32 n) (let none : (relative + (2 ^ 32 - position % 2 ^ 32)) % 2 ^ 32 ≡ 0 = omega (arith, same) in none) ∙ omega (arith, ints)
+
+same_span : (position len : ℕ) → within_fault position len position len ≡ None
+same_span position len =
+    ap (λ (b : Bool). if b && nat_le (position + len) (position + len) then None else Some (Outside position (position + len - 1) position (position + len - 1)))
+    (le-leb position position (omega arith))
+    ∙ ap (λ (b : Bool). if b then None else Some (Outside position (position + len - 1) position (position + len - 1))) (le-leb (position + len) (position + len) (omega arith))
+
+either_none : (b : Bool) (o : Option Finding) → o ≡ None → (if b then None else o) ≡ None
+either_none true o none = refl
+either_none false o none = none
+
+no_octets : (b : Bool) (n : ℕ) (o : Option Finding) → n ≡ 0 → (if b || n == 0 then None else o) ≡ None
+no_octets true n o none = refl
+no_octets false n o none = ap (λ (b : Bool). if b then None else o) (eq-eqb n 0 none)
+
+offer_within : (facts : Facts) (position : ℕ) (offer : Offer) (place : ℕ) → OfferFits facts position offer
+    → IsWithin facts position (told_mapping offer (position_near position offer.relative) place)
+offer_within facts position offer place (inl none) = no_octets (payload_len facts == 0) (mapped_octets offer) _ none
+offer_within facts position offer place (inr is) = by facts.seen.segment.head.rst
+  where
+    len : ℕ
+    len = facts.seen.payload_len
+
+    found : ℕ → ℤ → ℕ → Option Finding
+    found n at octets = if n == 0 || octets == 0 then None else within_fault position n (natural at) octets
+
+    by : (rst : Bool) → found (if rst then 0 else len) (position_near position offer.relative) (mapped_octets offer) ≡ None
+    by true = refl
+    by false =
+        ap (λ (at : ℤ). found len at (mapped_octets offer)) (same_position position offer.relative is.0)
+        ∙ ap (λ (n : ℕ). found len (pos position) n) is.1 ∙ either_none (len == 0 || len == 0) (within_fault position len position len) (same_span position len)
+
+-- ---- of those that are learnt
+
+module _ (facts : Facts) (position : ℕ) where
+  abbrev Learnt : Mapped → Type 0
+  Learnt state = All (IsWithin facts position) state.learnt
+
+  finite_by_learnt : (fault : Option Broke) (packet : ℕ) (mapping : ToldMapping) (state : Mapped) → IsWithin facts position mapping → Learnt state
+      → Learnt (finite_by fault packet mapping state)
+  finite_by_learnt (Some broke) packet mapping state is h = h
+  finite_by_learnt None packet mapping state is h =
+      All-append (IsWithin facts position) state.learnt (mapping ∷ []) h (All-cons (IsWithin facts position) mapping [] is (All-nil (IsWithin facts position)))
+
+  finite_at_learnt : (place : Option ℕ) (teller : Teller) (offer : Offer) (state : Mapped) → OfferFits facts position offer → Learnt state
+      → Learnt (finite_at place teller offer (position_near position offer.relative) state)
+  finite_at_learnt None teller offer state fit h = h
+  finite_at_learnt (Some place) teller offer state fit h =
+      finite_by_learnt (finite_fault teller state.stream state.lane offer (position_near position offer.relative) place) teller.packet
+      (told_mapping offer (position_near position offer.relative) place) state (offer_within facts position offer place fit) h
+
+  infinite_by_learnt : (fault : Option Finding) (teller : Teller) (at : ℤ) (place : ℕ) (state : Mapped) → Learnt state → Learnt (infinite_by fault teller at place state)
+  infinite_by_learnt (Some finding) teller at place state h = h
+  infinite_by_learnt None teller at place state h = h
+
+  infinite_at_learnt : (place : Option ℕ) (teller : Teller) (offer : Offer) (at : ℤ) (state : Mapped) → Learnt state → Learnt (infinite_at place teller offer at state)
+  infinite_at_learnt None teller offer at state h = h
+  infinite_at_learnt (Some place) teller offer at state h = infinite_by_learnt (line_fault state.stream.infinite teller.flow state.lane.line at place) teller at place state h
+
+  mapped_one_learnt : (teller : Teller) (offer : Option Offer) (state : Mapped) → IfSome offer (OfferFits facts position) → Learnt state
+      → Learnt (mapped_one teller position offer state)
+  mapped_one_learnt teller None state fit h = h
+  mapped_one_learnt teller (Some offer) state fit h = by (offer.length == 0)
+    where
+      by : (b : Bool) → Learnt (if b then infinite_at (place_near teller.first state.stream.top offer.number) teller offer (position_near position offer.relative) state
+          else finite teller offer (position_near position offer.relative) state)
+      by true = infinite_at_learnt (place_near teller.first state.stream.top offer.number) teller offer (position_near position offer.relative) state h
+      by false = finite_at_learnt (mapped_place teller.first state.stream.top offer) teller offer (one_more state) fit h
+
+  mapped_each_learnt : (teller : Teller) (options : List OptionValue) (state : Mapped) → All (OptionFits facts position) options → Learnt state
+      → Learnt (mapped_each teller position options state)
+  mapped_each_learnt teller [] state fit h = h
+  mapped_each_learnt teller (option ∷ options) state fit h =
+      mapped_each_learnt teller options (mapped_one teller position (offer_of teller.first option) state) (All-tail (OptionFits facts position) option options fit)
+      (mapped_one_learnt teller (offer_of teller.first option) state (All-head (OptionFits facts position) option options fit teller.first) h)
+
+  mapped_learnt : (known : Option ℕ) (options : List OptionValue) (state : Mapped) → All (OptionFits facts position) options → Learnt state
+      → Learnt (mapped_with facts known position options state)
+  mapped_learnt None options state fit h = h
+  mapped_learnt (Some known) options state fit h = mapped_each_learnt (told_in facts known) options state fit h
 
 -- of a list of what was broken: all other rules that are told keep it
 abbrev pub OthersKeep : (List BrokenValue → Type 0) → Type 0
@@ -130,11 +231,12 @@ module _ {H : List BrokenValue → Type 0} (keep : OthersKeep H) where
 
   -- ---- payload
 
-  within_so : (facts : Facts) (position : ℕ) (mappings : List ToldMapping) (s : StreamValue) → H s.broken → H (within_each facts position mappings s).broken
-  within_so facts position [] s h = h
-  within_so facts position (mapping ∷ mappings) s h =
-      within_so facts position mappings (within_one facts position mapping s)
-      (found_so rule.Within facts.packet (within_found facts position mapping) s.broken refl h)
+  within_so : (facts : Facts) (position : ℕ) (mappings : List ToldMapping) (s : StreamValue) → All (IsWithin facts position) mappings → H s.broken
+      → H (within_each facts position mappings s).broken
+  within_so facts position [] s each h = h
+  within_so facts position (mapping ∷ mappings) s each h =
+      within_so facts position mappings (within_one facts position mapping s) (All-tail (IsWithin facts position) mapping mappings each)
+      (subst (λ (o : Option Finding). H (with_found rule.Within facts.packet o s.broken)) (sym (All-head (IsWithin facts position) mapping mappings each)) h)
 
   at_place_so : (acknowledged packet : ℕ) (comes : Option (Option ℕ)) (place : Option ℕ) (s : StreamValue) → H s.broken
       → H (at_place acknowledged packet comes place s).broken
@@ -205,20 +307,22 @@ module _ {H : List BrokenValue → Type 0} (keep : OthersKeep H) where
 
   -- ---- all of a segment
 
-  payload_so : (facts : Facts) (position acknowledged : ℕ) (mapped : Mapped) → H mapped.stream.broken → H (behind_payload facts position acknowledged mapped).stream.broken
-  payload_so facts position acknowledged mapped h =
+  payload_so : (facts : Facts) (position acknowledged : ℕ) (mapped : Mapped) → All (IsWithin facts position) mapped.learnt → H mapped.stream.broken
+      → H (behind_payload facts position acknowledged mapped).stream.broken
+  payload_so facts position acknowledged mapped each h =
       let payload = payload_at facts position in
       let lane = with_payload payload facts.packet mapped.lane in
       let s = within_each facts position mapped.learnt mapped.stream in
       shown_so (place_of lane) (comes payload mapped lane) acknowledged facts.packet 1 (lane.top - 1) (ended_by_fin mapped.lane facts.packet s)
-      (within_so facts position mapped.learnt mapped.stream h)
+      (within_so facts position mapped.learnt mapped.stream each h)
 
-  pub at_so : (facts : Facts) (position : ℕ) (options : List OptionValue) (keys : Keys) (peers s : StreamValue) (l : LaneValue) → H s.broken
-      → H (judged_at facts position options keys peers s l).stream.broken
-  at_so facts position options keys peers s l h =
+  pub at_so : (facts : Facts) (position : ℕ) (options : List OptionValue) (keys : Keys) (peers s : StreamValue) (l : LaneValue)
+      → All (OptionFits facts position) options → H s.broken → H (judged_at facts position options keys peers s l).stream.broken
+  at_so facts position options keys peers s l fit h =
       let first : Mapped = record { stream = s; lane = fin_taken facts position l; learnt = []; has_line = false } in
       let mapped = mapped_with facts (first_of facts.side keys) position options first in
       let paid = behind_payload facts position peers.acknowledged mapped in
       acks_so facts (first_of (peer facts.side) keys) peers options (summed facts (first_of facts.side keys) mapped.learnt paid)
       (summed_so facts (first_of facts.side keys) mapped.learnt paid
-      (payload_so facts position peers.acknowledged mapped (mapped_so facts (first_of facts.side keys) position options first h)))
+      (payload_so facts position peers.acknowledged mapped (mapped_learnt facts position (first_of facts.side keys) options first fit (All-nil (IsWithin facts position)))
+      (mapped_so facts (first_of facts.side keys) position options first h)))

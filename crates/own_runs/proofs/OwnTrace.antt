@@ -1,8 +1,9 @@
 -- What is found of each segment of a trace is a segment of a connection of ours.
-use Rattle.std.proofs.Common.{◌≡◌, refl, sym, ap, ◌∙◌, subst, ℕ, zero, suc, ◌-◌, ◌||◌, ◌≤◌, Bool, true, false, if◌then◌else◌, Option, Some, None, List, [], ◌∷◌, ◌++◌, length, map, replicate, append_assoc, append-nil, arith, nat_le, ◌&&◌, not, Ok}
-use Rattle.std.specs.Prelude.{All, IfSome}
+use Rattle.std.proofs.Common.{◌≡◌, refl, sym, ap, ◌∙◌, subst, ℕ, zero, suc, ◌+◌, ◌-◌, ◌%◌, ◌^◌, inl, inr, ◌||◌, ◌≤◌, Bool, true, false, if◌then◌else◌, Option, Some, None, List, [], ◌∷◌, ◌++◌, length, map, replicate, append_assoc, append-nil, arith, nat_le, ◌&&◌, not, Ok}
+use Rattle.std.specs.Prelude.{All, IfSome, unwrap_or}
+use Rattle.std.specs.Int.{from_bool}
 use Rattle.std.specs.Int.{w16, to_be_bytes}
-use Rattle.std.specs.Option.{option_or}
+use Rattle.std.specs.Option.{option_map, option_or}
 use Rattle.std.proofs.lemmas.Bool.{and_parts, le-leb}
 use Rattle.std.proofs.lemmas.List.Elements.{All-cons, All-head, All-nil, All-tail, All-weaker}
 use Rattle.capture_reader.specs.Seen.{Seen, segment_in_packet}
@@ -21,7 +22,9 @@ use Rattle.path_core.specs.Profile.{Profile}
 use Rattle.path_segments.proofs.SegmentsAgain.{four, written}
 use Rattle.path_segments.specs.Options.{PlainOption, said_option}
 use Rattle.path_segments.specs.Spelled.{CanSay, CanSayOption, PlainSegment, options_text, padded, padding, spelled, spelled_head, syn_text, unpadded_options}
-use Rattle.path_segments.specs.declared.segment.PathOption.TheVariants.{Capable}
+use Rattle.path_segments.specs.declared.segment.PathMapping.TheVariants.{Bytes, End as EndOf, Infinite}
+use Rattle.path_segments.specs.declared.segment.PathOption.TheVariants.{Capable, Dss}
+use Rattle.path_segments.specs.Spelling.{numbers_of}
 use Rattle.path_segments.specs.declared.spelling.Spelling.{Spelling}
 use Rattle.seen_connections.specs.Asked.{answered_by, asked_by, first_answer, first_asked}
 use Rattle.seen_connections.specs.SeenOptions.{Readable, SeenValue, each_seen, seen_as, seen_broken, seen_options}
@@ -44,7 +47,8 @@ use Rattle.own_runs.specs.Segments.{seen_between}
 use Rattle.own_runs.specs.Traces.{packet_for}
 use Rattle.own_runs.proofs.Moments.{IsSpoken, Spoken}
 use Rattle.own_runs.proofs.Values.{drawn}
-use Rattle.own_runs.proofs.Own.{AnswerIs, Drawn, IsOwn, OpeningIs, ValueIs}
+use Rattle.own_runs.proofs.Own.{AnswerIs, Drawn, IsOwn, MapsIn, OpeningIs, ValueIs, first_seq, own_initial}
+use Rattle.own_runs.proofs.Placing.{PlacedIn}
 use Rattle.own_runs.proofs.Traces.{segments_are}
 use Rattle.seen_connections.specs.declared.asked.Answer.{Answer as Answered}
 use Rattle.seen_connections.specs.declared.flow.Opening.TheVariants as opening
@@ -275,6 +279,10 @@ heads_are : (spelling : Spelling) (from : Side) (sg : PlainSegment) → (spelled
 unfolding spelled
 heads_are spelling from sg = refl
 
+payload_is : (spelling : Spelling) (from : Side) (sg : PlainSegment) → (spelled spelling from sg).payload ≡ sg.payload
+unfolding spelled
+payload_is spelling from sg = refl
+
 module _ (Q : Side → PlainSegment → Type 0) (start : Start) (x : Sent) (s : IsSpoken Q start x) (short : length x.octets ≤ 65515) where
   abbrev pub plan : PathPlan
   plan = s.plan
@@ -355,6 +363,46 @@ module _ (Q : Side → PlainSegment → Type 0) (start : Start) (x : Sent) (s : 
   plain : segment.head.syn ≡ true → sg.syn ≡ true
   plain syn = sym (ap (λ (h : Head). h.syn) (heads_are c.spelling x.from sg)) ∙ syn
 
+  number : (from : Side) → (numbers_of c.spelling from).initial.0 ≡ own_initial own x.path from
+  number A = sym (ap (λ (o : Option PathPlan). unwrap_or (option_map (λ plan. plan.initial_a) o) 0) s.there)
+  number B = sym (ap (λ (o : Option PathPlan). unwrap_or (option_map (λ plan. plan.initial_b) o) 0) s.there)
+
+  seq_is : segment.head.seq ≡ (own_initial own x.path x.from + sg.position) % 2 ^ 32
+  seq_is = ap (λ (h : Head). h.seq) (heads_are c.spelling x.from sg) ∙ ap (λ (n : ℕ). (n + sg.position) % 2 ^ 32) (number x.from)
+
+  octets_are : length segment.payload ≡ length sg.payload
+  octets_are = ap (λ (octets : List ℕ). length octets) (payload_is c.spelling x.from sg)
+
+  starts_so : sg.syn ≡ true → (segment.head.seq ≡ first_seq own x.path x.from) × (length segment.payload ≡ 0)
+  starts_so syn =
+      let it = says.placed.syn syn in
+      (seq_is ∙ ap (λ (n : ℕ). (own_initial own x.path x.from + n) % 2 ^ 32) it.0, octets_are ∙ ap (λ (octets : List ℕ). length octets) it.1)
+
+  abbrev Maps : wire.OptionValue → Type 0
+  Maps v = MapsIn (own_initial own x.path x.from) segment.head.seq (length segment.payload) v
+
+  all_of : (len : ℕ) → len ≡ length segment.payload → len - 0 ≡ length segment.payload
+  all_of len same = omega (arith, same)
+
+  map_so : (o : PlainOption) → PlacedIn sg.position (length sg.payload) o → Maps (said_option c.spelling x.from o)
+  map_so (Dss next None) is first = tt
+  map_so (Dss next (Some (Bytes place at len fin checksum))) is first =
+      inr (seq_is ∙ (let same = is.0 in let initial = own_initial own x.path x.from in omega (arith, same)), ap (λ (b : Bool). len - from_bool b) is.2 ∙ all_of len (is.1 ∙ sym octets_are))
+  map_so (Dss next (Some (EndOf place checksum))) is first = inl refl
+  map_so (Dss next (Some (Infinite place position))) is first = inl refl
+  map_so (Capable flag_a flag_c NoKey) is first = tt
+  map_so (Capable flag_a flag_c (Sender sender)) is first = tt
+  map_so (Capable flag_a flag_c (Both sender receiver)) is first = tt
+  map_so (Capable flag_a flag_c (WithData sender receiver len checksum)) is first =
+      inr (seq_is ∙ ap (λ (n : ℕ). (own_initial own x.path x.from + n) % 2 ^ 32) (sym is.0), all_of len (is.1 ∙ sym octets_are))
+  map_so _ is first = tt
+
+  maps_so : (options : List PlainOption) → Every (PlacedIn sg.position (length sg.payload)) options → All Maps (map (said_option c.spelling x.from) options)
+  maps_so [] each = All-nil Maps
+  maps_so (o ∷ options) each =
+      All-cons Maps (said_option c.spelling x.from o) (map (said_option c.spelling x.from) options) (map_so o (each.each 0 o refl))
+      (maps_so options (record { each = λ i y at. each.each (suc i) y at }))
+
   abbrev pub seen_of : Seen
   seen_of = seen_between (addresses_from x.path x.from) (spelled c.spelling x.from sg)
 
@@ -369,6 +417,8 @@ module _ (Q : Side → PlainSegment → Type 0) (start : Start) (x : Sent) (s : 
     options = seen_are c.spelling x.from sg says.tells.sayable fits;
     each = values;
     asks = λ syn. subst (λ (o : Option Opening). IfSome o (λ o. (x.from ≡ A) × OpeningIs own x.path o)) (sym (asked_are c.spelling x.from sg says.tells.sayable fits)) (asks_so (plain syn));
+    starts = λ syn. starts_so (plain syn);
+    maps = maps_so sg.options says.placed.options;
     answers = λ syn of_b o opened. subst (λ (a : Option Answered). IfSome a (AnswerIs own x.path o)) (sym (answer_are c.spelling x.from sg says.tells.sayable fits o)) (answers_so (plain syn) of_b o opened);
   }
 

@@ -1,7 +1,9 @@
--- The packets of a connection of ours break no rule on options.
-use Rattle.std.proofs.Common.{◌≡◌, refl, sym, ap, ◌∙◌, subst, ℕ, Bool, true, false, if◌then◌else◌, Option, Some, None, List, [], map}
+-- The packets of a connection of ours break no rule on options, and have their payload within its mappings.
+use Rattle.std.proofs.Common.{◌≡◌, refl, sym, ap, ◌∙◌, subst, ℕ, ◌+◌, ◌-◌, ◌/◌, ◌%◌, ◌^◌, ◌≤◌, nat_le, nat_lt, inl, inr, arith, Bool, true, false, if◌then◌else◌, Option, Some, None, List, [], map}
 use Rattle.std.specs.Prelude.{All, IfSome}
-use Rattle.std.proofs.lemmas.List.Elements.{All-nil}
+use Rattle.std.proofs.lemmas.List.Elements.{All-nil, All-weaker}
+use Rattle.std.specs.Prelude.{option_and_then}
+use Rattle.std.proofs.lemmas.Bool.{ltb-false}
 use Rattle.sides.specs.declared.side.Side.{Side}
 use Rattle.sides.specs.declared.side.Side.TheVariants.{A, B}
 use Rattle.sides.specs.Side.{peer}
@@ -25,11 +27,16 @@ use Rattle.rule_book.specs.State.{BookValue, LanesValue, stream_at, with_stream}
 use Rattle.rule_book.specs.Stream.{Left, gap_counted, judged_at, judged_from, judged_positions}
 use Rattle.capture_verdict.specs.Judging.{judged_packets}
 use Rattle.judge_laws.specs.GoesOn.{broke, stream_in}
-use Rattle.own_runs.proofs.Own.{Drawn, IsOwn, ValueIs}
-use Rattle.own_runs.proofs.OwnFlows.{FlowOn, KeysOwn, NonceIs}
+use Rattle.judge_rules.specs.Mappings.{offer_of}
+use Rattle.judge_rules.specs.declared.mappings.Offer.{Offer}
+use Rattle.seen_streams.specs.State.{LaneValue}
+use Rattle.seq_units.specs.Number.{position_near}
+use Rattle.own_runs.proofs.KeptOptions.{kept_so}
+use Rattle.own_runs.proofs.Own.{Drawn, IsOwn, MapsIn, OfferIn, ValueIs, first_seq, is_a, own_initial}
+use Rattle.own_runs.proofs.OwnFlows.{BasesAre, FlowOn, KeysOwn, NonceIs}
 use Rattle.own_runs.proofs.OwnOptions.{IsOf, options_so, readable_so}
 use Rattle.own_runs.proofs.OwnPackets.{IsLeft, PacketIs, SegmentsKeep, book_holds, opens_so, sender_so}
-use Rattle.own_runs.proofs.OwnPositions.{at_so, is_option}
+use Rattle.own_runs.proofs.OwnPositions.{OfferFits, OptionFits, at_so, is_option}
 use Rattle.own_runs.proofs.Telling.{Untold, others_keep}
 
 -- of both sides
@@ -56,30 +63,98 @@ gaps_untold gaps book h B = h B
 abbrev AnyLanes : LanesValue → Type 0
 AnyLanes lanes = Unit {0}
 
+-- ---- a position that is near has its number
+
+ahead_so : (base top seq n p : ℕ) → n ≡ (seq + (2 ^ 32 - (base + top) % 2 ^ 32)) % 2 ^ 32 → top + n ≡ p → (base + p) % 2 ^ 32 ≡ seq % 2 ^ 32
+ahead_so base top seq n p is at = omega (arith, is, at)
+
+back_so : (base top seq n p : ℕ) → n ≡ (seq + (2 ^ 32 - (base + top) % 2 ^ 32)) % 2 ^ 32 → 2 ^ 32 ≤ top + n → top + n - 2 ^ 32 ≡ p → (base + p) % 2 ^ 32 ≡ seq % 2 ^ 32
+back_so base top seq n p is above at = omega (arith, is, above, at)
+
+some_is : {x y : ℕ} → (let one : Option ℕ = Some x in one) ≡ Some y → x ≡ y
+some_is e = cc
+
+near_so : (base top seq p : ℕ) → position_near (2 ^ 32) base top seq ≡ Some p → (base + p) % 2 ^ 32 ≡ seq % 2 ^ 32
+unfolding position_near
+near_so base top seq p is =
+    by ((seq + (2 ^ 32 - (base + top) % 2 ^ 32)) % 2 ^ 32) refl (nat_lt ((seq + (2 ^ 32 - (base + top) % 2 ^ 32)) % 2 ^ 32) (2 ^ 32 / 2))
+    (nat_lt (top + (seq + (2 ^ 32 - (base + top) % 2 ^ 32)) % 2 ^ 32) (2 ^ 32)) refl is
+  where
+    by : (n : ℕ) → n ≡ (seq + (2 ^ 32 - (base + top) % 2 ^ 32)) % 2 ^ 32 → (low under : Bool) → nat_lt (top + n) (2 ^ 32) ≡ under
+        → (if low then Some (top + n) else (if under then None else Some (top + n - 2 ^ 32))) ≡ Some p → (base + p) % 2 ^ 32 ≡ seq % 2 ^ 32
+    by n ahead true under e is = ahead_so base top seq n p ahead (some_is is)
+    by n ahead false true e is = cc
+    by n ahead false false e is = back_so base top seq n p ahead (ltb-false (top + n) (2 ^ 32) e) (some_is is)
+
+-- a segment's position has its number
+numbered : (base : ℕ) (lane : LaneValue) (seq len p : ℕ) → position_of base lane seq len ≡ Some p → (base + p) % 2 ^ 32 ≡ seq % 2 ^ 32
+numbered base lane seq len p is = by (position_near (2 ^ 32) base lane.top seq) refl is
+  where
+    by : (o : Option ℕ) → position_near (2 ^ 32) base lane.top seq ≡ o → option_and_then (λ position. if nat_le (position + len) (2 ^ 61) then Some position else None) o ≡ Some p
+        → (base + p) % 2 ^ 32 ≡ seq % 2 ^ 32
+    by None e is = cc
+    by (Some q) e is = near_so base lane.top seq p (e ∙ few (nat_le (q + len) (2 ^ 61)) is)
+      where
+        few : (b : Bool) → (if b then Some q else None) ≡ Some p → Some q ≡ Some p
+        few true is = is
+        few false is = cc
+
+-- so a mapping that stands at the number stands at the position
+fits_so : (facts : Facts) (initial position : ℕ) (option : OptionValue) → (initial + position) % 2 ^ 32 ≡ facts.seen.segment.head.seq % 2 ^ 32
+    → MapsIn initial facts.seen.segment.head.seq facts.seen.payload_len option → OptionFits facts position option
+fits_so facts initial position option at is first = by (offer_of first option) (is first)
+  where
+    by : (o : Option Offer) → IfSome o (OfferIn initial facts.seen.segment.head.seq facts.seen.payload_len) → IfSome o (OfferFits facts position)
+    by None is = tt
+    by (Some offer) (inl none) = inl none
+    by (Some offer) (inr is) = inr (let number = is.0 in omega (arith, at, number), is.1)
+
+fit_so : (facts : Facts) (initial position : ℕ) (options : List OptionValue) → (initial + position) % 2 ^ 32 ≡ facts.seen.segment.head.seq % 2 ^ 32
+    → All (MapsIn initial facts.seen.segment.head.seq facts.seen.payload_len) options → All (OptionFits facts position) options
+fit_so facts initial position options at each =
+    All-weaker (MapsIn initial facts.seen.segment.head.seq facts.seen.payload_len) (OptionFits facts position) (λ option is. fits_so facts initial position option at is) options each
+
 module _ (d : Drawn) where
   abbrev Leaves : Told → Type 0
   Leaves told = IsLeft d (IsOwn d) BookUntold AnyLanes told
 
   module _ (at : Option Side) (packet : ℕ) (seen : Seen) (own : IsOwn d seen) where
-    positions_so : (facts : Facts) (options : List OptionValue) (keys : Keys) (left : Left) → BookUntold left.book → BookUntold (judged_positions facts options keys left).book
-    positions_so facts options keys left h =
-        by facts.seen.segment.head.syn (position_of (own_base facts) (own_lane facts left.lanes) facts.seen.segment.head.seq facts.seen.payload_len)
+    positions_so : (facts : Facts) (options : List OptionValue) (keys : Keys) (left : Left) → (initial : ℕ) → own_base facts ≡ (initial + 0) % 2 ^ 32
+        → All (MapsIn initial facts.seen.segment.head.seq facts.seen.payload_len) options → BookUntold left.book → BookUntold (judged_positions facts options keys left).book
+    positions_so facts options keys left initial base maps h =
+        by facts.seen.segment.head.syn (position_of (own_base facts) (own_lane facts left.lanes) facts.seen.segment.head.seq facts.seen.payload_len) refl
       where
-        from : (position : Option ℕ) → BookUntold (judged_from facts position options keys left).book
-        from None = h
-        from (Some position) =
+        at_number : (position : ℕ) → (own_base facts + position) % 2 ^ 32 ≡ facts.seen.segment.head.seq % 2 ^ 32
+            → (initial + position) % 2 ^ 32 ≡ facts.seen.segment.head.seq % 2 ^ 32
+        at_number position at = omega (arith, at, base)
+
+        from : (position : Option ℕ) → position_of (own_base facts) (own_lane facts left.lanes) facts.seen.segment.head.seq facts.seen.payload_len ≡ position → BookUntold (judged_from facts position options keys left).book
+        from None e = h
+        from (Some position) e =
             let own_stream = stream_at facts.side left.book in
             let lane = own_lane facts left.lanes in
             let gone = (gap_counted facts left).book in
             with_untold facts.side (judged_at facts position options keys (stream_at (peer facts.side) left.book) own_stream lane).stream gone
-            (at_so (others_keep is_option) facts position options keys (stream_at (peer facts.side) left.book) own_stream lane (h facts.side))
+            (at_so (others_keep is_option) facts position options keys (stream_at (peer facts.side) left.book) own_stream lane
+            (fit_so facts initial position options (at_number position (numbered (own_base facts) (own_lane facts left.lanes) facts.seen.segment.head.seq facts.seen.payload_len position e)) maps)
+            (h facts.side))
             (gaps_untold gone.gaps left.book h)
 
-        by : (b : Bool) (position : Option ℕ) → BookUntold (if b then left else judged_from facts position options keys left).book
-        by true position = h
-        by false position = from position
+        by : (b : Bool) (position : Option ℕ) → position_of (own_base facts) (own_lane facts left.lanes) facts.seen.segment.head.seq facts.seen.payload_len ≡ position
+            → BookUntold (if b then left else judged_from facts position options keys left).book
+        by true position e = h
+        by false position e = from position e
 
     module _ (index : ℕ) (flow : Flow) (f : FlowOn d own.path flow) (keys : Keys) (k : KeysOwn d keys) (left : Left) (h : BookUntold left.book) where
+      base_so : (opened : Opened) → flow.opened ≡ Some opened → own_base (opened_facts at packet seen index flow opened own.from) ≡ first_seq d own.path own.from
+      base_so opened e =
+          ap (λ (b : Bool). if b then opened.opener_base else opened.other_base) (opens_so d seen own flow f)
+          ∙ by own.from (subst (λ (o : Option Opened). IfSome o (BasesAre d own.path)) e f.bases)
+        where
+          by : (s : Side) → BasesAre d own.path opened → (if is_a s then opened.opener_base else opened.other_base) ≡ first_seq d own.path s
+          by A bases = bases.0
+          by B bases = bases.1
+
       opened_so : (opened : Opened) → flow.opened ≡ Some opened
           → Leaves (judged_opened (opened_facts at packet seen index flow opened own.from) (map Readable own.values) keys left)
       opened_so opened e =
@@ -94,7 +169,9 @@ module _ (d : Drawn) where
           let all = judged_options facts (map Readable own.values) first in
           record {
             keys = made.keys;
-            book = positions_so facts all.options all.keys (record left { book = with_stream own.from all.stream left.book })
+            book = positions_so facts all.options all.keys (record left { book = with_stream own.from all.stream left.book }) (own_initial d own.path own.from) (base_so opened e)
+                (kept_so (MapsIn (own_initial d own.path own.from) seen.segment.head.seq seen.payload_len) facts own.values first own.maps
+                (All-nil (MapsIn (own_initial d own.path own.from) seen.segment.head.seq seen.payload_len)))
                 (with_untold own.from all.stream left.book made.untold h);
             lanes = tt;
           }

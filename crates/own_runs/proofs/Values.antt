@@ -26,6 +26,8 @@ drawn start = record {
   key_b = start.key_b;
   nonce_a = nonce_at (λ plan. plan.nonce_a) start.paths;
   nonce_b = nonce_at (λ plan. plan.nonce_b) start.paths;
+  initial_a = nonce_at (λ plan. plan.initial_a) start.paths;
+  initial_b = nonce_at (λ plan. plan.initial_b) start.paths;
   checksums = start.checksums;
 }
 
