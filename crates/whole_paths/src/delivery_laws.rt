@@ -70,8 +70,8 @@ pub fn mild_paths_are_never_stopped()
     ensures { MildPathsAreNeverStopped }
 {}
 
-/// A law: in a mild connection an exchange goes astray on path 0 by two things alone, where both ends are past the handshake, may send a DSS and aren't dead,
-/// before a turn and after it: a FIN that an end is past, or more sent than the window has room for. Neither end is to be reset or fell back,
+/// A law: in a mild connection an exchange goes astray on path 0 by two things alone, where both ends are past the handshake, may send a DSS
+/// and aren't dead, before a turn and after it: a FIN that an end is past, or more sent than the window has room for. Neither end is to be reset or fell back,
 /// each knows its peer's key, neither treats the SYN/ACK, and none refuses a copy, or answers one by a reset.
 ///
 /// Such are both ends of path 0 by each turn between two moments at which it is whole (`between`).
