@@ -63,9 +63,10 @@ use Rattle.whole_paths.proofs.Acknowledged.{what_was_granted_is_acknowledged, wh
 use Rattle.whole_paths.proofs.Books.{send_up}
 use Rattle.whole_paths.proofs.InRounds.{InARound, in_a_round}
 use Rattle.whole_paths.proofs.KnownEnds.{closed_written}
-use Rattle.whole_paths.proofs.OnePath.{Alone, AreSpent, AskIsOf, BookStep, IsOf, Refusal, aborted_step, alone_kept, alone_next, app_asks_own, book_step, choice, first_acked, first_alone, notes_there, nothing_written, own_grant, path_own, refusal, refused_more, send_after, send_replied, spent_step, step_so}
-use Rattle.whole_paths.proofs.OnePath.BookStep.{unchanged, called}
-use Rattle.whole_paths.proofs.OnePath.Refusal.{by_window, by_standby, by_stop, by_spent}
+use Rattle.whole_paths.proofs.OnePath.{Alone, alone_kept, alone_next, choice, first_acked, first_alone, notes_there, nothing_written, own_grant, path_own, refused_more, send_after, send_replied, step_so}
+use Rattle.whole_paths.proofs.OnlyBooks.{AreSpent, AskIsOf, BookStep, IsOf, Refusal, aborted_step, app_asks_own, book_step, refusal, spent_step}
+use Rattle.whole_paths.proofs.OnlyBooks.BookStep.{unchanged, called}
+use Rattle.whole_paths.proofs.OnlyBooks.Refusal.{by_window, by_standby, by_stop, by_spent}
 use Rattle.whole_paths.proofs.Refusals.{AtGrant, NothingTold, TellsNothing, at_grant, takes_told, told_by, told_last_of_all}
 use Rattle.whole_paths.proofs.Refusals.AtGrant.{asks_none_of_it, asks_bytes}
 

@@ -72,8 +72,9 @@ use Rattle.whole_paths.specs.Mild.{IsMildStart}
 use Rattle.whole_paths.specs.Waits.{IsNews}
 use Rattle.whole_paths.proofs.Agendas.{own_end}
 use Rattle.whole_paths.proofs.Exchanges.{OfPaths}
-use Rattle.whole_paths.proofs.OnePath.{Alone, IsOf, Refusal, always_alone, first_acked, own_grant, own_standby, refusal, send_after, send_replied}
-use Rattle.whole_paths.proofs.OnePath.Refusal.{by_window, by_standby, by_stop, by_spent}
+use Rattle.whole_paths.proofs.OnePath.{Alone, always_alone, first_acked, own_grant, own_standby, send_after, send_replied}
+use Rattle.whole_paths.proofs.OnlyBooks.{IsOf, Refusal, refusal}
+use Rattle.whole_paths.proofs.OnlyBooks.Refusal.{by_window, by_standby, by_stop, by_spent}
 use Rattle.whole_paths.proofs.OpenPieces.{AgreesWith, EndsAgreeWith, ends_agree}
 use Rattle.whole_paths.proofs.Paying.{settled_far}
 use Rattle.whole_paths.proofs.Refusals.{AtGrant, at_grant, takes_told}

@@ -56,6 +56,7 @@ pub mod News
 pub mod NewsBounds
 pub mod Offered
 pub mod OnePath
+pub mod OnlyBooks
 pub mod OnePathScripts
 pub mod OnlyPaths
 pub mod OpenAsks
