@@ -168,7 +168,7 @@ module _ (books : StampedBooks) (later : SixBooks) (steps : List Note) (p q : Pa
   abbrev base : ℕ
   base = (end_at s p).tcp.send.una
 
-  -- it isn't answered yet, or there is news
+  -- the ask isn't answered yet, or there is news
   still_goes : IsNews (end_at s p) (end_at s q) ⊎ IsUnansweredAt later s place fin q
   still_goes = unanswered_goes place fin (length (send_of s (books_in books)).written) (length (send_of s later).written) (end_at s p) (end_at s q) (t.kept s) (end_far p q t.far s)
       (same_written (send_of s (books_in books)) (send_of s later) (end_at s p) (t.knows s) (t.agrees s) (t.closed s)) h.unanswered

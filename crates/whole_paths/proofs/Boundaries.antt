@@ -387,7 +387,7 @@ events_go : (events : List Event) (w : Duo) → ((more : List Event) → Holds (
 events_go [] w ever h = h
 events_go (e ∷ events) w ever h = events_go events (after_event e w) (λ more. ever (e ∷ more)) (event_goes e w (ever []) h)
 
--- so it is after all events, where mappings are checked
+-- both directions after all events, where mappings are checked
 pub both_cut : (alters : Bool) (paths buffer capacity : ℕ) (events : List Event) → BothCut (after_events events (opening_over alters true paths buffer capacity))
 both_cut alters paths buffer capacity events =
     events_go events (opening_over alters true paths buffer capacity) (any_held alters true paths buffer capacity) (record { ab = λ firm. opened; ba = λ firm. opened })

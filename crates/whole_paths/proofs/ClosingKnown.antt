@@ -148,7 +148,7 @@ module _ {C : Type 0} where
       by_side : (s : Side) (ds : List Duty) (p : PathState C) → came (end_at s (with_agenda ds p)) ≡ came (end_at s p)
       by_side = elim [ A ↦ λ ds p. refl | B ↦ λ ds p. refl ]
 
-  -- it came before, or the book has the end
+  -- the DATA_FIN came before, or the book has the end
   abbrev Told : SixBooks → Ask → PathState C → PathState C → Type 0
   Told six x p q = (s : Side) → (came (end_at s q) ≡ came (end_at s p)) ⊎ IsSome (reassembly_of s (after_ask x six)).known_end
 

@@ -255,7 +255,7 @@ module _ (steps : List Note) (p q : PathState Carried) (known : Known p) (faithf
     answer_bare : IsBare h.segment
     answer_bare = (let ack = says_so.so (end_at s p).tcp.recv.edge (end_at (peer s) p).tcp.send.nxt h.segment so in record { syn = ack.syn; fin = ack.fin; rst = h.covers.rst; empty = ack.payload })
 
-    -- it is taken, and says so
+    -- an answer that is taken says so
     ack_taken : TakesAnswer → (end_at s p).modes.identity ≡ false → Stage p → ComesTaken h.segment p → Goes
     ack_taken takes mapped still taken =
         ⊎_elim (λ same. same_goes same still) (λ goes. goes) (takes h.segment so taken (sym (ap event_side taken.brings.copy.next) ∙ ap event_side next ∙ answer_to) mapped)

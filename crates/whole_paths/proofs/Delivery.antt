@@ -131,7 +131,7 @@ reads_next (apps.End ∷ ds) = false
 reads_next (d ∷ ds) = reads_next ds
 reads_next [] = false
 
--- it was told, or it reads before its turn is over
+-- an application was told, or reads before its turn is over
 abbrev IsToTell : AppState → Type 0
 IsToTell a = (a.told ≡ true) ⊎ (reads_next a.agenda ≡ true)
 

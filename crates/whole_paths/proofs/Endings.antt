@@ -290,7 +290,7 @@ module _ {C : Type 0} where
   bytes_kept k s (Some next) r p high = calm s _ p _ refl refl refl refl
   bytes_kept k s None r p high = granted_kept s (grant_in r) r p (high refl)
 
-  -- so does what a book replies to a duty that asks for bytes
+  -- what a book replies to a duty that asks for bytes ends behind all that is acknowledged
   abbrev pub GrantsBehind : Duty → Reply → PathState C → Type 0
   GrantsBehind (duties.Step (step_duties.Data s)) r p = first_unsent (end_at s p) ≡ None → EndsBehind (end_at s p).sending.heard (grant_in r)
   GrantsBehind _ r p = Unit {0}

@@ -59,7 +59,7 @@ same s t state finished = record { state = λ is. ap is_ending (sym state) ∙ i
 on : (s t u : EndState) → Stays s t → Stays t u → Stays s u
 on s t u x y = record { state = λ is. x.state (y.state is); finished = λ is. y.finished (x.finished is) }
 
--- it isn't behind it
+-- an end that isn't behind the FIN yet
 before : (s t : EndState) → is_ending t.state ≡ false → (s.send.finished ≡ true → t.send.finished ≡ true) → Stays s t
 before s t outside finished = record { state = λ is. absurd (true≢false (sym is ∙ outside)); finished = finished }
 

@@ -49,7 +49,7 @@ same s t state = record { state = λ is. ap is_waiting (sym state) ∙ is }
 on : (s t u : EndState) → Stays s t → Stays t u → Stays s u
 on s t u x y = record { state = λ is. x.state (y.state is) }
 
--- it is past that
+-- an end that is past that state
 before : (s t : EndState) → is_waiting t.state ≡ false → Stays s t
 before s t outside = record { state = λ is. absurd (true≢false (sym is ∙ outside)) }
 

@@ -78,7 +78,7 @@ ask_size (Ask.Control A call) six s = refl
 ask_size (Ask.Control B call) six s = refl
 ask_size (Ask.Local step) six s = refl
 
--- it takes bytes up to its edge, which never falls
+-- a book takes bytes up to its edge, which never falls
 pub edge_up : (x : Ask) (six : SixBooks) (s : Side) → arriving.edge (reassembly_of s six) ≤ arriving.edge (reassembly_of s (after_ask x six))
 edge_up x six s = let up = (side_up x six s).arrival.read in let same = ask_size x six s in omega (arith, up, same)
 

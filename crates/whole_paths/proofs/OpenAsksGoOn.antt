@@ -91,7 +91,7 @@ kept_piece n (z ∷ xs) (y ∷ ys) (inr stays) (suc i) x there = ⊎_elim
     (λ has. inr (record { at = suc has.at; item = has.item; there = has.there; holds = has.holds }))
     (kept_piece n xs ys stays.1 i x there)
 
--- it stays so, or there is news
+-- what is unanswered stays unanswered, or there is news
 pub unanswered_goes : (place : ℕ) (fin : Bool) (written later : ℕ) (e f : PathEnd) → KeepsWhatWaits e f → IsEndAsFar e f → (e.sending.fin_sent ≡ true → later ≡ written) → IsUnanswered place fin written e.sending
     → IsNews e f ⊎ IsUnanswered place fin later f.sending
 unanswered_goes place fin written later e f kept far same (data_fin is behind sent open_end) = by f.sending.close.own_acked refl

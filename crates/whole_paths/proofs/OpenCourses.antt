@@ -123,7 +123,7 @@ each_later turns w actor c there = turns_each values (λ c d. ActorLater c.membe
 
 -- ---- path 0 by its lanes
 
--- it opened the connection, as this begins; and an end that sent no FIN has none to be acknowledged, nor did the peer hear of one
+-- the path opened the connection, as this begins; and an end that sent no FIN has none to be acknowledged, nor did the peer hear of one
 pub record IsFirstPath (start : Start) (p : PathState Carried) : Type 0 where
   pub first : is_joined p.profile ≡ false
   pub checksums : p.profile.spelling.checksums ≡ start.checksums

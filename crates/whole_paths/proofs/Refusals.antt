@@ -34,12 +34,12 @@ use Rattle.world_laws.proofs.Writes.Steps.{Lasts, both_ends, settled_lasts, unwr
 
 -- ---- an end
 
--- it is told nothing of the window or of the stream's end
+-- the end is told nothing of the window or of the stream's end
 pub record TellsNothing (e f : PathEnd) : Type 0 where
   pub shut : f.sending.shut ≡ e.sending.shut
   pub known : f.sending.known_end ≡ e.sending.known_end
 
--- it is told why nothing is granted, and perhaps where the stream ends
+-- the end is told why nothing is granted, and perhaps where the stream ends
 pub record TellsWhy (why : Why) (told : Option ℕ) (e f : PathEnd) : Type 0 where
   pub shut : f.sending.shut ≡ is_shut why
   pub known : f.sending.known_end ≡ told_last told e.sending.known_end

@@ -12,7 +12,7 @@ ticks_up within n (suc m) below = ⊎_elim
     (cases_lt n (suc m))
 
 module _ (s : System) (most within base : ℕ) (d : Drives s most within) where
-  -- so much news there was, and the next comes by a tick that isn't far from the first round's beginning
+  -- how much news there was; and the next comes by a tick that isn't far from the first round's beginning
   record Awaited (v : s.State) : Type 0 where
     count : ℕ
     tick : ℕ

@@ -146,7 +146,7 @@ middle_false a true c is = absurd (true≢false is)
 middle_false true false c is = refl
 middle_false false false c is = refl
 
--- so path 0 doesn't stand by
+-- where other paths rest path 0 doesn't stand by
 serves_none : (paths : List Kept) (backups : List Bool) → OthersRest paths → (other : ℕ) → serves_beside paths backups 0 other ≡ false
 unfolding serves_beside
 serves_none paths backups h zero = refl

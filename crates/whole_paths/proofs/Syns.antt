@@ -152,7 +152,7 @@ module _ (p q : PathState Carried) (known : Known p) (faithful : IsFaithful p) (
     abbrev Goes : Type 0
     Goes = SynGoesOn s x p q
 
-    -- it is to be taken still, or an end went further
+    -- an end is to take the copy still, or went further
     if_to_open : (IsToOpen s q → Goes) → Goes
     if_to_open still = by h.opens
       where

@@ -496,7 +496,7 @@ opening_unended checked paths buffer capacity = record { ab = λ mapped owner. n
     none : AreUnended (opening_over false checked paths buffer capacity).ab
     none = record { fin = λ none. refl; lanes = record { each = λ i p there. first 0 p (in_replicate paths (lane_over false checked) i p there) } }
 
--- so it is after all events over links that alter nothing
+-- both streams after all events over links that alter nothing
 pub both_unended : (checked : Bool) (paths buffer capacity : ℕ) (events : List Event) → ((more : List Event) → Holds (after_events more (opening_over false checked paths buffer capacity)))
     → BothUnended (after_events events (opening_over false checked paths buffer capacity))
 both_unended checked paths buffer capacity events ever = events_go events (opening_over false checked paths buffer capacity) ever (opening_unended checked paths buffer capacity)

@@ -20,7 +20,7 @@ pub record IsData (r : Record) (e : PathEnd) : Type 0 where
   pub left : e.tcp.send.una < end_of r
   pub within : end_of r ≤ e.tcp.send.nxt
 
--- so is the first record of an open end that sent no FIN, or has more than the FIN to be acknowledged
+-- such a record is the first one of an open end that sent no FIN, or has more than the FIN to be acknowledged
 abbrev pub HasDataLeft : PathState Carried → Type 0
 HasDataLeft p = IsOpen p → (s : Side) → ((end_at s p).tcp.send.finished ≡ false) ⊎ ((end_at s p).tcp.send.una + 1 < (end_at s p).tcp.send.nxt) → (r : Record) (others : List Record)
     → (end_at s p).tcp.send.records ≡ r ∷ others → IsData r (end_at s p)

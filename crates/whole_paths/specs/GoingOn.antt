@@ -32,7 +32,7 @@ pub record IsWaiting (w : WorldState Carried) : Type 0 where
   pub outstanding : IsOutstanding (end_at side path)
   pub left : (end_at side path).tcp.send.records ≡ [] → (end_at side path).sending.granted ≡ [] → WaitsForNoEnd (end_at side path) → acked_len (written_by side w).marks < length (written_by side w).written
 
--- these actors made a step each, in this order
+-- a step of each of these actors, in this order
 abbrev pub steps_of : List ℕ → List Turn
 steps_of order = map (λ actor. Turn.Step actor) order
 

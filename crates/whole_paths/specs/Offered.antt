@@ -35,7 +35,7 @@ module _ {C : Type 0} where
     pub taken : at ≤ arriving.edge (reassembly_of s six)
     pub offered : Offers at (end_at s p) ⊎ AsksFirst s p.agenda
 
-  -- so the end knows it as it sends
+  -- the end knows of the offer as it sends
   abbrev pub OffersWhereItSends : Side → ℕ → PathState C → Type 0
   OffersWhereItSends s at p = IfSome (first_sends p.agenda p) (λ t. t.from ≡ s → Offers at (end_at s p))
 

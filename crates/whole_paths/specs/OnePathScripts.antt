@@ -33,7 +33,7 @@ pub record BeginsWithOnePath (start : Start) (plan : PathPlan) : Type 0 where
   pub one : start.paths ≡ plan ∷ []
   pub buffer : 4096 ≤ start.buffer
 
--- so does the connection of a mild script of one path
+-- the connection of a mild script of one path begins like that
 abbrev pub MildScriptsBeginWithOnePath : Type 0
 MildScriptsBeginWithOnePath = (script : Script) (path : PathLine) (file_a file_b : List ℕ) → IsMild script path file_a file_b
     → BeginsWithOnePath (start_of script file_a file_b) (plan_of script 0 path)

@@ -43,7 +43,7 @@ module _ {C : Type 0} where
   pub record WhatIsPassedIsReceived (w : WorldState C) : Type 0 where
     pub each : (actor : ℕ) (c : ActorCrew C) → slice_get w.crew actor ≡ Some c → HoldsOfKind (λ app. Unit {0}) (PassedIsReceived w) c.member
 
-  -- so an end that lives and has no record left waits for no Data ACK but of what is received
+  -- an end that lives and has no record left waits for no Data ACK but of what is received
   abbrev pub GrantedIsReceived : WorldState C → PathState C → Type 0
   GrantedIsReceived w p = (s : Side) → is_dead (end_at s p).tcp.state ≡ false → (end_at s p).tcp.send.records ≡ []
       → Every (λ piece. piece.to ≤ received (arrived_at (peer s) w)) (end_at s p).sending.granted

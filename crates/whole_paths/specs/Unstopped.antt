@@ -15,6 +15,6 @@ pub record NothingIsStopped {C : Type 0} (w : WorldState C) : Type 0 where
   pub arrived : (s : Side) → (arrived_at s w).aborted ≡ None
   pub told : (s : Side) → was_told tells_stop (notes_of s w.crew) ≡ false
 
--- so it is at every moment of a mild connection over one path
+-- nothing is stopped at any moment of a mild connection over one path
 abbrev pub MildPathsAreNeverStopped : Type 0
 MildPathsAreNeverStopped = (start : Start) (plan : PathPlan) (turns : List Turn) → start.paths ≡ plan ∷ [] → IsMildStart start → NothingIsStopped (world_run values turns (opened_world start))

@@ -71,8 +71,8 @@ pub fn mild_paths_are_never_stopped()
 {}
 
 /// A law: in a mild connection an exchange goes astray on path 0 by two things alone, where both ends are past the handshake, may send a DSS
-/// and aren't dead, before a turn and after it: a FIN that an end is past, or more sent than the window has room for. Neither end is to be reset or fell back,
-/// each knows its peer's key, neither treats the SYN/ACK, and none refuses a copy, or answers one by a reset.
+/// and aren't dead, before a turn and after it: a FIN that an end is past, or more sent than the window has room for. Neither end is to be
+/// reset or fell back, each knows its peer's key, neither treats the SYN/ACK, and none refuses a copy, or answers one by a reset.
 ///
 /// Such are both ends of path 0 by each turn between two moments at which it is whole (`between`).
 pub fn open_ends_hardly_stray()
@@ -80,8 +80,8 @@ pub fn open_ends_hardly_stray()
     ensures between { WholePathsAreOpen }
 {}
 
-/// A law: in a mild connection the exchange of an ask goes awry on path 0 by one thing alone, where both ends are past the handshake, may send a DSS and
-/// aren't dead, before a turn and after it: more sent than the window has room for.
+/// A law: in a mild connection the exchange of an ask goes awry on path 0 by one thing alone, where both ends are past the handshake, may send
+/// a DSS and aren't dead, before a turn and after it: more sent than the window has room for.
 ///
 /// No end owes a third MP_JOIN, nor has it MP_FASTCLOSE to be answered (RFC 8684, sections 3.2 and 3.5); an end that sent its DATA_FIN knows
 /// where its stream ends; and no book refuses a Data ACK.
@@ -138,9 +138,9 @@ pub fn records_are_awaited_always()
     ensures { RecordsAreAwaitedAlways }
 {}
 
-/// A law: what an open end of the only path of a mild connection asks for, the Data ACK of its DATA_FIN or of a piece (`each_ask_is_answered`), goes on by each
-/// turn to be answered by the same tick, or something comes between that counts: more is heard or sent, the script harms a segment, or an end
-/// dies.
+/// A law: what an open end of the only path of a mild connection asks for, the Data ACK of its DATA_FIN or of a piece (`each_ask_is_answered`),
+/// goes on by each turn to be answered by the same tick, or something comes between that counts: more is heard or sent, the script harms a
+/// segment, or an end dies.
 ///
 /// An open end without a record of which anything is outstanding waits for such an answer, or for the peer's window (`in_time`). Where a turn
 /// is over it asks for the answer, within a minute and the longest time there and back, and no round ends past that. That the peer wants the

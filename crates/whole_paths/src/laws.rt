@@ -101,7 +101,7 @@ pub fn news_is_bounded()
 
 /// A law: how far a connection is, as one number, rises with all news.
 ///
-/// It does so as SND.UNA, SND.NXT or RCV.NXT of an end rises, a Data ACK acknowledges more, or the SYN, the DATA_FIN or the third MP_JOIN
+/// The number rises as SND.UNA, SND.NXT or RCV.NXT of an end rises, a Data ACK acknowledges more, or the SYN, the DATA_FIN or the third MP_JOIN
 /// is answered; as an end dies; as a line of the script is taken; and with each segment that uses a line by which it is lost or late.
 pub fn each_news_counts()
     ensures octets { EachNewsCounts octets }
