@@ -1,15 +1,15 @@
 -- What came to an end in order is acknowledged.
-use Rattle.std.proofs.Common.{◌≡◌, refl, sym, subst, ap, ◌∙◌, ◌⊎◌, inl, inr, ⊎_elim, ℕ, zero, suc, ◌+◌, ◌-◌, ◌^◌, ◌<◌, ◌≤◌, arith, le_refl, nat_lt, nat_le, Bool, true, false, true≢false, ◌||◌, if◌then◌else◌, Option, Some, None, is_some, List, [], ◌∷◌, length, take}
+use Rattle.std.proofs.Common.{◌≡◌, refl, sym, subst, ap, ◌∙◌, ◌⊎◌, inl, inr, ⊎_elim, ℕ, zero, suc, ◌+◌, ◌-◌, ◌^◌, ◌<◌, ◌≤◌, arith, le_refl, nat_lt, nat_le, ◌==◌, Bool, true, false, true≢false, not, ◌&&◌, ◌||◌, if◌then◌else◌, Option, Some, None, is_some, List, [], ◌∷◌, length, take}
 use Rattle.std.specs.Prelude.{IfSome, IsSome, unwrap_or, get_or, find}
 use Rattle.std.specs.List.{All, slice_get}
-use Rattle.std.proofs.lemmas.Bool.{and_parts, cases_lt, leb-true, ltb-true, le-ltb, lt-ltb}
+use Rattle.std.proofs.lemmas.Bool.{and_from, and_parts, cases_lt, le-leb, leb-true, ltb-true, le-ltb, lt-ltb}
 use Rattle.std.proofs.lemmas.List.Elements.{All-head, All-tail}
 use Rattle.std.proofs.lemmas.Option.{same_Some, slice_get-get_or}
 use Rattle.path_segments.specs.Heard.{HeardSegment}
 use Rattle.path_segments.specs.Spelled.{PlainSegment}
 use Rattle.sides.specs.declared.side.Side.{Side}
 use Rattle.dss_mapping.specs.Learning.{IsWithin}
-use Rattle.dss_mapping.specs.Mappings.{Mappings, mapping_at, run_of}
+use Rattle.dss_mapping.specs.Mappings.{Mappings, mapping_at, octets_of, run_of}
 use Rattle.dss_mapping.specs.Runs.{covers}
 use Rattle.dss_mapping.specs.declared.kept.KeptMapping.{KeptMapping}
 use Rattle.link_model.specs.Steps.{segments_sent}
@@ -33,11 +33,11 @@ use Rattle.path_agenda.specs.declared.duty.AskDuty.TheVariants as ask_duties
 use Rattle.path_agenda.specs.declared.duty.StepDuty.TheVariants as step_duties
 use Rattle.path_agenda.specs.declared.heard.Heard.{Heard}
 use Rattle.path_store.specs.InfiniteMappings.{covers as covers_from}
-use Rattle.path_store.specs.Passing.{Piece, some_piece, count_in}
+use Rattle.path_store.specs.Passing.{Piece, some_piece, count_in, has_its_sum, is_there, named_piece}
 use Rattle.path_store.specs.declared.infinite_mapping.InfiniteMapping.{InfiniteMapping}
 use Rattle.path_core.specs.Arrival.{judged_in, after_judged, copy_of, owing_if, with_payload}
 use Rattle.path_core.specs.Codec.{Codec}
-use Rattle.path_core.specs.Deliver.{piece_by, piece_of, infinite_piece, plain_piece}
+use Rattle.path_core.specs.Deliver.{failing_by, failing_mapping, mapping_here, piece_by, piece_of, infinite_piece, plain_piece}
 use Rattle.path_core.specs.Duties.{answered}
 use Rattle.path_core.specs.End.{PathEnd}
 use Rattle.path_core.specs.Handover.{handed}
@@ -64,7 +64,7 @@ use Rattle.whole_paths.specs.Brought.{comes_before_keeping, IsToKeep, IsThere, S
 use Rattle.whole_paths.specs.Brought.{IsThere as there}
 use Rattle.whole_paths.specs.Brought.{StaysThere as octet_goes}
 use Rattle.whole_paths.specs.Harms.{longest_way}
-use Rattle.whole_paths.specs.InHand.{IsInHand, IsInOrder, HandGoesOn, HandComesSo, HandsGoOn, WhatIsInHandIsAcknowledged}
+use Rattle.whole_paths.specs.InHand.{IsInHand, IsInOrder, IsPartial, HandGoesOn, HandComesSo, HandsGoOn, WhatIsInHandIsAcknowledged}
 use Rattle.whole_paths.specs.InHand.{HandGoesOn as hand}
 use Rattle.whole_paths.specs.Mapped.{IsToLearn, IsMapped, StaysMapped, KnowsWhatIsTold, PathsKnowWhatIsTold, EndsAreLive, AreLive, MappingsAreLive}
 use Rattle.whole_paths.specs.Mapped.{IsMapped as named}
@@ -134,6 +134,36 @@ named_some m t octet is within at none =
     let high : t.recv.edge < (run_of m).to = ltb-true t.recv.edge (run_of m).to parts.1 in
     some_first (m.place + (t.recv.edge - m.pos)) (count_in t.recv.edge m) octet t.recv.places (omega (arith, low, high, within)) (edge_at t.recv octet at) none
 
+-- octets in order
+filled_far : (n : ℕ) (xs : List (Option ℕ)) → ((i : ℕ) → i < n → IsSome (place_at i xs)) → n ≤ length (filled xs)
+filled_far zero xs all = omega arith
+filled_far (suc n) [] all = absurd (true≢false (sym (all 0 (omega arith))))
+filled_far (suc n) (None ∷ xs) all = absurd (true≢false (sym (all 0 (omega arith))))
+filled_far (suc n) (Some x ∷ xs) all = let rest = filled_far n xs (λ i low. all (suc i) (omega (arith, low))) in let one : length (filled (Some x ∷ xs)) ≡ suc (length (filled xs)) = refl in omega (arith, rest, one)
+
+place_of_octet : (v : Receiving) (pos : ℕ) → v.edge ≤ pos → octet_at pos v ≡ place_at (pos - v.edge) v.places
+place_of_octet v pos low = ap (λ b. if b then None else place_at (pos - v.edge) v.places) (le-ltb pos v.edge low)
+
+octets_far : (v : Receiving) (position : ℕ) → ((pos : ℕ) → v.edge ≤ pos → pos < position → IsSome (octet_at pos v)) → position - v.edge ≤ length (filled v.places)
+octets_far v position all = filled_far (position - v.edge) v.places (λ i low.
+    (let at : v.edge + i - v.edge ≡ i = omega arith in
+    subst (λ j. IsSome (place_at j v.places)) at (subst IsSome (place_of_octet v (v.edge + i) (omega arith)) (all (v.edge + i) (omega arith) (omega (arith, low))))))
+
+-- a mapping that is whole is so with more octets
+there_more : (m : KeptMapping) (edge held more : ℕ) → held ≤ more → is_there m edge held ≡ true → is_there m edge more ≡ true
+there_more m edge held more low is =
+    let a = and_parts (m.pos == edge) _ is in
+    let b = and_parts (nat_lt 0 (octets_of m)) _ a.1 in
+    let c = and_parts (nat_le (octets_of m) held) (nat_le (m.place + octets_of m) (2 ^ 62)) b.1 in
+    let few = leb-true (octets_of m) held c.0 in
+    and_from (m.pos == edge) _ a.0 (and_from (nat_lt 0 (octets_of m)) _ b.0 (and_from (nat_le (octets_of m) more) _ (le-leb (octets_of m) more (omega (arith, few, low))) c.1))
+
+-- one that is whole and right lets octets pass
+right_some : (m : KeptMapping) (t : EndState) (octet : ℕ) → covers t.recv.edge (run_of m) ≡ true → IsWithin m → octet_at t.recv.edge t.recv ≡ Some octet
+    → is_there m t.recv.edge (length (filled t.recv.places)) ≡ true → has_its_sum m (filled t.recv.places) ≡ true → piece_by true (Some m) t ≡ None → ⊥
+right_some m t octet is within at whole right none = named_some m t octet is within at
+    (sym (ap (λ b. if b then some_piece (named_piece m t.recv.edge (filled t.recv.places)) else None) (and_from (is_there m t.recv.edge (length (filled t.recv.places))) _ whole right)) ∙ none)
+
 mapped_some : (o : Option KeptMapping) (t : EndState) (octet : ℕ) → IsSome o → IfSome o (λ m. (covers t.recv.edge (run_of m) ≡ true) × IsWithin m) → octet_at t.recv.edge t.recv ≡ Some octet → piece_by false o t ≡ None → ⊥
 mapped_some None t octet some is at none = true≢false (sym some)
 mapped_some (Some m) t octet some is at none = named_some m t octet is.0 is.1 at none
@@ -167,14 +197,11 @@ octet_of : (payload : List ℕ) (at pos : ℕ) → at ≤ pos → pos < at + len
 octet_of payload at pos low high = ap (λ b. if b then None else slice_get payload (pos - at)) (le-ltb pos at low) ∙ slice_get-get_or payload (pos - at) 0 (omega (arith, low, high))
 
 module _ {C : Type 0} where
-  -- with a mapping there is a piece, and in plain TCP without one
-  piece_some : (s : Side) (octet : ℕ) (p : PathState C) → p.profile.spelling.checksums ≡ false → AreLive (end_at s p).receiving.mappings (end_at s p).tcp.recv.edge
+  -- with a mapping there is a piece, and in plain TCP without one; with checksums one that is whole, unless it fails its check
+  piece_some : (s : Side) (octet position : ℕ) (p : PathState C) → (end_at s p).tcp.recv.edge < position → ((pos : ℕ) → (end_at s p).tcp.recv.edge ≤ pos → pos < position → IsSome (octet_at pos (end_at s p).tcp.recv)) → AreLive (end_at s p).receiving.mappings (end_at s p).tcp.recv.edge
       → octet_at (end_at s p).tcp.recv.edge (end_at s p).tcp.recv ≡ Some octet → IsSome (mapping_at (end_at s p).receiving.mappings (end_at s p).tcp.recv.edge)
-      → (end_at s p).modes.peer_infinite ≡ None → piece_of s p ≡ None → ⊥
-  piece_some s octet p sums live at some finite none = (elim e.modes.identity as (λ b. by b e.modes.peer_infinite ≡ None → ⊥) [
-    | true ↦ λ none. plain_first (t.recv.edge - 1) octet t.recv.places (edge_at t.recv octet at) none
-    | false ↦ λ none. mapped_some here t octet some (mapping_of e.receiving.mappings t.recv.edge t.recv.edge live) at (sym (ap (λ b. piece_by b here t) sums) ∙ sym (ap (by false) finite) ∙ none)
-  ]) none
+      → (end_at s p).modes.peer_infinite ≡ None → piece_of s p ≡ None → IsSome (failing_mapping p.profile (end_at s p)) ⊎ IsPartial s position p
+  piece_some s octet position p behind octets live at some finite none = by_mode e.modes.identity refl
     where
       e : PathEnd
       e = end_at s p
@@ -190,6 +217,40 @@ module _ {C : Type 0} where
           else (if covers_from o t.recv.edge then infinite_piece o t
           else piece_by p.profile.spelling.checksums (if plain || covers_from o t.recv.edge then None else here) t)
 
+      Hinders : Type 0
+      Hinders = IsSome (failing_mapping p.profile e) ⊎ IsPartial s position p
+
+      named : IfSome here (λ m. (covers t.recv.edge (run_of m) ≡ true) × IsWithin m)
+      named = mapping_of e.receiving.mappings t.recv.edge t.recv.edge live
+
+      -- the mapping counts
+      here_is : e.modes.identity ≡ false → mapping_here e ≡ here
+      here_is mapped = ap (λ b. if b || covers_from e.modes.peer_infinite t.recv.edge then None else here) mapped ∙ ap (λ o. if covers_from o t.recv.edge then None else here) finite
+
+      with_sums : p.profile.spelling.checksums ≡ true → e.modes.identity ≡ false → (m : KeptMapping) → here ≡ Some m → (covers t.recv.edge (run_of m) ≡ true) × IsWithin m → piece_by true (Some m) t ≡ None → Hinders
+      with_sums sums mapped m is fits silent = by_whole (is_there m t.recv.edge (position - t.recv.edge)) refl
+        where
+          by_sum : is_there m t.recv.edge (length (filled t.recv.places)) ≡ true → (b : Bool) → has_its_sum m (filled t.recv.places) ≡ b → Hinders
+          by_sum whole true right = absurd (right_some m t octet fits.0 fits.1 at whole right silent)
+          by_sum whole false wrong = inl (ap is_some (ap (λ b. failing_by b (mapping_here e) t) sums ∙ ap (λ o. failing_by true o t) (here_is mapped ∙ is)
+              ∙ ap (λ b. if b && not (has_its_sum m (filled t.recv.places)) then Some m else None) whole ∙ ap (λ b. if not b then Some m else None) wrong))
+
+          by_whole : (b : Bool) → is_there m t.recv.edge (position - t.recv.edge) ≡ b → Hinders
+          by_whole true whole = by_sum (there_more m t.recv.edge (position - t.recv.edge) (length (filled t.recv.places)) (octets_far t.recv position octets) whole) (has_its_sum m (filled t.recv.places)) refl
+          by_whole false short = inr (record { checksums = sums; behind = behind; mapping = m; here = is; short = short })
+
+      by_sums : (b : Bool) → p.profile.spelling.checksums ≡ b → e.modes.identity ≡ false → piece_by b here t ≡ None → Hinders
+      by_sums false sums mapped silent = absurd (mapped_some here t octet some named at silent)
+      by_sums true sums mapped silent = by_mapping here refl some named silent
+        where
+          by_mapping : (o : Option KeptMapping) → here ≡ o → IsSome o → IfSome o (λ m. (covers t.recv.edge (run_of m) ≡ true) × IsWithin m) → piece_by true o t ≡ None → Hinders
+          by_mapping None is some fits silent = absurd (true≢false (sym some))
+          by_mapping (Some m) is some fits silent = with_sums sums mapped m is fits silent
+
+      by_mode : (b : Bool) → e.modes.identity ≡ b → Hinders
+      by_mode true plain = absurd (plain_first (t.recv.edge - 1) octet t.recv.places (edge_at t.recv octet at) (sym (ap (λ b. by b e.modes.peer_infinite) plain) ∙ none))
+      by_mode false mapped = by_sums p.profile.spelling.checksums refl mapped (sym (ap (by false) finite) ∙ sym (ap (λ b. by b e.modes.peer_infinite) mapped) ∙ none)
+
   -- ---- before it is kept and known nothing is sent but a reset
 
   keep_resets : (s : Side) (ds : List Duty) (p : PathState C) → IsToKeep s ds → IfSome (first_sends ds p) (Resets p)
@@ -203,19 +264,19 @@ module _ {C : Type 0} where
 
   -- ---- one turn of a path
 
-  module _ (k : Codec C) (s : Side) (position by_then : ℕ) (p q : PathState C) (no_sums : p.profile.spelling.checksums ≡ false) (Was : PlainSegment → Type 0) where
+  module _ (k : Codec C) (s : Side) (position by_then : ℕ) (p q : PathState C) (Was : PlainSegment → Type 0) where
     abbrev Next : Type 0
     Next = (go : HandGoesOn k s position by_then p q) × HandComesSo Was go
 
     -- each octet is there still, with its mapping, or something else is
-    octet_on : (pos octet : ℕ) → q.profile.spelling.checksums ≡ false → StaysThere s pos octet p q → ((octet : ℕ) × IsThere s pos octet q) ⊎ Next
-    octet_on pos octet sums (octet_goes.on is) = inl (octet, is)
-    octet_on pos octet sums (octet_goes.gone dead) = inr (hand.answered (goes.gone dead), tt)
-    octet_on pos octet sums (octet_goes.reset is) = inr (hand.reset is, tt)
-    octet_on pos octet sums (octet_goes.behind_fin is) = inr (hand.behind_fin is, tt)
-    octet_on pos octet sums (octet_goes.fails is) = absurd (true≢false (sym is.checksums ∙ no_sums))
-    octet_on pos octet sums (octet_goes.fails_untold with_sums reads plain) = absurd (true≢false (sym with_sums ∙ sums))
-    octet_on pos octet sums (octet_goes.dropped is) = inr (hand.dropped is, tt)
+    octet_on : (pos octet : ℕ) → StaysThere s pos octet p q → ((octet : ℕ) × IsThere s pos octet q) ⊎ Next
+    octet_on pos octet (octet_goes.on is) = inl (octet, is)
+    octet_on pos octet (octet_goes.gone dead) = inr (hand.answered (goes.gone dead), tt)
+    octet_on pos octet (octet_goes.reset is) = inr (hand.reset is, tt)
+    octet_on pos octet (octet_goes.behind_fin is) = inr (hand.behind_fin is, tt)
+    octet_on pos octet (octet_goes.fails is) = inr (hand.fails (inl is), tt)
+    octet_on pos octet (octet_goes.fails_untold with_sums reads plain) = inr (hand.untold with_sums reads plain, tt)
+    octet_on pos octet (octet_goes.dropped is) = inr (hand.dropped is, tt)
 
     mapping_on : (pos : ℕ) → StaysMapped s pos p q → IsMapped s pos q ⊎ Next
     mapping_on pos (mapping_goes.on is) = inl is
@@ -236,7 +297,6 @@ module _ {C : Type 0} where
           hand.on (record {
             in_time = (let way = frames.way s in let low = h.in_time in omega (arith, clock, way, low));
             opened = (let low = h.opened in let up = (turned.far s).subflow.state in omega (arith, low, up));
-            no_sums = sums;
             due = due;
             octets = octets;
             mapped = mapped;
@@ -244,12 +304,9 @@ module _ {C : Type 0} where
           tt,
         ))
         (λ next. next)
-        (all_or (λ pos. IsMapped s pos q) Then position (λ pos low. mapping_on k s position by_then p q h.no_sums Was pos (knows.stays s pos (h.mapped pos low)))))
+        (all_or (λ pos. IsMapped s pos q) Then position (λ pos low. mapping_on k s position by_then p q Was pos (knows.stays s pos (h.mapped pos low)))))
         (λ next. next)
-        (all_or (λ pos. (octet : ℕ) × IsThere s pos octet q) Then position (λ pos low. let at = h.octets pos low in octet_on k s position by_then p q h.no_sums Was pos at.0 sums (keeps.stays s pos at.0 at.1)))
-      where
-        sums : q.profile.spelling.checksums ≡ false
-        sums = subst (λ c. c.spelling.checksums ≡ false) (sym frames.profile) h.no_sums
+        (all_or (λ pos. (octet : ℕ) × IsThere s pos octet q) Then position (λ pos low. let at = h.octets pos low in octet_on k s position by_then p q Was pos at.0 (keeps.stays s pos at.0 at.1)))
 
     -- no segment acknowledges less
     module _ (t : ToSend) (sends : first_sends p.agenda p ≡ Some t) (own : t.from ≡ s) (short : (end_at s p).tcp.recv.edge < position) (live : EndsAreLive p) (none : (segment_sent p t).rst ≡ false → piece_of s p ≡ None) where
@@ -259,20 +316,22 @@ module _ {C : Type 0} where
       no_reset : IfSome (first_sends p.agenda p) (Resets p) → (segment_sent p t).rst ≡ false → ⊥
       no_reset all speaks = true≢false (sym (subst (λ (o : Option ToSend). IfSome o (Resets p)) sends all) ∙ speaks)
 
-      kept_at : (segment_sent p t).rst ≡ false → (octet : ℕ) → IsThere s edge octet p → octet_at edge (end_at s p).tcp.recv ≡ Some octet
-      kept_at speaks octet (there.passed low) = absurd (omega (arith, low))
-      kept_at speaks octet (there.kept is) = is.now
-      kept_at speaks octet (there.held at keep) = absurd (no_reset (keep_resets s p.agenda p keep) speaks)
+      kept_at : (segment_sent p t).rst ≡ false → (pos octet : ℕ) → edge ≤ pos → IsThere s pos octet p → octet_at pos (end_at s p).tcp.recv ≡ Some octet
+      kept_at speaks pos octet high (there.passed low) = absurd (omega (arith, low, high))
+      kept_at speaks pos octet high (there.kept is) = is.now
+      kept_at speaks pos octet high (there.held at keep) = absurd (no_reset (keep_resets s p.agenda p keep) speaks)
 
       known_at : (segment_sent p t).rst ≡ false → IsMapped s edge p → IsSome (mapping_at (end_at s p).receiving.mappings edge)
       known_at speaks (named.passed low) = absurd (omega (arith, low))
       known_at speaks (named.known some) = some
       known_at speaks (named.told m first is learn) = absurd (no_reset (learn_resets s (end_at s p).treated.items p.agenda p learn) speaks)
 
-      not_short : (segment_sent p t).rst ≡ false → (end_at s p).modes.peer_infinite ≡ None → ⊥
+      not_short : (segment_sent p t).rst ≡ false → (end_at s p).modes.peer_infinite ≡ None → Then
       not_short speaks finite =
           let at = h.octets edge short in
-          piece_some s at.0 p h.no_sums (live s) (kept_at speaks at.0 at.1) (known_at speaks (h.mapped edge short)) finite (none speaks)
+          ⊎_elim (λ failing. (hand.fails (inr failing), tt)) (λ partial. (hand.partial partial, tt))
+          (piece_some s at.0 position p short (λ pos high low. let here = h.octets pos low in ap is_some (kept_at speaks pos here.0 high here.1)) (live s) (kept_at speaks edge at.0 (le_refl edge) at.1)
+          (known_at speaks (h.mapped edge short)) finite (none speaks))
 
       abbrev sent : PlainSegment
       sent = segment_sent p t
@@ -281,7 +340,7 @@ module _ {C : Type 0} where
       says_so (spoken.acks is speaks) = by (end_at s p).modes.peer_infinite refl
         where
           by : (o : Option InfiniteMapping) → (end_at s p).modes.peer_infinite ≡ o → Then
-          by None finite = absurd (not_short speaks finite)
+          by None finite = not_short speaks finite
           by (Some mapping) is = (hand.infinite (ap is_some is), tt)
       says_so (spoken.syns state none) = absurd (past_opening (end_at s p).tcp.state h.opened state)
 
@@ -476,7 +535,7 @@ module _ {C : Type 0} where
     octet_comes keeps pos below = ⊎_elim
         (λ low. inl (0, there.passed (risen pos low)))
         (λ high. still ((octet : ℕ) × IsThere taker pos octet q) (StaysThere taker pos octet p q)
-        (λ stays. or_else ((octet : ℕ) × IsThere taker pos octet q) (octet_on k taker until soon p q o.no_sums Was pos octet (subst (λ c. c.spelling.checksums ≡ false) (sym frames.profile) o.no_sums) stays))
+        (λ stays. or_else ((octet : ℕ) × IsThere taker pos octet q) (octet_on k taker until soon p q Was pos octet stays))
         (keeps.brings b pos byte (octet_of b.copy.segment.payload b.position pos (let from = o.starts in omega (arith, from, high)) below) (let in_window = o.within in omega (arith, below, in_window))))
         (cases_lt pos (end_at taker p).tcp.recv.edge)
       where
@@ -489,7 +548,7 @@ module _ {C : Type 0} where
     mapping_comes : KnowsWhatIsTold k p q → (pos : ℕ) → pos < until → Or (IsMapped taker pos q)
     mapping_comes knows pos below = ⊎_elim
         (λ low. inl (named.passed (risen pos low)))
-        (λ high. still (IsMapped taker pos q) (StaysMapped taker pos p q) (λ stays. or_else (IsMapped taker pos q) (mapping_on k taker until soon p q o.no_sums Was pos stays))
+        (λ high. still (IsMapped taker pos q) (StaysMapped taker pos p q) (λ stays. or_else (IsMapped taker pos q) (mapping_on k taker until soon p q Was pos stays))
         (knows.tells b o.mapping o.others pos o.held o.says (o.names pos high below)))
         (cases_lt pos (end_at taker p).tcp.recv.edge)
 
@@ -500,7 +559,6 @@ module _ {C : Type 0} where
           hand.on (record {
             in_time = le_refl soon;
             opened = owes.opened;
-            no_sums = subst (λ c. c.spelling.checksums ≡ false) (sym frames.profile) o.no_sums;
             due = owes.due;
             octets = octets;
             mapped = mapped;

@@ -121,7 +121,7 @@ module _ (start : Start) (plan : PathPlan) (one : start.paths ≡ plan ∷ []) (
       goes_on : Next
       goes_on = by_answer (here start mild turns turn before after (AnswerIsAwaitedBy six later)
           (open_asks_are_answered.goes_on start turns turn plan one mild 2 before.here.crew after.here.crew before.here.there after.here.there)
-          before.is_open after.is_open before.faithful.no_sums before.few s h.place h.fin h.by waits)
+          before.is_open after.is_open before.few s h.place h.fin h.by waits)
 
     turn_on : (x : ℕ) → IsOpenAfter start turns → IsOpenAfter start more → AwaitsAnAnswer start x turns → Rises ⊎ AwaitsAnAnswer start x more
     turn_on x before after h = goes_on x before (subst IsOpenNow last after) h

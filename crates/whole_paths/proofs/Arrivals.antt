@@ -77,7 +77,7 @@ sender_of A = refl
 sender_of B = refl
 
 pub each_copy_arrives : EachCopyArrives
-each_copy_arrives s r p f copy whole same there few arrive others first next path sums =
+each_copy_arrives s r p f copy whole same there few arrive others first next path =
     let comes = arrive f there few in record {
       others = others;
       first = first;
@@ -90,7 +90,6 @@ each_copy_arrives s r p f copy whole same there few arrive others first next pat
           ∙ ap (λ b. changed (values.strips p.profile.spelling s) (values.alters p.profile.spelling s) false b (carried_by p.profile.spelling s copy.segment)) same
           ∙ ap (λ t. carried_by p.profile.spelling t copy.segment) (sym (ap peer copy.to ∙ sender_of s));
       joined = path;
-      no_sums = sums;
     }
 
 -- ---- what it means
@@ -232,7 +231,6 @@ module _ (x : PlainSegment) (p : PathState Carried) (a : Arrival x p) (piece : I
           ∙ says_one p.profile to piece.next piece.place x.position (length x.payload) piece.checksum piece.behind_syn piece.low said.window;
       names = λ pos from below. ap (λ b. b && nat_lt pos (min (x.position + length x.payload) (2 ^ 64 - 1))) (le-leb x.position pos (let first = takes.starts in omega (arith, first, from)))
           ∙ lt-ltb pos (min (x.position + length x.payload) (2 ^ 64 - 1)) (let short = piece.short in omega (arith, below, short));
-      no_sums = a.no_sums;
     };
   }
     where

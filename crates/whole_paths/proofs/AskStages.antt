@@ -264,7 +264,7 @@ module _ (books : StampedBooks) (later : SixBooks) (steps : List Note) (p q : Pa
     taken_from : (told : ℕ) → OwesItsEnd told a.sender → TakesFrom a.sender taker
     taken_from told owes_it =
         let header : SameHeader x f.carried.segment = changed_said p.profile.spelling s x a.stripped a.altered f.carried a.carried in
-        let arrives : AskArrives s p f a.sender = each_ask_arrives s p f a so.0.unstripped so.0.unaltered there (numbered f there) t.known.alike others first next t.faithful.joined t.faithful.no_sums in
+        let arrives : AskArrives s p f a.sender = each_ask_arrives s p f a so.0.unstripped so.0.unaltered there (numbered f there) t.known.alike others first next t.faithful.joined in
         let sent : taker.tcp.recv.edge ≤ (end_at s p).tcp.send.nxt = subst (λ u. taker.tcp.recv.edge ≤ (end_at u p).tcp.send.nxt) (sender_of s) (t.known.was_sent (peer s)) in
         let all = none_left (end_at s p).tcp (t.known.reached s) h.none in
         let at = so.0.nxt in
@@ -280,7 +280,7 @@ module _ (books : StampedBooks) (later : SixBooks) (steps : List Note) (p q : Pa
 
     end_comes : (told : ℕ) → OwesItsEnd told a.sender → Goes
     end_comes told owes_it =
-        let e : EndComes told p = each_data_fin_comes s p f a so.0.unstripped so.0.unaltered there (numbered f there) t.known.alike others first next t.faithful.joined t.faithful.no_sums told owes_it (taken_from told owes_it) in
+        let e : EndComes told p = each_data_fin_comes s p f a so.0.unstripped so.0.unaltered there (numbered f there) t.known.alike others first next t.faithful.joined told owes_it (taken_from told owes_it) in
         let to : e.brings.copy.due.to ≡ peer s = sym (ap event_side e.brings.copy.next) ∙ ap event_side next ∙ a.to in
         ⊎_elim
         (λ same. same_goes same)
@@ -403,11 +403,11 @@ record IsTurnOf (w : WorldState Carried) (later : SixBooks) (lines : List Script
   come : (Was : PathEnd → Bool → Bool → Type 0) → AsksComeSo Was values m n
 
 member_goes : (w : WorldState Carried) (later : SixBooks) (lines : List ScriptLine) (steps : List Note) (m n : Actor Carried) → IsTurnOf w later lines steps m n → AnswerIsAwaitedBy (books_in w.books) later m n
-member_goes w later lines steps (Path p) (Path q) x = λ open_p open_q sums few s place fin by h. awaited_goes w.books later steps p q (record {
+member_goes w later lines steps (Path p) (Path q) x = λ open_p open_q few s place fin by h. awaited_goes w.books later steps p q (record {
   known = record { tells = x.shown.tells; behind = x.shown.behind; edge = x.shown.edge; reached = x.reached; came = x.came; was_sent = x.was_sent; link = x.link_is; alike = x.alike; past = x.past };
   open_p = open_p;
   open_q = open_q;
-  faithful = record { joined = open_p.first; no_sums = sums; whole = x.link.strips; plain = x.link.alters };
+  faithful = record { joined = open_p.first; whole = x.link.strips; plain = x.link.alters };
   few = few;
   frames = x.frames;
   far = x.far;

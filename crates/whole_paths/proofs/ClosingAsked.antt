@@ -89,8 +89,8 @@ end_so x p place next checksum sender t a to bare position acks options low fair
     taken = (each_ack_comes x p a bare opened).taken window
 
 pub each_data_fin_comes : EachDataFinComes
-each_data_fin_comes s p f h whole same there few arrive others first next path sums place owes takes =
-    let a = each_ask_arrives s p f h whole same there few arrive others first next path sums in
+each_data_fin_comes s p f h whole same there few arrive others first next path place owes takes =
+    let a = each_ask_arrives s p f h whole same there few arrive others first next path in
     let is = asks_so p.profile s h.sender place owes in
     end_so (ack_resent p.profile s h.sender) p place h.sender.receiving.next _ h.sender (peer s) a.arrival (ap (λ (due : Due). due.to) a.due_is ∙ h.to) a.bare
     (ap (λ (x : PlainSegment). x.position) is) (ap (λ (x : PlainSegment). x.acknowledged) is)

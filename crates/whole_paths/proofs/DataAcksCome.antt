@@ -175,7 +175,7 @@ probe_at c s e third close owed =
     ∙ ap (λ b. (if b then ack_said c s e.tcp.send.nxt e.sending.known_end e else ack_said c s (e.tcp.send.una - 1) None e).position) owed
 
 pub each_ask_arrives : EachAskArrives
-each_ask_arrives s p f h whole same there few arrive others first next path sums =
+each_ask_arrives s p f h whole same there few arrive others first next path =
     let comes = arrive f there few in record {
       arrival = record {
         others = others;
@@ -189,7 +189,6 @@ each_ask_arrives s p f h whole same there few arrive others first next path sums
             ∙ ap (λ b. changed (values.strips p.profile.spelling s) (values.alters p.profile.spelling s) false b (carried_by p.profile.spelling s (ack_resent p.profile s h.sender))) same
             ∙ ap (λ t. carried_by p.profile.spelling t (ack_resent p.profile s h.sender)) (sym (ap peer h.to ∙ sender_of s));
         joined = path;
-        no_sums = sums;
       };
       due_is = refl;
       bare = resent_bare p.profile s h.sender h.sender.modes.owes_third h.sender.notices.fast_closed (is_data_fin_owed h.sender);

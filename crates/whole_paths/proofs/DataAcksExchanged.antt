@@ -246,7 +246,6 @@ module _ (steps : List Note) (p q : PathState Carried) (known : Known p) (faithf
           ∙ ap (λ b. changed (values.strips p.profile.spelling (peer s)) (values.alters p.profile.spelling (peer s)) false b (carried_by p.profile.spelling (peer s) h.segment)) (h.plain faithful.plain)
           ∙ ap (λ t. carried_by p.profile.spelling t h.segment) (sym (ap peer h.to ∙ sender_of (peer s)));
       joined = faithful.joined;
-      no_sums = faithful.no_sums;
     }
 
     answer_header : SameHeader h.segment f.carried.segment
@@ -319,7 +318,7 @@ module _ (steps : List Note) (p q : PathState Carried) (known : Known p) (faithf
     taker = end_at (peer s) p
 
     ask_arrives : AskArrives s p f h.sender
-    ask_arrives = each_ask_arrives s p f h so.unstripped so.unaltered there (numbered f there) known.alike others first next faithful.joined faithful.no_sums
+    ask_arrives = each_ask_arrives s p f h so.unstripped so.unaltered there (numbered f there) known.alike others first next faithful.joined
 
     arrives_to : ask_arrives.arrival.due.to ≡ peer s
     arrives_to = ap (λ (due : Due). due.to) ask_arrives.due_is ∙ h.to
@@ -349,7 +348,7 @@ module _ (steps : List Note) (p q : PathState Carried) (known : Known p) (faithf
     -- the DATA_FIN is taken in the window
     fin_comes : 2 ≤ stage (end_at s p).tcp.state → 3 ≤ stage taker.tcp.state → (told : ℕ) → OwesItsEnd told h.sender → TakesFrom h.sender taker → Goes
     fin_comes high opened told owes_it takes =
-        let e : EndComes told p = each_data_fin_comes s p f h so.unstripped so.unaltered there (numbered f there) known.alike others first next faithful.joined faithful.no_sums told owes_it takes in
+        let e : EndComes told p = each_data_fin_comes s p f h so.unstripped so.unaltered there (numbered f there) known.alike others first next faithful.joined told owes_it takes in
         let to : e.brings.copy.due.to ≡ peer s = side_is e.brings.copy in
         ⊎_elim
         (λ same. same_goes same still)

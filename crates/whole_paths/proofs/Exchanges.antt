@@ -67,7 +67,7 @@ use Rattle.whole_paths.specs.Brought.{Comes}
 use Rattle.whole_paths.specs.Came.{AcksWhatCame, HasCome}
 use Rattle.whole_paths.specs.Copies.{IsUnderWay}
 use Rattle.whole_paths.specs.Due.{CopiesArriveSo}
-use Rattle.whole_paths.specs.Exchanges.{IsFaithful, IsSentWhole, IsBareWithin, IsExchanged, IsHeldUp, IsAstray, ExchangeGoesOn, ExchangesGoOn, ExchangesBegin, ExchangesEnd, EachRecordIsAcknowledged}
+use Rattle.whole_paths.specs.Exchanges.{IsFaithful, IsSentWhole, IsBareWithin, IsExchanged, IsHeldUp, ExchangeGoesOn, ExchangesGoOn, ExchangesBegin, ExchangesEnd, EachRecordIsAcknowledged}
 use Rattle.whole_paths.specs.Exchanges.IsExchanged.{comes, in_hand, answered, acknowledged}
 use Rattle.whole_paths.specs.Exchanges.{IsHeldUp as held}
 use Rattle.whole_paths.specs.Exchanges.{IsAstray as stray}
@@ -77,7 +77,7 @@ use Rattle.whole_paths.specs.Flights.{GoesOnTo as way}
 use Rattle.whole_paths.specs.Flights.{IsOnItsWay as ways}
 use Rattle.whole_paths.specs.Harms.{longest_way}
 use Rattle.whole_paths.specs.Hearing.{Counts, PathsCount}
-use Rattle.whole_paths.specs.InHand.{HandGoesOn, HandComesSo, IsInHand}
+use Rattle.whole_paths.specs.InHand.{HandGoesOn, HandComesSo, IsInHand, IsPartial}
 use Rattle.whole_paths.specs.InHand.{HandGoesOn as hand}
 use Rattle.whole_paths.specs.InTime.{ComesFrom}
 use Rattle.whole_paths.specs.Kept.{AreKept, IsSameRecord, KeepsWhatWaits, EndsKeepWhatWaits}
@@ -188,7 +188,6 @@ pub hand_later : (s : Side) (position before later : ℕ) (q : PathState Carried
 hand_later s position before later q low h = record {
   in_time = let in_time = h.in_time in omega (arith, in_time, low);
   opened = h.opened;
-  no_sums = h.no_sums;
   due = h.due;
   octets = h.octets;
   mapped = h.mapped;
@@ -212,7 +211,7 @@ pub answer_later : (Was : PlainSegment → Type 0) (s : Side) (position less bef
 answer_later Was s position less before later q few low (owes in_time opened came due) so = (owes (omega (arith, in_time, low)) opened (omega (arith, came, few)) due, tt)
 answer_later Was s position less before later q few low (flies f in_time there h) so = (flies f (omega (arith, in_time, low)) there (less_covered s position less q f few h), so)
 
-bare_later : (s : Side) (position n edge next more : ℕ) (q : PathState Carried) → next ≤ more → (h : IsAnswered values s position n q) → IsAnsweredSo (IsBareWithin edge next) h → IsAnsweredSo (IsBareWithin edge more) h
+pub bare_later : (s : Side) (position n edge next more : ℕ) (q : PathState Carried) → next ≤ more → (h : IsAnswered values s position n q) → IsAnsweredSo (IsBareWithin edge next) h → IsAnsweredSo (IsBareWithin edge more) h
 bare_later s position n edge next more q up (owes in_time opened came due) so = tt
 bare_later s position n edge next more q up (flies f in_time there h) so =
     record { from = so.from; up_to = (let low = so.up_to in omega (arith, low, up)); syn = so.syn; fin = so.fin; payload = so.payload }
@@ -276,13 +275,13 @@ changed_said spelling s x strips alters carried is = subst (λ (c : Carried). Sa
 -- ---- one turn of a path
 
 -- what the laws of one turn say of it, side by side
-record IsTurn (p q : PathState Carried) : Type 0 where
-  kept : (s : Side) → KeepsWhatWaits (end_at s p) (end_at s q)
-  frames : Frames p q
-  far : (s : Side) → (end_at s p).tcp.recv.edge ≤ (end_at s q).tcp.recv.edge
-  pushed : (s : Side) → (end_at s p).tcp.send.nxt ≤ (end_at s q).tcp.send.nxt
-  later : (s : Side) → stage (end_at s p).tcp.state ≤ stage (end_at s q).tcp.state
-  counts : Counts values p q
+pub record IsTurn (p q : PathState Carried) : Type 0 where
+  pub kept : (s : Side) → KeepsWhatWaits (end_at s p) (end_at s q)
+  pub frames : Frames p q
+  pub far : (s : Side) → (end_at s p).tcp.recv.edge ≤ (end_at s q).tcp.recv.edge
+  pub pushed : (s : Side) → (end_at s p).tcp.send.nxt ≤ (end_at s q).tcp.send.nxt
+  pub later : (s : Side) → stage (end_at s p).tcp.state ≤ stage (end_at s q).tcp.state
+  pub counts : Counts values p q
 
 module _ (p q : PathState Carried) (known : Known p) (faithful : IsFaithful p) (few : (t : Side) → segments_sent t p.link < 2 ^ 64 - 1) (turn : IsTurn p q)
     (s : Side) (acks_first : AcksGoFirst p) (hands : HandsComeSo (IsBareWithin (end_at s p).tcp.recv.edge (end_at (peer s) p).tcp.send.nxt) values (Path p) (Path q))
@@ -290,10 +289,10 @@ module _ (p q : PathState Carried) (known : Known p) (faithful : IsFaithful p) (
   abbrev Bare : PlainSegment → Type 0
   Bare = IsBareWithin (end_at s p).tcp.recv.edge (end_at (peer s) p).tcp.send.nxt
 
-  numbered : (f : Flight Carried) → IsUnderWay f p → f.number < 2 ^ 64 - 1
+  pub numbered : (f : Flight Carried) → IsUnderWay f p → f.number < 2 ^ 64 - 1
   numbered f there = let low = under_way (λ g. g.number ≤ segments_sent (peer g.to) p.link) f p there known.link.low in let most = few (peer f.to) in omega (arith, low, most)
 
-  tick_from : (f : Flight Carried) → IsUnderWay f p → p.clock ≤ f.tick
+  pub tick_from : (f : Flight Carried) → IsUnderWay f p → p.clock ≤ f.tick
   tick_from f there = subst (λ (g : Flight Carried). p.clock ≤ g.tick) there.holds (all_at (λ (g : Flight Carried). p.clock ≤ g.tick) p.link.under_way there.at there.item there.there known.past.copies)
 
   -- what a copy acknowledges that is no reset came to its sender
@@ -304,7 +303,7 @@ module _ (p q : PathState Carried) (known : Known p) (faithful : IsFaithful p) (
       (under_way (AcksWhatCame p) f p there known.came.copies)
 
   -- and so it was sent
-  acked_sent : (f : Flight Carried) (n : ℕ) → IsUnderWay f p → f.carried.segment.rst ≡ false → f.carried.segment.acknowledged ≡ Some n → n ≤ (end_at f.to p).tcp.send.nxt
+  pub acked_sent : (f : Flight Carried) (n : ℕ) → IsUnderWay f p → f.carried.segment.rst ≡ false → f.carried.segment.acknowledged ≡ Some n → n ≤ (end_at f.to p).tcp.send.nxt
   acked_sent f n there rst acks =
       let low = acked_low f n there rst acks in
       let sent = subst (λ t. (end_at (peer f.to) p).tcp.recv.edge ≤ (end_at t p).tcp.send.nxt) (sender_of f.to) (known.was_sent (peer f.to)) in
@@ -348,7 +347,7 @@ module _ (p q : PathState Carried) (known : Known p) (faithful : IsFaithful p) (
     to_sender = h.to ∙ sender_of s
 
     abbrev Heard : Type 0
-    Heard = (q ≡ p) ⊎ ((position ≤ (end_at s q).tcp.send.una) ⊎ ((r : Record) → IsHeldUp s p q ⊎ IsAstray s r p q))
+    Heard = (q ≡ p) ⊎ ((position ≤ (end_at s q).tcp.send.una) ⊎ (IsHeldUp s p q ⊎ ((end_at s p).tcp.recv.edge + 1048576 < (end_at (peer s) p).tcp.send.nxt)))
 
     is_taken : 2 ≤ stage hearer.tcp.state → is_dead hearer.tcp.state ≡ false → f.carried.segment.syn ≡ false → is_acceptable hearer.tcp.recv.edge f.carried.segment.position (copy_of said) ≡ true
         → 0 < h.covers.up_to → Heard
@@ -381,7 +380,7 @@ module _ (p q : PathState Carried) (known : Known p) (faithful : IsFaithful p) (
         (and_from (length (copy_of said).payload == 0) (f.carried.segment.position == hearer.tcp.recv.edge + 1048576)
         (ap (λ (o : List ℕ). length o == 0) (header.payload is_bare.payload)) (eq-eqb f.carried.segment.position (hearer.tcp.recv.edge + 1048576) is)))
 
-    answer_comes : 0 < position → Heard
+    pub answer_comes : 0 < position → Heard
     answer_comes some = by_life (subst (λ t. 2 ≤ stage (end_at t p).tcp.state) (sym to_sender) opened) (is_dead hearer.tcp.state) refl
       where
         by_window : 2 ≤ stage hearer.tcp.state → is_dead hearer.tcp.state ≡ false → Heard
@@ -391,14 +390,29 @@ module _ (p q : PathState Carried) (known : Known p) (faithful : IsFaithful p) (
             (ap (λ b. b && nat_lt f.carried.segment.position (hearer.tcp.recv.edge + 1048576)) (le-leb hearer.tcp.recv.edge f.carried.segment.position not_before) ∙ lt-ltb f.carried.segment.position (hearer.tcp.recv.edge + 1048576) below))
             (let enough = h.covers.enough in omega (arith, enough, some)))
             (λ above. ⊎_elim
-            (λ past. inr (inr (λ r. inr (stray.past_window (let edge = ap (λ t. (end_at t p).tcp.recv.edge) to_sender in let at = header.position in let most = is_bare.up_to in omega (arith, past, edge, at, most))))))
+            (λ past. inr (inr (inr (let edge = ap (λ t. (end_at t p).tcp.recv.edge) to_sender in let at = header.position in let most = is_bare.up_to in omega (arith, past, edge, at, most)))))
             (λ few. is_taken opened living syn_is (at_edge (omega (arith, above, few))) (let enough = h.covers.enough in omega (arith, enough, some)))
             (cases_lt (hearer.tcp.recv.edge + 1048576) f.carried.segment.position))
             (cases_lt f.carried.segment.position (hearer.tcp.recv.edge + 1048576))
 
         by_life : 2 ≤ stage hearer.tcp.state → (b : Bool) → is_dead hearer.tcp.state ≡ b → Heard
-        by_life opened true is = inr (inr (λ r. inl (held.gone listener (inl is))))
+        by_life opened true is = inr (inr (inl (held.gone listener (inl is))))
         by_life opened false is = by_window opened is
+
+  -- what goes from the peer while it owes an acknowledgement
+  pub acks_bare : is_dead (end_at (peer s) p).tcp.state ≡ false → GoesSo Bare (peer s) p
+  acks_bare living t sends own due unreset =
+      by (subst (λ (o : Option ToSend). IfSome o (λ t. t.from ≡ peer s → IsBareAck p.profile (peer s) (end_at (peer s) p) (segment_sent p t))) sends (acks_first (peer s) living due) own)
+    where
+      by : IsBareAck p.profile (peer s) (end_at (peer s) p) (segment_sent p t) → Bare (segment_sent p t)
+      by (bare.acks is) = record {
+        from = (let low = known.was_sent s in let at = ap (λ (x : PlainSegment). x.position) is in omega (arith, at, low));
+        up_to = (let at = ap (λ (x : PlainSegment). x.position) is in omega (arith, at));
+        syn = ap (λ (x : PlainSegment). x.syn) is;
+        fin = ap (λ (x : PlainSegment). x.fin) is;
+        payload = ap (λ (x : PlainSegment). x.payload) is;
+      }
+      by (bare.resets is) = absurd (true≢false (sym is ∙ unreset))
 
   -- ---- what becomes of it
 
@@ -431,7 +445,7 @@ module _ (p q : PathState Carried) (known : Known p) (faithful : IsFaithful p) (
         (λ same. (let later = answer_later Bare (peer s) position (end_of r) before until p enough low (flies f in_time there h) so in same_goes same (answered opened later.0 later.1)))
         (λ x. ⊎_elim
         (λ reached. goes.on (acknowledged (omega (arith, enough, reached))))
-        (λ hindered. ⊎_elim (λ y. goes.held_up y) (λ y. goes.astray y) (hindered r))
+        (λ hindered. ⊎_elim (λ y. goes.held_up y) (λ y. goes.astray (stray.past_window y)) hindered)
         x)
         (answer_comes position f there h so opened others first next (omega (arith, enough, some)))
     answer_goes position before enough low some (answer.harmed less) so = goes.held_up (held.harmed less)
@@ -450,6 +464,9 @@ module _ (p q : PathState Carried) (known : Known p) (faithful : IsFaithful p) (
     hand_goes position before same low some (hand.plain h) so = goes.astray (stray.plain (peer s) (inr h))
     hand_goes position before same low some (hand.unkeyed h) so = goes.astray (stray.unkeyed h)
     hand_goes position before same low some (hand.infinite h) so = goes.astray (stray.infinite (inr h))
+    hand_goes position before same low some (hand.fails h) so = goes.astray (stray.fails h)
+    hand_goes position before same low some (hand.untold sums reads mapped) so = goes.astray (stray.untold sums reads mapped)
+    hand_goes position before same low some (hand.partial h) so = goes.astray (stray.partial (subst (λ n. IsPartial (peer s) n p) same h))
 
     -- ---- a copy of it comes
 
@@ -463,7 +480,7 @@ module _ (p q : PathState Carried) (known : Known p) (faithful : IsFaithful p) (
       taker = end_at (peer s) p
 
       comes_now : Arrival copied p
-      comes_now = each_copy_arrives s r p f copy sent.unstripped sent.unaltered there (numbered f there) known.alike others first next faithful.joined faithful.no_sums
+      comes_now = each_copy_arrives s r p f copy sent.unstripped sent.unaltered there (numbered f there) known.alike others first next faithful.joined
 
       piece : IsPiece copied
       piece = each_mapped_record_is_a_piece p.profile s r copy.sender copied sent.mapped copy.of_it copy.says
@@ -619,21 +636,6 @@ module _ (p q : PathState Carried) (known : Known p) (faithful : IsFaithful p) (
         by_plain true is = goes.astray (stray.plain s (inl is))
         by_plain false is = by_infinite is (end_at s p).modes.own_infinite refl
 
-    -- what goes from the peer while it owes an acknowledgement
-    acks_bare : is_dead (end_at (peer s) p).tcp.state ≡ false → GoesSo Bare (peer s) p
-    acks_bare living t sends own due unreset =
-        by (subst (λ (o : Option ToSend). IfSome o (λ t. t.from ≡ peer s → IsBareAck p.profile (peer s) (end_at (peer s) p) (segment_sent p t))) sends (acks_first (peer s) living due) own)
-      where
-        by : IsBareAck p.profile (peer s) (end_at (peer s) p) (segment_sent p t) → Bare (segment_sent p t)
-        by (bare.acks is) = record {
-          from = (let low = known.was_sent s in let at = ap (λ (x : PlainSegment). x.position) is in omega (arith, at, low));
-          up_to = (let at = ap (λ (x : PlainSegment). x.position) is in omega (arith, at));
-          syn = ap (λ (x : PlainSegment). x.syn) is;
-          fin = ap (λ (x : PlainSegment). x.fin) is;
-          payload = ap (λ (x : PlainSegment). x.payload) is;
-        }
-        by (bare.resets is) = absurd (true≢false (sym is ∙ unreset))
-
     -- unless the peer is dead
     if_bare : (GoesSo Bare (peer s) p → Goes) → Goes
     if_bare then_so = by_life (is_dead (end_at (peer s) p).tcp.state) refl
@@ -668,7 +670,7 @@ module _ (p : PathState Carried) (past : ComesFrom p.clock p) where
   way_from s r n (ways.resends low is first) = omega (arith, low)
   way_from s r n (ways.flies f low there copy) = let from = flight_from f there in omega (arith, from, low)
 
-  answer_from : (s : Side) (position n : ℕ) → IsAnswered values s position n p → p.clock ≤ n
+  pub answer_from : (s : Side) (position n : ℕ) → IsAnswered values s position n p → p.clock ≤ n
   answer_from s position n (owes low opened came due) = omega (arith, low)
   answer_from s position n (flies f low there h) = let from = flight_from f there in omega (arith, from, low)
 

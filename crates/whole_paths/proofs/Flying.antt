@@ -85,7 +85,7 @@ pub same_record : (r : Record) → IsSameRecord r r
 same_record r = record { pos = refl; kind = refl; piece = refl; mapping = refl }
 
 -- the first one stays first, or SND.UNA rises
-first_stays : (r : Record) (e f : PathEnd) → KeepsWhatWaits e f → IsFirst r e → IsFirst r f ⊎ IsNews e f
+pub first_stays : (r : Record) (e f : PathEnd) → KeepsWhatWaits e f → IsFirst r e → IsFirst r f ⊎ IsNews e f
 first_stays r e f kept h =
     by f.tcp.send.records refl
     (subst (λ rs. AreKept (λ (x : Record). (e.tcp.send.una < f.tcp.send.una) × (end_of x ≤ f.tcp.send.una)) IsSameRecord rs f.tcp.send.records) h.records kept.records)

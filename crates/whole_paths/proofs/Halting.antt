@@ -1,11 +1,10 @@
 -- A side that halts at the edge of its peer's window does so until the window opens or more is heard.
-use Rattle.std.proofs.Common.{◌≡◌, refl, sym, subst, ap, ◌∙◌, ◌⊎◌, inl, inr, ⊎_elim, ℕ, zero, suc, ◌+◌, ◌-◌, ◌<◌, ◌≤◌, ◌==◌, ◌&&◌, ◌||◌, arith, max, min, Bool, true, false, true≢false, cond, if◌then◌else◌, Ok, Err, Result, Option, Some, None, List, [], ◌∷◌, ◌++◌, drop, le_refl, length, length-append, map, set, take, replicate}
+use Rattle.std.proofs.Common.{◌≡◌, refl, sym, subst, ap, ◌∙◌, ◌⊎◌, inl, inr, ⊎_elim, ℕ, zero, suc, ◌+◌, ◌-◌, ◌<◌, ◌≤◌, ◌==◌, ◌&&◌, ◌||◌, arith, max, min, Bool, true, false, true≢false, if◌then◌else◌, Ok, Err, Result, Option, Some, None, List, [], ◌∷◌, ◌++◌, drop, le_refl, length, length-append, map, set, take, replicate}
 use Rattle.std.specs.List.{slice_get}
 use Rattle.std.proofs.Math.Nat.{le-max_right}
 use Rattle.std.proofs.lemmas.Bool.{and_parts, cases_eq, cases_lt, eqb-true}
 use Rattle.std.proofs.lemmas.Option.{same_Some}
 use Rattle.std.proofs.lemmas.List.{length-drop, length-take}
-use Rattle.std.proofs.lemmas.List.Sums.{sum_by-cons}
 use Rattle.sides.specs.declared.side.Side.{Side}
 use Rattle.sides.specs.declared.side.Side.TheVariants.{A, B}
 use Rattle.send_book.specs.declared.call.SendCall.{SendCall}
@@ -14,8 +13,8 @@ use Rattle.send_book.specs.declared.call.SendReply.TheVariants as send_replies
 use Rattle.send_book.specs.declared.call.Span.{Span}
 use Rattle.send_book.specs.declared.call.Why.{Why}
 use Rattle.send_book.specs.declared.mark.ByteMark.{ByteMark}
-use Rattle.send_book.specs.declared.mark.ByteMark.TheVariants.{Acked, Free, Held}
-use Rattle.send_book.specs.Marks.{is_acked, returned}
+use Rattle.send_book.specs.declared.mark.ByteMark.TheVariants.{Acked, Free}
+use Rattle.send_book.specs.Marks.{returned}
 use Rattle.send_book.specs.State.{Sending, acked_len, new_sending}
 use Rattle.send_book.specs.Steps.{after_call, bytes_taken, decision, fin_after, given_by, is_future, is_gathered, reply_by}
 use Rattle.send_book.specs.Tried.{no_paths}
@@ -24,7 +23,7 @@ use Rattle.control_book.specs.declared.call.ControlCall.{ControlCall}
 use Rattle.send_book.proofs.Decisions.{MayTake, decision-MayTake}
 use Rattle.stream_lanes.specs.Marks.{AreAcked, tried}
 use Rattle.stream_lanes.proofs.Lists.{set_other, set_same}
-use Rattle.stream_lanes.proofs.MarkLists.{tried-returned, tried-written}
+use Rattle.stream_lanes.proofs.MarkLists.{AreAcked-acked, AreAcked-count, AreAcked-returned, AreAcked-written, tried-acked, tried-returned, tried-written}
 use Rattle.actor_desk.specs.Books.{books_in}
 use Rattle.actor_desk.specs.Desk.{SixBooks, after_ask, reply_of, send_of}
 use Rattle.actor_desk.specs.declared.ask.Ask.{Ask}
@@ -83,39 +82,11 @@ use Rattle.whole_paths.proofs.RoundBegins.{next_rests}
 use Rattle.whole_paths.proofs.Standing.{MemberServes, Serves, duty_serves, opened_serves, run_serves}
 use Rattle.whole_paths.proofs.Unstopped.{mild_paths_are_never_stopped}
 
--- ---- marks
-
--- what is acknowledged is so once more
-kept_marks : (k n : ℕ) (ms : List ByteMark) → k ≤ n → AreAcked n ms → replicate (min k (length ms)) Acked ++ drop k ms ≡ ms
-kept_marks zero n ms low all = ap (λ (n : ℕ). replicate n Acked ++ ms) (let none : min 0 (length ms) ≡ 0 = omega arith in none)
-kept_marks (suc k) zero ms low all = absurd (omega (arith, low))
-kept_marks (suc k) (suc n) [] low all = cc
-kept_marks (suc k) (suc n) (Acked ∷ ms) low all = ap (λ (n : ℕ). replicate n Acked ++ drop k ms) (let one : min (suc k) (suc (length ms)) ≡ suc (min k (length ms)) = omega arith in one) ∙ ap (λ xs. Acked ∷ xs) (kept_marks k n ms (omega (arith, low)) all.1)
-kept_marks (suc k) (suc n) (Held holder among ∷ ms) low all = absurd (true≢false (sym all.0))
-kept_marks (suc k) (suc n) (Free among ∷ ms) low all = absurd (true≢false (sym all.0))
-
-none_new : (n : ℕ) → acked_len (replicate n (Free no_paths)) ≡ 0
-none_new zero = refl
-none_new (suc n) = (let rest = none_new n in omega (arith, rest, sum_by-cons (λ (y : ByteMark). cond (is_acked y) 1 0) (Free no_paths) (replicate n (Free no_paths))))
-
-acked_written : (n : ℕ) (ms : List ByteMark) → acked_len (ms ++ replicate n (Free no_paths)) ≡ acked_len ms
-acked_written n [] = none_new n
-acked_written n (m ∷ ms) = (let rest = acked_written n ms in
-    omega (arith, rest, sum_by-cons (λ (y : ByteMark). cond (is_acked y) 1 0) m (ms ++ replicate n (Free no_paths)), sum_by-cons (λ (y : ByteMark). cond (is_acked y) 1 0) m ms))
-
-one_returned : (path : ℕ) (m : ByteMark) → is_acked (returned path m) ≡ is_acked m
-one_returned path Acked = refl
-one_returned path (Held holder among) = elim (holder == path) as (λ b. is_acked (if b then Free among else Held holder among) ≡ false) [ true ↦ refl | false ↦ refl ]
-one_returned path (Free among) = refl
-
-acked_returned : (path : ℕ) (ms : List ByteMark) → acked_len (map (returned path) ms) ≡ acked_len ms
-acked_returned path [] = refl
-acked_returned path (m ∷ ms) = (let rest = acked_returned path ms in let same = ap (λ b. cond {A = ℕ} b 1 0) (one_returned path m) in
-    omega (arith, rest, same, sum_by-cons (λ (y : ByteMark). cond (is_acked y) 1 0) (returned path m) (map (returned path) ms), sum_by-cons (λ (y : ByteMark). cond (is_acked y) 1 0) m ms))
-
 -- ---- a book
 
+-- the first bytes are acknowledged and no others, some aren't, and path 0 tried none of these
 record Halts (b : Sending) : Type 0 where
+  first : AreAcked (acked_len b.marks) b.marks
   left : acked_len b.marks < length b.written
   untried : AllIsAcknowledged 0 b
 
@@ -126,6 +97,13 @@ either_halts false b d x y = y
 less_tried : (o p : Option ByteMark) → (tried 0 o ≡ true → tried 0 p ≡ true) → tried 0 p ≡ false → tried 0 o ≡ false
 less_tried o p less none = (elim (tried 0 o) as (λ c. tried 0 o ≡ c → c ≡ false) [ true ↦ λ is. absurd (true≢false (sym (less is) ∙ none)) | false ↦ λ is. refl ]) refl
 
+-- no more is acknowledged or tried
+same_halts : (b d : Sending) → length b.written ≤ length d.written → AreAcked (acked_len b.marks) d.marks → ((place : ℕ) → tried 0 (slice_get d.marks place) ≡ true → tried 0 (slice_get b.marks place) ≡ true) → Halts b → Halts d
+same_halts b d more are less h =
+    let count = AreAcked-count (acked_len b.marks) d.marks are in
+    let left = h.left in
+    record { first = subst (λ n. AreAcked n d.marks) (sym count) are; left = omega (arith, count, left, more); untried = λ place. less_tried (slice_get d.marks place) (slice_get b.marks place) (less place) (h.untried place) }
+
 -- a call that neither asks for bytes nor acknowledges some
 abbrev IsQuiet : SendCall → Type 0
 IsQuiet (calls.Grant asker max standby) = ⊥
@@ -133,41 +111,35 @@ IsQuiet (calls.AckIn next window) = ⊥
 IsQuiet _ = Unit {0}
 
 halts_call : (b : Sending) (call : SendCall) → IsQuiet call → Halts b → Halts (after_call b call)
-halts_call b (calls.Write bytes) quiet h = either_halts (b.closed || b.aborted) b _ h (record {
-  left = (let left = h.left in let same = acked_written (bytes_taken bytes b) b.marks in let more = length-append b.written (take (bytes_taken bytes b) bytes) in omega (arith, left, same, more));
-  untried = λ place. less_tried (slice_get (b.marks ++ replicate (bytes_taken bytes b) (Free no_paths)) place) (slice_get b.marks place) (tried-written 0 place (bytes_taken bytes b) b.marks) (h.untried place);
-})
-halts_call b calls.Close quiet h = either_halts b.aborted b _ h (record { left = h.left; untried = h.untried })
-halts_call b (calls.Return asker) quiet h = record {
-  left = (let left = h.left in let same = acked_returned asker b.marks in omega (arith, left, same));
-  untried = λ place. less_tried (slice_get (map (returned asker) b.marks) place) (slice_get b.marks place) (tried-returned asker 0 place b.marks) (h.untried place);
-}
-halts_call b calls.GoIdentity quiet h = record { left = h.left; untried = h.untried }
-halts_call b (calls.GoInfinite asker) quiet h = either_halts (is_gathered asker b) _ b (record { left = h.left; untried = h.untried }) h
-halts_call b calls.Abort quiet h = record { left = h.left; untried = h.untried }
+halts_call b (calls.Write bytes) quiet h =
+    either_halts (b.closed || b.aborted) b _ h (same_halts b (record b { written = b.written ++ take (bytes_taken bytes b) bytes; marks = b.marks ++ replicate (bytes_taken bytes b) (Free no_paths) })
+    (omega (arith, length-append b.written (take (bytes_taken bytes b) bytes))) (AreAcked-written (acked_len b.marks) (bytes_taken bytes b) b.marks h.first) (λ place. tried-written 0 place (bytes_taken bytes b) b.marks) h)
+halts_call b calls.Close quiet h = either_halts b.aborted b _ h (record { first = h.first; left = h.left; untried = h.untried })
+halts_call b (calls.Return asker) quiet h =
+    same_halts b (record b { marks = map (returned asker) b.marks }) (le_refl (length b.written)) (AreAcked-returned asker (acked_len b.marks) b.marks h.first) (λ place. tried-returned asker 0 place b.marks) h
+halts_call b calls.GoIdentity quiet h = record { first = h.first; left = h.left; untried = h.untried }
+halts_call b (calls.GoInfinite asker) quiet h = either_halts (is_gathered asker b) _ b (record { first = h.first; left = h.left; untried = h.untried }) h
+halts_call b calls.Abort quiet h = record { first = h.first; left = h.left; untried = h.untried }
 halts_call b (calls.Grant asker most standby) quiet h = absurd quiet
 halts_call b (calls.AckIn next window) quiet h = absurd quiet
 
 -- an acknowledgement of no more
-halts_ack : (b : Sending) (next window : ℕ) → AreAcked (acked_len b.marks) b.marks → next ≤ acked_len b.marks → Halts b → Halts (after_call b (calls.AckIn next window))
-halts_ack b next window all low h = either_halts (is_future next b) b _ h (same _ (kept_marks next (acked_len b.marks) b.marks low all))
-  where
-    same : (ms : List ByteMark) → ms ≡ b.marks → Halts (record b { marks = ms; edge = max b.edge (next + window); fin = fin_after next b })
-    same ms is = record {
-      left = subst (λ (ms : List ByteMark). acked_len ms < length b.written) (sym is) h.left;
-      untried = λ place. subst (λ (ms : List ByteMark). tried 0 (slice_get ms place) ≡ false) (sym is) (h.untried place);
-    }
+halts_ack : (b : Sending) (next window : ℕ) → next ≤ acked_len b.marks → Halts b → Halts (after_call b (calls.AckIn next window))
+halts_ack b next window low h =
+    let c = min next (length b.marks) in
+    either_halts (is_future next b) b _ h (same_halts b (record b { marks = replicate c Acked ++ drop next b.marks; edge = max b.edge (next + window); fin = fin_after next b }) (le_refl (length b.written))
+    (AreAcked-acked (acked_len b.marks) next c (acked_len b.marks) b.marks refl (omega (arith, low)) h.first) (λ place. tried-acked 0 place next c b.marks refl) h)
 
 -- what a step of another book, or of none of these calls, leaves
 data Step (six after : SixBooks) (s : Side) (x : Ask) : Type 0 where
   halted : Halts (send_of s after) → Step six after s x
   acks : (next window : ℕ) → x ≡ asks.Send s (calls.AckIn next window) → is_future next (send_of s six) ≡ false → acked_len (send_of s six).marks < next → Step six after s x
 
-one_call : (s : Side) (call : SendCall) (six : SixBooks) → AreAcked (acked_len (send_of s six).marks) (send_of s six).marks → asks_grant s (asks.Send s call) ≡ false → Halts (send_of s six) → Step six (after_ask (asks.Send s call) six) s (asks.Send s call)
-one_call s (calls.Grant asker most standby) six all quiet h = absurd (true≢false (sym (own_grant s asker most standby) ∙ quiet))
-one_call s (calls.AckIn next window) six all quiet h = ⊎_elim
+one_call : (s : Side) (call : SendCall) (six : SixBooks) → asks_grant s (asks.Send s call) ≡ false → Halts (send_of s six) → Step six (after_ask (asks.Send s call) six) s (asks.Send s call)
+one_call s (calls.Grant asker most standby) six quiet h = absurd (true≢false (sym (own_grant s asker most standby) ∙ quiet))
+one_call s (calls.AckIn next window) six quiet h = ⊎_elim
     (λ more. by (is_future next (send_of s six)) refl more)
-    (λ low. halted (subst Halts (sym (send_after s (calls.AckIn next window) six)) (halts_ack (send_of s six) next window all (omega (arith, low)) h)))
+    (λ low. halted (subst Halts (sym (send_after s (calls.AckIn next window) six)) (halts_ack (send_of s six) next window (omega (arith, low)) h)))
     (cases_lt (acked_len (send_of s six).marks) next)
   where
     call : SendCall
@@ -180,27 +152,27 @@ one_call s (calls.AckIn next window) six all quiet h = ⊎_elim
         unchanged : (c : Bool) → c ≡ true → (d : Sending) → (if c then send_of s six else d) ≡ send_of s six
         unchanged true is d = refl
         unchanged false is d = absurd (true≢false (sym is))
-one_call s (calls.Write bytes) six all quiet h = halted (subst Halts (sym (send_after s (calls.Write bytes) six)) (halts_call (send_of s six) (calls.Write bytes) tt h))
-one_call s calls.Close six all quiet h = halted (subst Halts (sym (send_after s calls.Close six)) (halts_call (send_of s six) calls.Close tt h))
-one_call s (calls.Return asker) six all quiet h = halted (subst Halts (sym (send_after s (calls.Return asker) six)) (halts_call (send_of s six) (calls.Return asker) tt h))
-one_call s calls.GoIdentity six all quiet h = halted (subst Halts (sym (send_after s calls.GoIdentity six)) (halts_call (send_of s six) calls.GoIdentity tt h))
-one_call s (calls.GoInfinite asker) six all quiet h = halted (subst Halts (sym (send_after s (calls.GoInfinite asker) six)) (halts_call (send_of s six) (calls.GoInfinite asker) tt h))
-one_call s calls.Abort six all quiet h = halted (subst Halts (sym (send_after s calls.Abort six)) (halts_call (send_of s six) calls.Abort tt h))
+one_call s (calls.Write bytes) six quiet h = halted (subst Halts (sym (send_after s (calls.Write bytes) six)) (halts_call (send_of s six) (calls.Write bytes) tt h))
+one_call s calls.Close six quiet h = halted (subst Halts (sym (send_after s calls.Close six)) (halts_call (send_of s six) calls.Close tt h))
+one_call s (calls.Return asker) six quiet h = halted (subst Halts (sym (send_after s (calls.Return asker) six)) (halts_call (send_of s six) (calls.Return asker) tt h))
+one_call s calls.GoIdentity six quiet h = halted (subst Halts (sym (send_after s calls.GoIdentity six)) (halts_call (send_of s six) calls.GoIdentity tt h))
+one_call s (calls.GoInfinite asker) six quiet h = halted (subst Halts (sym (send_after s (calls.GoInfinite asker) six)) (halts_call (send_of s six) (calls.GoInfinite asker) tt h))
+one_call s calls.Abort six quiet h = halted (subst Halts (sym (send_after s calls.Abort six)) (halts_call (send_of s six) calls.Abort tt h))
 
-one_ask : (s : Side) (x : Ask) (six : SixBooks) → AreAcked (acked_len (send_of s six).marks) (send_of s six).marks → asks_grant s x ≡ false → Halts (send_of s six) → Step six (after_ask x six) s x
-one_ask A (asks.Send A call) six all quiet h = one_call A call six all quiet h
-one_ask B (asks.Send B call) six all quiet h = one_call B call six all quiet h
-one_ask A (asks.Send B call) six all quiet h = halted h
-one_ask B (asks.Send A call) six all quiet h = halted h
-one_ask A (asks.Reassembly A call) six all quiet h = halted h
-one_ask A (asks.Reassembly B call) six all quiet h = halted h
-one_ask B (asks.Reassembly A call) six all quiet h = halted h
-one_ask B (asks.Reassembly B call) six all quiet h = halted h
-one_ask A (asks.Control A call) six all quiet h = halted h
-one_ask A (asks.Control B call) six all quiet h = halted h
-one_ask B (asks.Control A call) six all quiet h = halted h
-one_ask B (asks.Control B call) six all quiet h = halted h
-one_ask s (asks.Local step) six all quiet h = halted h
+one_ask : (s : Side) (x : Ask) (six : SixBooks) → asks_grant s x ≡ false → Halts (send_of s six) → Step six (after_ask x six) s x
+one_ask A (asks.Send A call) six quiet h = one_call A call six quiet h
+one_ask B (asks.Send B call) six quiet h = one_call B call six quiet h
+one_ask A (asks.Send B call) six quiet h = halted h
+one_ask B (asks.Send A call) six quiet h = halted h
+one_ask A (asks.Reassembly A call) six quiet h = halted h
+one_ask A (asks.Reassembly B call) six quiet h = halted h
+one_ask B (asks.Reassembly A call) six quiet h = halted h
+one_ask B (asks.Reassembly B call) six quiet h = halted h
+one_ask A (asks.Control A call) six quiet h = halted h
+one_ask A (asks.Control B call) six quiet h = halted h
+one_ask B (asks.Control A call) six quiet h = halted h
+one_ask B (asks.Control B call) six quiet h = halted h
+one_ask s (asks.Local step) six quiet h = halted h
 
 side_halts : (s t : Side) (call : SendCall) → IsQuiet call → (six : SixBooks) → Halts (send_of s six) → Halts (send_of s (after_ask (asks.Send t call) six))
 side_halts A A call quiet six h = halts_call six.send_a call quiet h
@@ -328,7 +300,7 @@ module _ (start : Start) (six : SixBooks) (ds : List Duty) (p : PathState Carrie
   Goes = HaltGoesOn (after_ask x six) s from q
 
   halts : Halts b
-  halts = record { left = h.left; untried = h.untried }
+  halts = record { first = k.agrees.acked; left = h.left; untried = h.untried }
 
   still : (end_at s q).sending.shut ≡ true → Halts (send_of s (after_ask x six)) → Goes
   still shut on = goes.on (record { shut = shut; left = on.left; untried = on.untried })
@@ -349,9 +321,6 @@ module _ (start : Start) (six : SixBooks) (ds : List Duty) (p : PathState Carrie
       (duty_hears six from s next window fresh d is)
 
   module _ (max : ℕ) (stands : Bool) (asked : x ≡ asks.Send s (calls.Grant 0 max stands)) (some : 1 ≤ max) where
-    abbrev Decided : Type 0
-    Decided = Result Span Why
-
     replied : r ≡ replies.Send (reply_by (decision 0 max stands b) b)
     replied = ap (reply_of six) asked ∙ send_replied s (calls.Grant 0 max stands) six
 
@@ -388,7 +357,7 @@ module _ (start : Start) (six : SixBooks) (ds : List Duty) (p : PathState Carrie
   path_goes = by (at_grant values from d s)
     where
       by : AtGrant s from x (λ r. answered values d r from) → Goes
-      by (asks_none_of_it quiet same) = quiet_goes ((takes_told values from r d ds refl s).shut ∙ (same r).shut ∙ h.shut) (one_ask s x six k.agrees.acked quiet halts)
+      by (asks_none_of_it quiet same) = quiet_goes ((takes_told values from r d ds refl s).shut ∙ (same r).shut ∙ h.shut) (one_ask s x six quiet halts)
       by (asks_bytes max stands asked tells size gives) = by_decision (decision 0 max stands b) refl
         where
           own : x ≡ asks.Send s (calls.Grant 0 max stands)
@@ -473,11 +442,11 @@ module _ (start : Start) (plan : PathPlan) (turns : List Turn) (one : start.path
     own_turn (App a) is x asks = tt
     own_turn (Path p) is x asks = λ s h. takes_goes start (books_in w.books) p s x asks (known_at c p there is s) h
 
-    app_turn : (m : Actor Carried) (x : Ask) → IsOfApp x → HaltsGoOn (books_in w.books) (after_ask x (books_in w.books)) m m
-    app_turn (App a) x of_app = tt
-    app_turn (Path p) x of_app = λ s h.
+    app_turn : (m : Actor Carried) → c.member ≡ m → (x : Ask) → IsOfApp x → HaltsGoOn (books_in w.books) (after_ask x (books_in w.books)) m m
+    app_turn (App a) is x of_app = tt
+    app_turn (Path p) is x of_app = λ s h.
         (let on : Halts (send_of s (after_ask x (books_in w.books))) = subst (λ y. Halts (send_of s (after_ask y (books_in w.books)))) (sym of_app.is)
-        (app_halts s of_app.duty of_app.app (books_in w.books) (record { left = h.left; untried = h.untried })) in
+        (app_halts s of_app.duty of_app.app (books_in w.books) (record { first = (known_at c p there is s).agrees.acked; left = h.left; untried = h.untried })) in
         goes.on (record { shut = h.shut; left = on.left; untried = on.untried }))
 
     round_turn : (m : Actor Carried) → HaltsGoOn (books_in w.books) (books_in w.books) m (member_next m)
@@ -500,7 +469,7 @@ module _ (start : Start) (plan : PathPlan) (turns : List Turn) (one : start.path
         (λ apart. (
           c,
           set_other w.crew actor (crew_after values x w.books e) 2 apart ∙ there,
-          subst (λ six. HaltsGoOn (books_in w.books) six c.member c.member) (sym (books_after x e.pass w.books)) (app_turn c.member x (others_are_apps actor e at (λ is. apart (sym is)) x asks)),
+          subst (λ six. HaltsGoOn (books_in w.books) six c.member c.member) (sym (books_after x e.pass w.books)) (app_turn c.member refl x (others_are_apps actor e at (λ is. apart (sym is)) x asks)),
         ))
         (cases_eq 2 actor)
 

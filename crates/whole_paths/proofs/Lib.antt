@@ -120,4 +120,6 @@ pub mod LastFin
 pub mod ShutWindows
 pub mod WholeCourses
 pub mod Listening
+pub mod SynAcks
 pub mod Syns
+pub mod WholeMappings

@@ -204,7 +204,7 @@ record IsTurnOf (w : WorldState Carried) (later : SixBooks) (lines : List Script
   closed : (s : Side) → (send_of s (books_in w.books)).closed ≡ true → (send_of s later).written ≡ (send_of s (books_in w.books)).written
 
 member_goes : (w : WorldState Carried) (later : SixBooks) (lines : List ScriptLine) (steps : List Note) (m n : Actor Carried) → IsTurnOf w later lines steps m n → AskGoesOnBy (books_in w.books) later m n
-member_goes w later lines steps (Path p) (Path q) t = λ open_p open_q sums few s place fin by wants h still.
+member_goes w later lines steps (Path p) (Path q) t = λ open_p open_q few s place fin by wants h still.
     goes_so (books_in w.books) later steps p q (record {
       kept = t.kept;
       far = t.far;
@@ -216,7 +216,7 @@ member_goes w later lines steps (Path p) (Path q) t = λ open_p open_q sums few 
       agrees = t.agrees.ends;
       closed = t.closed;
     }) t.hardly open_p open_q s place fin by still
-    (t.go (record { joined = open_p.first; no_sums = sums; whole = t.link.strips; plain = t.link.alters }) s place fin by few (past_the_end place fin _ _ still) wants h)
+    (t.go (record { joined = open_p.first; whole = t.link.strips; plain = t.link.alters }) s place fin by few (past_the_end place fin _ _ still) wants h)
 member_goes w later lines steps (Path p) (App b) t = tt
 member_goes w later lines steps (App a) n t = tt
 

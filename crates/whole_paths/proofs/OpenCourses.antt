@@ -1,5 +1,5 @@
 -- Between two moments at which path 0 is whole its ends are open, by each turn between them.
-use Rattle.std.proofs.Common.{◌≤◌, ◌≡◌, refl, sym, subst, ap, ◌∙◌, ℕ, ◌+◌, ◌-◌, ◌^◌, ◌<◌, arith, nat_lt, true, false, true≢false, Option, Some, None, List, [], ◌∷◌, ◌++◌}
+use Rattle.std.proofs.Common.{◌≡◌, refl, sym, subst, ap, ◌∙◌, ℕ, ◌+◌, ◌-◌, ◌^◌, ◌<◌, ◌≤◌, arith, nat_lt, true, false, true≢false, Option, Some, None, List, [], ◌∷◌, ◌++◌}
 use Rattle.std.specs.Prelude.{IfSome}
 use Rattle.std.specs.List.{slice_get}
 use Rattle.std.proofs.lemmas.Option.{same_Some}
@@ -235,7 +235,7 @@ module _ (start : Start) (mild : IsMildStart start) (plain : start.checksums ≡
     first_now = first_so start before ts mild.plain.size h.path h.here
 
     faithful : IsFaithful h.path
-    faithful = record { joined = first_now.first; no_sums = first_now.checksums ∙ plain; whole = mild_link.strips; plain = mild_link.alters }
+    faithful = record { joined = first_now.first; whole = mild_link.strips; plain = mild_link.alters }
 
     holds_now : IsOpenNow (world_run values ts w)
     holds_now = record {
@@ -243,6 +243,7 @@ module _ (start : Start) (mild : IsMildStart start) (plain : start.checksums ≡
       here = h.here;
       is_open = h.open_if first_now.first;
       faithful = faithful;
+      no_sums = first_now.checksums ∙ plain;
       few = λ s. (later_between rest (world_run values ts w) h.path l h.here there).fewer s (few s);
     }
 

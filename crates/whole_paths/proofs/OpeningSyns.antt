@@ -12,7 +12,7 @@ use Rattle.subflow_tcp.specs.declared.handshake.State.{State as EndPhase}
 use Rattle.subflow_tcp.specs.declared.handshake.State.TheVariants as phase
 use Rattle.subflow_tcp.specs.declared.verdicts.Meaning.{Meaning}
 use Rattle.subflow_tcp.specs.declared.verdicts.Meaning.TheVariants as means
-use Rattle.subflow_tcp.specs.Judging.{meaning_of, meaning_at, meaning_answering, meaning_answer, meaning_connected, meaning_placed, meaning_within, meaning_outside, is_repeated_syn, is_in_window, ends_in_window, is_at_right_edge, is_acceptable}
+use Rattle.subflow_tcp.specs.Judging.{is_at, meaning_of, meaning_at, meaning_answering, meaning_answer, meaning_connected, meaning_placed, meaning_within, meaning_outside, is_repeated_syn, is_in_window, ends_in_window, is_at_right_edge, is_acceptable}
 use Rattle.subflow_tcp.specs.Segments.{Copy, occupied, one_if}
 use Rattle.subflow_tcp.specs.State.{EndState, is_at_limit}
 use Rattle.subflow_tcp.specs.States.{is_dead}
@@ -80,6 +80,19 @@ module _ (c : Copy) (s : EndState) (syn : c.syn ≡ true) (fin : c.fin ≡ false
         | false ↦ λ is. inr (sym is ∙ ap (λ o. meaning_placed o c s) at ∙ ap (λ b. if b then meaning_within 0 c s else meaning_outside c) (outside some) ∙ ap (λ b. if b then means.Ignored else means.Outside) rst)
       ]) (sym (past_connected s.state c s high living ∙ ap (λ b. if b then means.Ignored else (if is_repeated_syn c s then means.RepeatedSyn else meaning_placed c.position c s)) limit))
 
+  unrepeated : (n : ℕ) → c.acknowledged ≡ Some n → is_repeated_syn c s ≡ false
+  unrepeated n acks =
+      ap (λ (o : Option ℕ). not s.numbers.opens && (c.syn && (not c.rst && (is_none o && is_at 0 c.position)))) acks
+      ∙ ap (λ b. not s.numbers.opens && (c.syn && b)) (and_false (not c.rst))
+      ∙ ap (λ b. not s.numbers.opens && b) (and_false c.syn)
+      ∙ and_false (not s.numbers.opens)
+
+  once_more_so : (n : ℕ) → c.acknowledged ≡ Some n → 2 ≤ stage s.state → is_dead s.state ≡ false → is_at_limit s ≡ false → 0 < s.recv.edge → meaning_of c s ≡ means.Outside
+  once_more_so n acks high living limit some =
+      past_connected s.state c s high living ∙ ap (λ b. if b then means.Ignored else (if is_repeated_syn c s then means.RepeatedSyn else meaning_placed c.position c s)) limit
+      ∙ ap (λ b. if b then means.RepeatedSyn else meaning_placed c.position c s) (unrepeated n acks)
+      ∙ ap (λ o. meaning_placed o c s) at ∙ ap (λ b. if b then meaning_within 0 c s else meaning_outside c) (outside some) ∙ ap (λ b. if b then means.Ignored else means.Outside) rst
+
 module _ (x : PlainSegment) (p : PathState Carried) (a : Arrival x p) (h : IsSyn x) where
   abbrev to : Side
   to = a.due.to
@@ -118,6 +131,7 @@ module _ (x : PlainSegment) (p : PathState Carried) (a : Arrival x p) (h : IsSyn
         (λ is. inl (comes_as means.RepeatedSyn is))
         (λ is. inr (comes_as means.Outside is))
         (again_so (copy_of said) e.tcp h.syn h.fin h.rst first h.empty high living limit some);
+    once_more = λ n is high living limit some. comes_as means.Outside (once_more_so (copy_of said) e.tcp h.syn h.fin h.rst first h.empty n (acks (Some n) is) high living limit some);
   }
 
 pub each_syn_counts : EachSynCounts

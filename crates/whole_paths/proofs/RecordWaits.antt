@@ -31,7 +31,9 @@ use Rattle.whole_paths.specs.Exchanges.{ExchangeGoesOn, ExchangesBegin, Exchange
 use Rattle.whole_paths.specs.Exchanges.{ExchangeGoesOn as goes}
 use Rattle.whole_paths.specs.Exchanges.IsExchanged.{comes, in_hand, answered, acknowledged}
 use Rattle.whole_paths.specs.Finish.{IsPathAt}
+use Rattle.whole_paths.specs.Flights.{IsFirst}
 use Rattle.whole_paths.specs.Harms.{longest_way}
+use Rattle.whole_paths.specs.Kept.{EndsKeepWhatWaits}
 use Rattle.whole_paths.specs.Mild.{IsMildStart}
 use Rattle.whole_paths.specs.News.{ActorCounts, one_if}
 use Rattle.whole_paths.specs.News.{Counts as counts}
@@ -41,16 +43,20 @@ use Rattle.whole_paths.specs.Straying.{HardlyStrays, IsHardlyAstray, IsOpen}
 use Rattle.whole_paths.specs.Straying.{IsHardlyAstray as hardly}
 use Rattle.whole_paths.specs.Timers.{TimersAreNear}
 use Rattle.whole_paths.specs.Waits.{IsNews}
+use Rattle.whole_paths.specs.WholeMappings.{NoneIsPartial}
 use Rattle.whole_paths.proofs.Counted.{by_counts, what_holds_up_counts}
 use Rattle.whole_paths.proofs.DataLeft.{what_is_left_is_data}
 use Rattle.whole_paths.proofs.Exchanges.{answer_later, each_record_is_acknowledged, hand_later}
 use Rattle.whole_paths.proofs.Finishing.{MemberFinishes, turn_finishes}
+use Rattle.whole_paths.proofs.Flying.{first_stays, same_record}
 use Rattle.whole_paths.proofs.GoesOn.{goes_on_so}
+use Rattle.whole_paths.proofs.Keeping.{what_waits_is_kept}
 use Rattle.whole_paths.proofs.InTime.{nil_so}
 use Rattle.whole_paths.proofs.OpenCourses.{IsFirstPath, each_first}
 use Rattle.whole_paths.proofs.RoundBegins.{next_rests, no_round_counts}
 use Rattle.whole_paths.proofs.Straying.{open_ends_hardly_stray}
 use Rattle.whole_paths.proofs.Timing.{timers_run_out}
+use Rattle.whole_paths.proofs.WholeMappings.{mappings_are_whole}
 use Rattle.whole_paths.specs.Came.{HasCome}
 use Rattle.whole_paths.specs.LastFin.{FinIsLast}
 use Rattle.whole_paths.specs.Overruns.{StaysWithin}
@@ -179,6 +185,11 @@ module _ (start : Start) (mild : IsMildStart start) (turns : List Turn) (turn : 
       not_behind (inr few) behind =
           let past = passed_all (end_at (peer s) q).tcp.fin_at (end_at (peer s) q).tcp.recv.edge (end_at s q).tcp.send.nxt (last_now.heard s) behind in omega (arith, past, few, within)
 
+      -- it stays the first one, or that counts
+      if_first : (IsFirst r (end_at s q) → Next) → Next
+      if_first still = ⊎_elim still (λ is. inl (counts_so (counts.at_end s is)))
+          (first_stays r (end_at s p) (end_at s q) (with_both EndsKeepWhatWaits (what_waits_is_kept values w (turn ∷ []) 2 before.here.crew before.here.there) s) h.first)
+
       -- its end isn't acknowledged, or that counts
       if_left : ((end_at s q).tcp.send.una < end_of r → Next) → Next
       if_left still = ⊎_elim (λ more. inl (counts_so (counts.at_end s (IsNews.on_subflow more)))) (λ few. still (let left = h.left in omega (arith, few, left))) (cases_lt (end_at s p).tcp.send.una (end_at s q).tcp.send.una)
@@ -190,11 +201,17 @@ module _ (start : Start) (mild : IsMildStart start) (turns : List Turn) (turn : 
           (cases_lt (end_at (peer s) p).tcp.send.nxt (end_at (peer s) q).tcp.send.nxt)
 
       goes_by : IsExchanged s r x q → Next
-      goes_by exchange = if_ahead (λ ahead. if_left (λ left. if_room (λ room.
-          inr (record { side = s; awaited = r; is_data = h.is_data; left = left; within = within; ahead = ahead; room = room; exchange = exchange }))))
+      goes_by exchange = if_ahead (λ ahead. if_first (λ first. if_left (λ left. if_room (λ room.
+          inr (record { side = s; awaited = r; is_data = h.is_data; first = first; left = left; within = within; ahead = ahead; room = room; exchange = exchange })))))
 
-      strays : IsHardlyAstray s p q → Next
+      -- each mapping at RCV.NXT is whole with the record
+      whole : NoneIsPartial p
+      whole = subst (HoldsOfKind (λ app. Unit {0}) NoneIsPartial) before.here.is (mappings_are_whole start turns mild before.here.crew before.here.there)
+
+      strays : IsHardlyAstray s r p q → Next
       strays (hardly.behind_fin behind) = if_ahead (λ ahead. absurd (not_behind ahead behind))
+      strays (hardly.untold sums reads) = absurd (true≢false (sym sums ∙ after.no_sums))
+      strays (hardly.partial is) = absurd (whole s r h.first h.is_data is)
       strays (hardly.past_window past) = absurd (let room = h.room in omega (arith, past, room))
 
       by_exchange : ExchangeGoesOn s r x p q → Next
@@ -323,6 +340,7 @@ module _ (start : Start) (most : ℕ) (mild : IsMildStart start) where
             side = t;
             awaited = r;
             is_data = data_is.kind;
+            first = record { first = r; others = others; records = is; same = same_record r };
             left = data_is.left;
             within = data_is.within;
             ahead = ahead;

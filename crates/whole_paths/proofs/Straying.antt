@@ -14,6 +14,7 @@ use Rattle.subflow_tcp.specs.declared.handshake.State.TheVariants as phase
 use Rattle.path_core.specs.Choices.{is_side_a}
 use Rattle.path_core.specs.MpJoin.{is_joined}
 use Rattle.path_core.specs.Standing.{is_connected}
+use Rattle.path_core.specs.Deliver.{failing_mapping}
 use Rattle.path_core.specs.State.{PathState, end_at}
 use Rattle.path_core.specs.Values.{Carried, values}
 use Rattle.world_laws.specs.declared.member.Member.TheVariants.{App, Path}
@@ -46,30 +47,34 @@ never_resets q unbroken t (stopped is) = unbroken.stopped t is
 
 module _ (p q : PathState Carried) (open_p : IsOpen p) (open_q : IsOpen q) (mapped_p : EndsGoByMappings p) (mapped_q : EndsGoByMappings q) (keys : EndsHaveKeys q) (breaks_p : IsUnbroken p) (breaks_so : IsUnbroken q)
     (clears_p : (t : Side) → Clears t p.agenda (end_at t p)) (clears : (t : Side) → Clears t q.agenda (end_at t q)) where
-  has_key : (s t : Side) → (end_at t q).modes.peer_key ≡ None → IsHardlyAstray s p q
-  has_key s A none = ⊎_elim
+  has_key : (s t : Side) (r : Record) → (end_at t q).modes.peer_key ≡ None → IsHardlyAstray s r p q
+  has_key s A r none = ⊎_elim
       (λ some. absurd (both_ways (is_some q.a.modes.peer_key) (ap is_some none) some))
       (λ treats. absurd (never_treats q clears open_q.clear treats))
       (keys.a (let past = open_q.past A in omega (arith, past)) (open_q.living A))
-  has_key s B none = absurd (both_ways (is_some q.b.modes.peer_key) (ap is_some none) (keys.b (open_q.clear B)))
+  has_key s B r none = absurd (both_ways (is_some q.b.modes.peer_key) (ap is_some none) (keys.b (open_q.clear B)))
 
-  refused_so : (s : Side) → IsToRefuse (peer s) p.agenda → IsHardlyAstray s p q
-  refused_so s (refuse.refuses others is) = absurd (true≢false (sym (ap (λ ds. list_any is_harsh ds) is) ∙ breaks_p.duties))
-  refused_so s (refuse.answers others is) = absurd (never_refuses p (peer s) clears_p (open_p.living (peer s)) others is)
+  refused_so : (s : Side) (r : Record) → IsToRefuse (peer s) p.agenda → IsHardlyAstray s r p q
+  refused_so s r (refuse.refuses others is) = absurd (true≢false (sym (ap (λ ds. list_any is_harsh ds) is) ∙ breaks_p.duties))
+  refused_so s r (refuse.answers others is) = absurd (never_refuses p (peer s) clears_p (open_p.living (peer s)) others is)
 
-  strays_so : (s : Side) (r : Record) → IsAstray s r p q → IsHardlyAstray s p q
+  strays_so : (s : Side) (r : Record) → IsAstray s r p q → IsHardlyAstray s r p q
   strays_so s r (stray.reset is) = absurd (never_resets q breaks_so (peer s) is)
-  strays_so s r (stray.resets is) = refused_so s is
+  strays_so s r (stray.resets is) = refused_so s r is
   strays_so s r (stray.behind_fin is) = hardly.behind_fin is
   strays_so s r (stray.unopened low) = absurd (let past = open_p.past (peer s) in omega (arith, past, low))
   strays_so s r (stray.half_open low passed) = absurd (let past = open_p.past (peer s) in omega (arith, past, low))
   strays_so s r (stray.unsure is) = absurd (both_ways (end_at (peer s) q).modes.clear is.clear (open_q.clear (peer s)))
-  strays_so s r (stray.unkeyed none) = has_key s (peer s) none
+  strays_so s r (stray.unkeyed none) = has_key s (peer s) r none
   strays_so s r (stray.plain t (inl is)) = absurd (both_ways (end_at t p).modes.identity (mapped_p t).identity is)
   strays_so s r (stray.plain t (inr is)) = absurd (both_ways (end_at t q).modes.identity (mapped_q t).identity is)
   strays_so s r (stray.infinite (inl is)) = absurd (both_ways (is_some (end_at s p).modes.own_infinite) (ap is_some (mapped_p s).own) is)
   strays_so s r (stray.infinite (inr is)) = absurd (both_ways (is_some (end_at (peer s) p).modes.peer_infinite) (ap is_some ((mapped_p (peer s)).peer open_p.first)) is)
   strays_so s r (stray.past_window far) = hardly.past_window far
+  strays_so s r (stray.fails (inl is)) = absurd (breaks_p.fails (peer s) is)
+  strays_so s r (stray.fails (inr is)) = absurd (both_ways (is_some (failing_mapping p.profile (end_at (peer s) p))) (ap is_some (mapped_p (peer s)).right) is)
+  strays_so s r (stray.untold sums reads mapped) = hardly.untold sums reads
+  strays_so s r (stray.partial is) = hardly.partial is
   strays_so s r (stray.first_piece is) = absurd (both_ways _ (ap (λ b. is_side_a s && (not b && r.pos == 1)) (open_p.clear s) ∙ never (is_side_a s)) is)
     where
       never : (b : Bool) → (b && false) ≡ false

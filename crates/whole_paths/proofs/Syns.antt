@@ -81,7 +81,7 @@ still_sent phase.LastAck is = absurd (omega (arith, is))
 still_sent phase.TimeWait is = absurd (omega (arith, is))
 still_sent phase.Dead is = absurd (omega (arith, is))
 
-still_received : (x : EndPhase) → stage x ≡ 2 → x ≡ phase.SynReceived
+pub still_received : (x : EndPhase) → stage x ≡ 2 → x ≡ phase.SynReceived
 still_received phase.SynReceived is = refl
 still_received phase.Waiting is = absurd (omega (arith, is))
 still_received phase.Listen is = absurd (omega (arith, is))
@@ -179,7 +179,7 @@ module _ (p q : PathState Carried) (known : Known p) (faithful : IsFaithful p) (
     module _ (f : Flight Carried) (there : IsUnderWay f p) (copy : IsCopyOf values s h.syn p f) (sent : IsSynSent s copy.sender copy.stripped copy.altered)
         (others : List Duty) (first : p.agenda ≡ duties.Step step_duties.Events ∷ others) (next : next_event p ≡ Some (happenings.Arrives (due_of f))) where
       comes_now : Arrival copy.segment p
-      comes_now = each_copy_arrives s h.syn p f copy sent.unstripped sent.unaltered there (numbered f there) known.alike others first next faithful.joined faithful.no_sums
+      comes_now = each_copy_arrives s h.syn p f copy sent.unstripped sent.unaltered there (numbered f there) known.alike others first next faithful.joined
 
       syn : IsSyn copy.segment
       syn = record {
@@ -283,7 +283,7 @@ module _ (start : Start) (p : PathState Carried) (known : (s : Side) (r : Record
 -- ---- the world
 
 -- how far a path is, as an actor is that far
-member_later : (p q : PathState Carried) → IsActorAsFar (Path p) (Path q) → (s : Side) → stage (end_at s p).tcp.state ≤ stage (end_at s q).tcp.state
+pub member_later : (p q : PathState Carried) → IsActorAsFar (Path p) (Path q) → (s : Side) → stage (end_at s p).tcp.state ≤ stage (end_at s q).tcp.state
 member_later p q far A = far.a.subflow.state
 member_later p q far B = far.b.subflow.state
 
@@ -298,7 +298,7 @@ member_known (App a) shown reached_p came was_sent link alike past = tt
 member_known (Path p) shown reached_p came was_sent link alike past =
     record { tells = shown.tells; behind = shown.behind; edge = shown.edge; reached = reached_p; came = came; was_sent = was_sent; link = link; alike = alike; past = past }
 
-each_known : (start : Start) (turns : List Turn) → HasRoom start → NumbersFit start → (actor : ℕ) (c : ActorCrew Carried) → slice_get (reached values start turns).crew actor ≡ Some c → OfPaths Known c.member
+pub each_known : (start : Start) (turns : List Turn) → HasRoom start → NumbersFit start → (actor : ℕ) (c : ActorCrew Carried) → slice_get (reached values start turns).crew actor ≡ Some c → OfPaths Known c.member
 each_known start turns size fit actor c at =
     member_known c.member (each_shown start turns size fit actor c at) ((each_is_reached values start turns).each actor c at) ((what_is_acknowledged_came start turns).each actor c at) ((what_came_was_sent start turns size).each actor c at)
     ((each_link values start turns).each actor c at) ((copies_arrive_as_sent values start turns).each actor c at) ((nothing_is_overdue values start turns).each actor c at)

@@ -1,16 +1,19 @@
 -- Where exchanges go on, all of both streams comes in time, or an end died early; and then both files are delivered.
-use Rattle.std.proofs.Common.{◌≡◌, refl, sym, subst, ap, ◌∙◌, ⊎_elim, inl, inr, ◌⊎◌, ℕ, suc, ◌+◌, ◌-◌, ◌*◌, ◌^◌, ◌<◌, ◌≤◌, arith, true, true≢false, List, [], ◌∷◌, ◌++◌, length, length-append, append_assoc}
+use Rattle.std.proofs.Common.{◌≡◌, refl, sym, subst, ap, ◌∙◌, ⊎_elim, inl, inr, ◌⊎◌, ℕ, suc, ◌+◌, ◌-◌, ◌*◌, ◌^◌, ◌<◌, ◌≤◌, arith, Bool, true, false, true≢false, Some, List, [], ◌∷◌, ◌++◌, length, length-append, append_assoc}
+use Rattle.std.specs.List.{slice_get}
 use Rattle.std.proofs.lemmas.Bool.{cases_lt}
 use Rattle.std.proofs.lemmas.Option.{same_Some}
+use Rattle.sides.specs.declared.side.Side.{Side}
 use Rattle.sides.specs.declared.side.Side.TheVariants.{A, B}
 use Rattle.subflow_tcp.specs.declared.handshake.State.{State}
 use Rattle.subflow_tcp.specs.States.{is_dead}
 use Rattle.path_core.specs.Codec.{Codec}
+use Rattle.path_core.specs.Standing.{is_connected}
 use Rattle.path_core.specs.State.{end_at}
 use Rattle.path_core.specs.Values.{Carried, values}
-use Rattle.world_laws.specs.declared.member.Member.TheVariants.{Path}
+use Rattle.world_laws.specs.declared.member.Member.TheVariants.{App, Path}
 use Rattle.world_laws.specs.declared.outcome.Outcome.TheVariants.{Delivered}
-use Rattle.world_laws.specs.Actors.{ActorCrew}
+use Rattle.world_laws.specs.Actors.{Actor, ActorCrew}
 use Rattle.world_laws.specs.Openings.{PathPlan, Start, opened_world}
 use Rattle.world_laws.specs.Outcomes.{outcome_of}
 use Rattle.world_laws.specs.RoundDone.{reached}
@@ -31,7 +34,6 @@ use Rattle.whole_paths.proofs.GoesOn.{goes_on_so}
 use Rattle.whole_paths.proofs.GoingOn.{there_or}
 use Rattle.whole_paths.proofs.OpenCourses.{lawful_parts, open_exchanges_end}
 use Rattle.whole_paths.proofs.SentByTurns.{each_turn_sends_one_at_most}
-use Rattle.whole_paths.proofs.StayingWhole.{whole_paths_stay_whole}
 use Rattle.whole_paths.proofs.Straying.{connected_stage, end_far}
 
 -- ---- the last rounds
@@ -61,6 +63,14 @@ last_rounds n (Turn.Round ∷ turns) few = ⊎_elim
 
 -- ---- a path that was whole
 
+connected_so : (state : State) → 3 ≤ stage state → is_dead state ≡ false → is_connected state ≡ true
+connected_so State.Waiting far living = absurd (omega (arith, far))
+connected_so State.Listen far living = absurd (omega (arith, far))
+connected_so State.SynSent far living = absurd (omega (arith, far))
+connected_so State.SynReceived far living = absurd (omega (arith, far))
+connected_so State.Dead far living = absurd (true≢false living)
+connected_so _ far living = refl
+
 dead_stage : (state : State) → is_dead state ≡ true → 7 ≤ stage state
 dead_stage State.Dead is = omega arith
 dead_stage _ is = absurd (true≢false (sym is))
@@ -69,7 +79,35 @@ module _ {C : Type 0} (k : Codec C) (w : WorldState C) (more : List Turn) where
   abbrev later : WorldState C
   later = world_run k more w
 
-  -- no path is whole of which an end was dead
+  -- is whole still, or an end of it is dead
+  still_whole : IsWhole 0 w → IsWhole 0 later ⊎ AnEndDied 0 later
+  still_whole h =
+      let found = (goes_on_so k w more).crew 2 h.here.crew h.here.there in
+      by found.0 found.0.member found.1 refl (subst (λ m. IsActorAsFar m found.0.member) h.here.is found.2.member)
+    where
+      by : (c : ActorCrew C) (m : Actor C) → slice_get later.crew 2 ≡ Some c → c.member ≡ m → IsActorAsFar (Path h.path) m → IsWhole 0 later ⊎ AnEndDied 0 later
+      by c (App a) there is far = absurd far
+      by c (Path q) there is far = ends (is_dead (end_at A q).tcp.state) refl (is_dead (end_at B q).tcp.state) refl
+        where
+          connected : (s : Side) → is_dead (end_at s q).tcp.state ≡ false → is_connected (end_at s q).tcp.state ≡ true
+          connected s living =
+              let low = (connected_stage (end_at s h.path).tcp.state (h.connected s)).0 in let up = (end_far h.path q far s).subflow.state in
+              connected_so (end_at s q).tcp.state (omega (arith, low, up)) living
+
+          died : (s : Side) → is_dead (end_at s q).tcp.state ≡ true → AnEndDied 0 later
+          died s dead = record { path = q; here = record { crew = c; there = there; is = is }; side = s; dead = dead }
+
+          ends : (a : Bool) → is_dead (end_at A q).tcp.state ≡ a → (b : Bool) → is_dead (end_at B q).tcp.state ≡ b → IsWhole 0 later ⊎ AnEndDied 0 later
+          ends true dead b other = inr (died A dead)
+          ends false living true dead = inr (died B dead)
+          ends false living false other = inl (record {
+            path = q;
+            here = record { crew = c; there = there; is = is };
+            connected = elim [ A ↦ connected A living | B ↦ connected B other ];
+            clear = λ s. (end_far h.path q far s).clear (h.clear s);
+          })
+
+  -- and no path is whole of which an end was dead
   dead_not_whole : AnEndDied 0 w → IsWhole 0 later → ⊥
   dead_not_whole died whole =
       let found = (goes_on_so k w more).crew 2 died.here.crew died.here.there in
@@ -135,7 +173,7 @@ what_is_there_in_time_is_delivered within comes start plan before more most begi
         ended missing = ⊎_elim
             (λ last. absurd (missing (all_came (subst (IsWhole 0) (sym then) last))))
             (λ died. inr (record { first = before ++ first; rest = rest; is = sym same; died = subst (AnEndDied 0) (sym then) died; missing = missing }))
-            (whole_paths_stay_whole values (reached values start before) 0 first whole)
+            (still_whole values (reached values start before) first whole)
 
 -- ---- from exchanges
 

@@ -99,13 +99,12 @@ pub record Arrival (x : PlainSegment) (p : PathState Carried) : Type 0 where
   pub there : arriving due p.link ≡ Some flight
   pub carried : flight.carried ≡ carried_by p.profile.spelling (peer due.to) x
   pub joined : is_joined p.profile ≡ false
-  pub no_sums : p.profile.spelling.checksums ≡ false
 
 -- a copy of a record comes that was under way, where nothing was taken away or altered
 abbrev pub EachCopyArrives : Type 0
 EachCopyArrives = (s : Side) (r : Record) (p : PathState Carried) (f : Flight Carried) (copy : IsCopyOf values s r p f) → copy.stripped ≡ false → copy.altered ≡ false
     → IsUnderWay f p → f.number < 2 ^ 64 - 1 → CopiesArriveSo p → (others : List Duty) → p.agenda ≡ duties.Step step_duties.Events ∷ others → next_event p ≡ Some (happenings.Arrives (due_of f))
-    → is_joined p.profile ≡ false → p.profile.spelling.checksums ≡ false → Arrival copy.segment p
+    → is_joined p.profile ≡ false → Arrival copy.segment p
 
 -- a record's payload is brought in order
 pub record ComesInOrder (x : PlainSegment) (p : PathState Carried) : Type 0 where

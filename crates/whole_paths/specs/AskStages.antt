@@ -1,6 +1,6 @@
 -- The exchange of an ask between the open ends of an only path: where it asks for the Data ACK of a DATA_FIN, the peer heard that before it
 -- answers (RFC 8684, section 3.3.3).
-use Rattle.std.specs.Prelude.{ℕ, ◌+◌, ◌-◌, ◌^◌, ◌≡◌, ◌<◌, ◌≤◌, ◌⊎◌, Bool, true, false, Some, List, [], ◌∷◌, slice_get}
+use Rattle.std.specs.Prelude.{ℕ, ◌+◌, ◌-◌, ◌^◌, ◌≡◌, ◌<◌, ◌≤◌, ◌⊎◌, Bool, true, Some, List, [], ◌∷◌, slice_get}
 use Rattle.sides.specs.declared.side.Side.{Side}
 use Rattle.sides.specs.Side.{peer}
 use Rattle.link_model.specs.Steps.{segments_sent}
@@ -56,7 +56,7 @@ pub data AnswerIsAwaitedOn (later : SixBooks) (s : Side) (place : ℕ) (fin : Bo
 -- as the path, where it has no checksums, becomes this actor, and is still open, with fewer than 2^64 - 1 segments sent from each side
 abbrev pub AnswerIsAwaitedBy : SixBooks → SixBooks → Actor Carried → Actor Carried → Type 0
 AnswerIsAwaitedBy six later (Path p) (Path q) =
-    IsOpen p → IsOpen q → p.profile.spelling.checksums ≡ false → ((t : Side) → segments_sent t p.link < 2 ^ 64 - 1)
+    IsOpen p → IsOpen q → ((t : Side) → segments_sent t p.link < 2 ^ 64 - 1)
     → (s : Side) (place : ℕ) (fin : Bool) (by : ℕ) → IsAnswerAwaited six s place fin by p → AnswerIsAwaitedOn later s place fin by p q
 AnswerIsAwaitedBy six later _ _ = Unit {0}
 

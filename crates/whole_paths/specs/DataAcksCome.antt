@@ -70,8 +70,8 @@ pub record AskArrives (s : Side) (p : PathState Carried) (f : Flight Carried) (e
   pub bare : IsBare (ack_resent p.profile s e)
   pub probes : e.modes.owes_third ≡ false → e.notices.fast_closed ≡ false → is_data_fin_owed e ≡ false → (ack_resent p.profile s e).position ≡ e.tcp.send.una - 1
 
--- where a copy of it was under way, and nothing was taken away or altered, on the path that opens the connection, without checksums
+-- where a copy of it was under way, and nothing was taken away or altered, on the path that opens the connection
 abbrev pub EachAskArrives : Type 0
 EachAskArrives = (s : Side) (p : PathState Carried) (f : Flight Carried) (h : IsAsking values s p f) → h.stripped ≡ false → h.altered ≡ false → IsUnderWay f p → f.number < 2 ^ 64 - 1
     → CopiesArriveSo p → (others : List Duty) → p.agenda ≡ duties.Step step_duties.Events ∷ others → next_event p ≡ Some (happenings.Arrives (due_of f))
-    → is_joined p.profile ≡ false → p.profile.spelling.checksums ≡ false → AskArrives s p f h.sender
+    → is_joined p.profile ≡ false → AskArrives s p f h.sender

@@ -4,6 +4,7 @@ use Rattle.std.specs.Prelude.{ℕ, ◌+◌, ◌-◌, ◌^◌, ◌≡◌, ◌<◌
 use Rattle.sides.specs.declared.side.Side.{Side}
 use Rattle.sides.specs.Side.{peer}
 use Rattle.path_segments.specs.Spelled.{PlainSegment}
+use Rattle.fallback_state.specs.Modes.{reads_mappings}
 use Rattle.link_model.specs.Steps.{segments_sent}
 use Rattle.subflow_send.specs.Records.{Record, end_of}
 use Rattle.subflow_send.specs.declared.record.RecordKind.TheVariants.{Data}
@@ -12,6 +13,7 @@ use Rattle.subflow_tcp.specs.State.{is_fin_passed}
 use Rattle.subflow_tcp.specs.States.{is_closed_to_segments, is_dead}
 use Rattle.path_store.specs.declared.lines.LineAction.TheVariants as actions
 use Rattle.path_store.specs.declared.lines.LineLeft.{LineLeft}
+use Rattle.path_core.specs.Deliver.{failing_mapping}
 use Rattle.path_core.specs.DssOut.{is_first_piece}
 use Rattle.path_core.specs.End.{PathEnd}
 use Rattle.path_core.specs.Events.{next_event}
@@ -33,19 +35,18 @@ use Rattle.world_laws.specs.Promises.{HasRoom, NumbersFit}
 use Rattle.world_laws.specs.Worlds.{WorldState, Turn, after_turn, world_run}
 use Rattle.whole_paths.specs.Arrivals.{HasItsMapping}
 use Rattle.whole_paths.specs.AsFar.{stage}
-use Rattle.whole_paths.specs.Brought.{IsToReset, IsUnsure}
+use Rattle.whole_paths.specs.Brought.{FailsItsCheck, IsToReset, IsUnsure}
 use Rattle.whole_paths.specs.Flights.{IsFirst, IsOnItsWay, IsSentSo}
 use Rattle.whole_paths.specs.Harms.{harms_left, loses, longest_way}
-use Rattle.whole_paths.specs.InHand.{IsInHand}
+use Rattle.whole_paths.specs.InHand.{IsInHand, IsPartial}
 use Rattle.whole_paths.specs.Owed.{IsAnswered, IsAnsweredSo, IsToRefuse}
 use Rattle.whole_paths.specs.Waits.{IsNews}
 
 -- ---- where
 
--- The path opens the connection, without checksums, and no line of the script takes options away on it, or alters payload.
+-- The path opens the connection, and no line of the script takes options away on it, or alters payload.
 pub record IsFaithful (p : PathState Carried) : Type 0 where
   pub joined : is_joined p.profile ≡ false
-  pub no_sums : p.profile.spelling.checksums ≡ false
   pub whole : StripsNothing p.link.lines
   pub plain : AltersNothing p.link.lines
 
@@ -115,6 +116,10 @@ pub data IsAstray (s : Side) (r : Record) (p q : PathState Carried) : Type 0 whe
   infinite : IsSome (end_at s p).modes.own_infinite ⊎ IsSome (end_at (peer s) p).modes.peer_infinite → IsAstray s r p q
   -- the peer sent more than the end's window has room for
   past_window : (end_at s p).tcp.recv.edge + 1048576 < (end_at (peer s) p).tcp.send.nxt → IsAstray s r p q
+  -- with checksums: at the peer a mapping fails its check, or the control book isn't told of that; or the mapping at its RCV.NXT isn't whole
+  fails : FailsItsCheck (peer s) p ⊎ IsSome (failing_mapping p.profile (end_at (peer s) p)) → IsAstray s r p q
+  untold : q.profile.spelling.checksums ≡ true → reads_mappings (end_at (peer s) q).modes.mode ≡ false → (end_at (peer s) q).modes.identity ≡ false → IsAstray s r p q
+  partial : IsPartial (peer s) (end_of r) p → IsAstray s r p q
   -- the record is A's first piece, which carries both keys
   first_piece : is_first_piece s r (end_at s p) ≡ true → IsAstray s r p q
 

@@ -3,14 +3,17 @@ use Rattle.std.specs.Prelude.{ℕ, ◌+◌, ◌-◌, ◌^◌, ◌≡◌, ◌<◌
 use Rattle.std.specs.List.{list_any}
 use Rattle.sides.specs.declared.side.Side.{Side}
 use Rattle.path_segments.specs.Spelled.{PlainSegment}
-use Rattle.dss_mapping.specs.Mappings.{run_of}
+use Rattle.dss_mapping.specs.Mappings.{mapping_at, run_of}
 use Rattle.dss_mapping.specs.Runs.{covers}
 use Rattle.dss_mapping.specs.declared.kept.KeptMapping.{KeptMapping}
+use Rattle.fallback_state.specs.Modes.{reads_mappings}
 use Rattle.link_model.specs.Steps.{segments_sent}
 use Rattle.subflow_recv.specs.Receiving.{window_end}
 use Rattle.subflow_tcp.specs.State.{is_fin_passed}
 use Rattle.subflow_tcp.specs.declared.verdicts.Meaning.TheVariants.{Outside}
+use Rattle.path_store.specs.Passing.{is_there}
 use Rattle.path_core.specs.Codec.{Codec}
+use Rattle.path_core.specs.Deliver.{failing_mapping}
 use Rattle.path_core.specs.DssIn.{held_of}
 use Rattle.path_core.specs.MpJoin.{is_joined}
 use Rattle.path_core.specs.OptionsIn.{items_of, options_heard}
@@ -21,7 +24,7 @@ use Rattle.world_laws.specs.Actors.{Actor, ActorCrew}
 use Rattle.world_laws.specs.Worlds.{WorldState, Turn, after_turn}
 use Rattle.whole_paths.specs.AsFar.{stage}
 use Rattle.whole_paths.specs.Answered.{CopiesAreAnswered}
-use Rattle.whole_paths.specs.Brought.{IsToReset, IsUnsure, IsThere, Comes, IsTo, Brings}
+use Rattle.whole_paths.specs.Brought.{FailsItsCheck, IsToReset, IsUnsure, IsThere, Comes, IsTo, Brings}
 use Rattle.whole_paths.specs.Harms.{longest_way}
 use Rattle.whole_paths.specs.Mapped.{says_mapping, IsMapped, MappingsAreLive}
 use Rattle.whole_paths.specs.Owed.{AnswerGoesOn, AnswerComesSo}
@@ -29,14 +32,21 @@ use Rattle.whole_paths.specs.Passed.{WhatIsInOrderIsPassed}
 
 module _ {C : Type 0} where
   -- Each octet before this position came to the end, and its mapping, and the end owes an acknowledgement, which can come by this tick, as
-  -- late as the link may hand on what is sent now. Both SYNs came, and there are no checksums.
+  -- late as the link may hand on what is sent now. Both SYNs came.
   pub record IsInHand (s : Side) (position by : ℕ) (p : PathState C) : Type 0 where
     pub in_time : p.clock + longest_way s p.link ≤ by
     pub opened : 2 ≤ stage (end_at s p).tcp.state
-    pub no_sums : p.profile.spelling.checksums ≡ false
     pub due : (end_at s p).tcp.due.ack ≡ true
     pub octets : (pos : ℕ) → pos < position → (octet : ℕ) × IsThere s pos octet p
     pub mapped : (pos : ℕ) → pos < position → IsMapped s pos p
+
+  -- with checksums: the mapping at RCV.NXT doesn't begin there, or isn't whole before this position
+  pub record IsPartial (s : Side) (position : ℕ) (p : PathState C) : Type 0 where
+    pub checksums : p.profile.spelling.checksums ≡ true
+    pub behind : (end_at s p).tcp.recv.edge < position
+    pub mapping : KeptMapping
+    pub here : mapping_at (end_at s p).receiving.mappings (end_at s p).tcp.recv.edge ≡ Some mapping
+    pub short : is_there mapping (end_at s p).tcp.recv.edge (position - (end_at s p).tcp.recv.edge) ≡ false
 
   -- what becomes of it, as the path becomes another one
   pub data HandGoesOn (k : Codec C) (s : Side) (position by : ℕ) (p q : PathState C) : Type 0 where
@@ -55,6 +65,10 @@ module _ {C : Type 0} where
     plain : (end_at s q).modes.identity ≡ true → HandGoesOn k s position by p q
     unkeyed : (end_at s q).modes.peer_key ≡ None → HandGoesOn k s position by p q
     infinite : IsSome (end_at s p).modes.peer_infinite → HandGoesOn k s position by p q
+    -- with checksums: a mapping fails its check, which no mild connection lets it do, or the control book isn't told of that; or none is whole
+    fails : FailsItsCheck s p ⊎ IsSome (failing_mapping p.profile (end_at s p)) → HandGoesOn k s position by p q
+    untold : q.profile.spelling.checksums ≡ true → reads_mappings (end_at s q).modes.mode ≡ false → (end_at s q).modes.identity ≡ false → HandGoesOn k s position by p q
+    partial : IsPartial s position p → HandGoesOn k s position by p q
 
   -- of an answer to it, that this holds of its segment
   abbrev pub HandComesSo : {k : Codec C} {s : Side} {position by : ℕ} {p q : PathState C} → (PlainSegment → Type 0) → HandGoesOn k s position by p q → Type 0
@@ -74,7 +88,6 @@ module _ {C : Type 0} where
     pub held : held_of p.profile b.copy.due.to (options_heard (end_at b.copy.due.to p) b.copy.segment) ≡ mapping ∷ others
     pub says : list_any says_mapping (items_of (is_joined p.profile) b.copy.due.to (options_heard (end_at b.copy.due.to p) b.copy.segment)) ≡ true
     pub names : (pos : ℕ) → (end_at b.copy.due.to p).tcp.recv.edge ≤ pos → pos < b.position + length b.copy.segment.payload → covers pos (run_of mapping) ≡ true
-    pub no_sums : p.profile.spelling.checksums ≡ false
 
   -- as the path becomes another one, unless it stays as it is: what comes in order is in hand, at once
   abbrev pub ComesInHand : Codec C → PathState C → PathState C → Type 0

@@ -83,4 +83,6 @@ pub mod Overruns
 pub mod LastFin
 pub mod ShutWindows
 pub mod WholeCourses
+pub mod SynAcks
 pub mod Syns
+pub mod WholeMappings

@@ -67,7 +67,7 @@ pub data AskGoesOn (s : Side) (place : ℕ) (fin : Bool) (by written : ℕ) (p q
 -- as the path, where it has no checksums, becomes this actor, and is still open, with fewer than 2^64 - 1 segments sent from each side
 abbrev pub AskGoesOnBy : SixBooks → SixBooks → Actor Carried → Actor Carried → Type 0
 AskGoesOnBy six later (Path p) (Path q) =
-    IsOpen p → IsOpen q → p.profile.spelling.checksums ≡ false → ((t : Side) → segments_sent t p.link < 2 ^ 64 - 1)
+    IsOpen p → IsOpen q → ((t : Side) → segments_sent t p.link < 2 ^ 64 - 1)
     → (s : Side) (place : ℕ) (fin : Bool) (by : ℕ) → WantsWhereItSends six (peer s) place p
     → IsInquired s place fin by p → IsUnanswered place fin (length (send_of s six).written) (end_at s p).sending → AskGoesOn s place fin by (length (send_of s later).written) p q
 AskGoesOnBy six later _ _ = Unit {0}

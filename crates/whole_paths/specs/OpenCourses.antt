@@ -27,6 +27,7 @@ pub record IsOpenNow (w : WorldState Carried) : Type 0 where
   pub here : IsPathAt 0 w path
   pub is_open : IsOpen path
   pub faithful : IsFaithful path
+  pub no_sums : path.profile.spelling.checksums ≡ false
   pub few : (s : Side) → segments_sent s path.link < 2 ^ 64 - 1
 
 -- after these turns

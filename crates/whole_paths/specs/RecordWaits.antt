@@ -12,16 +12,18 @@ use Rattle.world_laws.specs.Worlds.{Turn, all_over}
 use Rattle.whole_paths.specs.Courses.{BeginsARound, TakesAStep, counted, round_end}
 use Rattle.whole_paths.specs.Exchanges.{IsExchanged}
 use Rattle.whole_paths.specs.Finish.{IsPathAt}
+use Rattle.whole_paths.specs.Flights.{IsFirst}
 use Rattle.whole_paths.specs.Harms.{longest_way}
 use Rattle.whole_paths.specs.Mild.{IsMildStart}
 use Rattle.whole_paths.specs.OpenCourses.{IsOpenAfter}
 
--- On a path, a record of data whose end isn't acknowledged. The end sent no FIN, or not all of the record came; and the peer sent no more than
+-- On a path, a first record of data whose end isn't acknowledged. The end sent no FIN, or not all of the record came; and the peer sent no more than
 -- the end's window has room for.
 pub record IsRecordAwaited (x : ℕ) (p : PathState Carried) : Type 0 where
   pub side : Side
   pub awaited : Record
   pub is_data : awaited.kind ≡ Data
+  pub first : IsFirst awaited (end_at side p)
   pub left : (end_at side p).tcp.send.una < end_of awaited
   pub within : end_of awaited ≤ (end_at side p).tcp.send.nxt
   pub ahead : ((end_at side p).tcp.send.finished ≡ false) ⊎ ((end_at (peer side) p).tcp.recv.edge < end_of awaited)

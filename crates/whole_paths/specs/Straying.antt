@@ -2,7 +2,8 @@
 use Rattle.std.specs.Prelude.{ℕ, ◌+◌, ◌≡◌, ◌<◌, ◌≤◌, true, false, Some, List, ◌++◌, slice_get}
 use Rattle.sides.specs.declared.side.Side.{Side}
 use Rattle.sides.specs.Side.{peer}
-use Rattle.subflow_send.specs.Records.{Record}
+use Rattle.fallback_state.specs.Modes.{reads_mappings}
+use Rattle.subflow_send.specs.Records.{Record, end_of}
 use Rattle.subflow_tcp.specs.State.{is_fin_passed}
 use Rattle.subflow_tcp.specs.States.{is_dead}
 use Rattle.path_core.specs.MpJoin.{is_joined}
@@ -15,6 +16,7 @@ use Rattle.world_laws.specs.Worlds.{WorldState, Turn, after_turn, world_run}
 use Rattle.whole_paths.specs.AsFar.{stage}
 use Rattle.whole_paths.specs.Exchanges.{IsAstray}
 use Rattle.whole_paths.specs.Finish.{IsWhole}
+use Rattle.whole_paths.specs.InHand.{IsPartial}
 use Rattle.whole_paths.specs.Mild.{IsMildStart}
 
 -- path 0, whose ends are past the handshake, may send a DSS and aren't dead
@@ -25,15 +27,18 @@ pub record IsOpen (p : PathState Carried) : Type 0 where
   pub clear : (s : Side) → (end_at s p).modes.clear ≡ true
 
 -- of all that leads an exchange astray this is left
-pub data IsHardlyAstray (s : Side) (p q : PathState Carried) : Type 0 where
+pub data IsHardlyAstray (s : Side) (r : Record) (p q : PathState Carried) : Type 0 where
   -- the peer is past the end's FIN
-  behind_fin : is_fin_passed (end_at (peer s) q).tcp ≡ true → IsHardlyAstray s p q
+  behind_fin : is_fin_passed (end_at (peer s) q).tcp ≡ true → IsHardlyAstray s r p q
+  -- with checksums: the control book isn't told of a failed check, or the mapping at the peer's RCV.NXT isn't whole
+  untold : q.profile.spelling.checksums ≡ true → reads_mappings (end_at (peer s) q).modes.mode ≡ false → IsHardlyAstray s r p q
+  partial : IsPartial (peer s) (end_of r) p → IsHardlyAstray s r p q
   -- the peer sent more than the end's window has room for
-  past_window : (end_at s p).tcp.recv.edge + 1048576 < (end_at (peer s) p).tcp.send.nxt → IsHardlyAstray s p q
+  past_window : (end_at s p).tcp.recv.edge + 1048576 < (end_at (peer s) p).tcp.send.nxt → IsHardlyAstray s r p q
 
 -- as the path becomes this actor, and is still open
 abbrev pub HardlyStrays : Actor Carried → Actor Carried → Type 0
-HardlyStrays (Path p) (Path q) = IsOpen p → IsOpen q → (s : Side) (r : Record) → IsAstray s r p q → IsHardlyAstray s p q
+HardlyStrays (Path p) (Path q) = IsOpen p → IsOpen q → (s : Side) (r : Record) → IsAstray s r p q → IsHardlyAstray s r p q
 HardlyStrays _ _ = Unit {0}
 
 -- by any turn of a mild connection

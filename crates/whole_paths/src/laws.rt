@@ -56,9 +56,11 @@ ghost use Rattle.whole_paths.specs.Saying.{EachSegmentSaysWhatCame};
 ghost use Rattle.whole_paths.specs.Sent.{WhatCameWasSent};
 ghost use Rattle.whole_paths.specs.SentByTurns.{EachTurnSendsOneAtMost};
 ghost use Rattle.whole_paths.specs.Shut.{WhatIsLeftIsPastTheEdge};
+ghost use Rattle.whole_paths.specs.SynAcks.{EachSynAckIsAnswered};
 ghost use Rattle.whole_paths.specs.Syns.{EachSynComes};
 ghost use Rattle.whole_paths.specs.Timers.{TimersRunOut};
 ghost use Rattle.whole_paths.specs.Waits.{NoTimerIsPutOff};
+ghost use Rattle.whole_paths.specs.WholeMappings.{MappingsAreWhole};
 ghost use Rattle.whole_paths.specs.WindowsHeard.{EachWindowCounts};
 ghost use Rattle.whole_paths.specs.Writers.{WritersGoOn};
 
@@ -622,6 +624,15 @@ pub fn a_copy_leaves_by_arriving()
     ensures values { CopiesLeaveByArriving values }
 {}
 
+/// A law: with checksums, up to the end of the first record of data of an end of path 0 of a mild connection, the mapping at its peer's RCV.NXT
+/// begins there, and ends there or before.
+///
+/// So octets that came in order are passed with checksums too, as soon as their record is whole (RFC 8684, section 3.3.1): RCV.NXT stands at the
+/// beginning of a piece, as each piece passes as a whole.
+pub fn mappings_are_whole()
+    ensures { MappingsAreWhole }
+{}
+
 /// A law: what arrives as a copy is due, at its tick, at its side and with its number, carries what the copy does. So it is with the first
 /// 2^64 - 2 segments of a side, whose copies carry the same, and of which no two have one number.
 pub fn copies_arrive_as_sent()
@@ -636,4 +647,14 @@ pub fn copies_arrive_as_sent()
 /// is further, or the exchange is held up by what counts (`goes_on`).
 pub fn each_syn_comes()
     ensures { EachSynComes }
+{}
+
+/// A law: the SYN/ACK of B on path 0 comes again to A's end that is past the handshake, which acknowledges it, and B hears that, whatever is
+/// lost (RFC 9293, sections 3.5 and 3.10.7.4).
+///
+/// So a half-open end opens though the third segment was lost. Where a turn is over that is to come within a minute and the longest time there
+/// and back (`begin`, `end`). By each turn it stays so, or an end is further, or there is news or else something that counts (`goes_on`); it
+/// isn't said that A refuses no copy, and that it sends no more than B's window has room for (`refuses`, `past_window`).
+pub fn each_syn_ack_is_answered()
+    ensures { EachSynAckIsAnswered }
 {}

@@ -1,0 +1,5 @@
+use Rattle.whole_paths.proofs.WholeMappings as mappings
+use Rattle.whole_paths.proofs.laws.mappings_are_whole.Goals as goal
+
+pub returns : goal.returns
+returns c = mappings.mappings_are_whole

@@ -1,0 +1,69 @@
+-- How the SYN/ACK of B, that comes again to an end past the handshake, is answered, so that B hears it (RFC 9293, section 3.10.7.4).
+use Rattle.std.specs.Prelude.{ℕ, ◌+◌, ◌-◌, ◌^◌, ◌≡◌, ◌<◌, ◌≤◌, Some, List, [], slice_get}
+use Rattle.sides.specs.declared.side.Side.{Side}
+use Rattle.sides.specs.declared.side.Side.TheVariants.{A, B}
+use Rattle.link_model.specs.Steps.{segments_sent}
+use Rattle.subflow_send.specs.Records.{Record}
+use Rattle.subflow_send.specs.declared.record.RecordKind.TheVariants.{Syn}
+use Rattle.subflow_tcp.specs.declared.handshake.State.TheVariants.{SynReceived}
+use Rattle.path_core.specs.State.{PathState, end_at}
+use Rattle.path_core.specs.Values.{Carried, values}
+use Rattle.world_laws.specs.declared.member.Member.TheVariants.{App, Path}
+use Rattle.world_laws.specs.Actors.{Actor, ActorCrew}
+use Rattle.world_laws.specs.Members.{HoldsOfKind}
+use Rattle.world_laws.specs.Openings.{Start}
+use Rattle.world_laws.specs.Promises.{HasRoom, NumbersFit}
+use Rattle.world_laws.specs.RoundDone.{reached}
+use Rattle.world_laws.specs.Worlds.{Turn, after_turn}
+use Rattle.whole_paths.specs.AsFar.{stage}
+use Rattle.whole_paths.specs.Exchanges.{IsBareWithin, IsFaithful, IsHeldUp}
+use Rattle.whole_paths.specs.Flights.{IsOnItsWay, IsSentSo}
+use Rattle.whole_paths.specs.Harms.{longest_way}
+use Rattle.whole_paths.specs.Owed.{IsAnswered, IsAnsweredSo, IsToRefuse}
+use Rattle.whole_paths.specs.Syns.{IsSynSent}
+
+-- by this tick an answer is to come
+pub data IsSynAnswered (x : ℕ) (p : PathState Carried) : Type 0 where
+  -- a copy of B's SYN comes so early that the answer comes in time
+  comes : (syn : Record) → syn.kind ≡ Syn → syn.pos ≡ 0 → syn.piece ≡ [] → (arrival : ℕ) → arrival + longest_way A p.link ≤ x → (way : IsOnItsWay values B syn arrival p) → IsSentSo (IsSynSent B) way
+      → IsSynAnswered x p
+  -- A answers it
+  answered : (h : IsAnswered values A 1 x p) → IsAnsweredSo (IsBareWithin p.b.tcp.recv.edge p.a.tcp.send.nxt) h → IsSynAnswered x p
+
+-- A's end is past the handshake, or dead; B's is half-open, and its SYN isn't acknowledged
+pub record IsToBeAnswered (x : ℕ) (p : PathState Carried) : Type 0 where
+  pub past : 3 ≤ stage p.a.tcp.state
+  pub half_open : p.b.tcp.state ≡ SynReceived
+  pub unheard : p.b.tcp.send.una ≡ 0
+  pub exchange : IsSynAnswered x p
+
+-- as the path becomes another one: it is awaited still; or an end went further; or something else came between, which counts
+pub data SynAckGoesOn (x : ℕ) (p q : PathState Carried) : Type 0 where
+  on : IsToBeAnswered x q → SynAckGoesOn x p q
+  further : (t : Side) → stage (end_at t p).tcp.state < stage (end_at t q).tcp.state → SynAckGoesOn x p q
+  held_up : IsHeldUp B p q → SynAckGoesOn x p q
+  -- A refuses a copy next, or sent more than B's window has room for
+  refuses : IsToRefuse A p.agenda → SynAckGoesOn x p q
+  past_window : p.b.tcp.recv.edge + 1048576 < p.a.tcp.send.nxt → SynAckGoesOn x p q
+
+-- as the path becomes this actor, with fewer than 2^64 - 1 segments sent from each side
+abbrev pub SynAcksGoOn : Actor Carried → Actor Carried → Type 0
+SynAcksGoOn (Path p) (Path q) = IsFaithful p → ((t : Side) → segments_sent t p.link < 2 ^ 64 - 1) → (x : ℕ) → IsToBeAnswered x p → SynAckGoesOn x p q
+SynAcksGoOn (App a) (App b) = Unit {0}
+SynAcksGoOn _ _ = ⊥
+
+-- where a turn is over, within a minute and the longest time there and back
+abbrev pub SynAcksBegin : PathState Carried → Type 0
+SynAcksBegin p = p.agenda ≡ [] → 3 ≤ stage p.a.tcp.state → p.b.tcp.state ≡ SynReceived → p.b.tcp.send.una ≡ 0 → IsToBeAnswered (p.clock + 60000 + longest_way B p.link + longest_way A p.link) p
+
+-- the clock isn't past its tick
+abbrev pub SynAcksEnd : PathState Carried → Type 0
+SynAcksEnd p = (x : ℕ) → IsToBeAnswered x p → p.clock ≤ x
+
+-- on path 0, at any moment, and by any turn
+pub record EachSynAckIsAnswered : Type 0 where
+  pub begin : (start : Start) (turns : List Turn) → HasRoom start → NumbersFit start → (c : ActorCrew Carried) → slice_get (reached values start turns).crew 2 ≡ Some c
+      → HoldsOfKind (λ app. Unit {0}) SynAcksBegin c.member
+  pub end : (start : Start) (turns : List Turn) → (actor : ℕ) (c : ActorCrew Carried) → slice_get (reached values start turns).crew actor ≡ Some c → HoldsOfKind (λ app. Unit {0}) SynAcksEnd c.member
+  pub goes_on : (start : Start) (turns : List Turn) → HasRoom start → NumbersFit start → let w = reached values start turns in (turn : Turn) (actor : ℕ) (c : ActorCrew Carried) → slice_get w.crew actor ≡ Some c
+      → (d : ActorCrew Carried) × (slice_get (after_turn values turn w).crew actor ≡ Some d) × SynAcksGoOn c.member d.member
