@@ -315,7 +315,7 @@ pub fn mild_scripts_end_as_they_begin()
 /// is still whole after those rounds, no end died, and both files are delivered (`octets`, `values`). It is said of mild scripts, by which no
 /// option is taken away, no payload is altered and no side closes at once; without checksums, and of fewer than 2^64 - 1 turns. Enough
 /// rounds are so many that all is acknowledged of which there can be news, one after the other, each within a greatest timeout, the longest
-/// time there and back, and three rounds; and as many more for each segment that is harmed.
+/// time there and back, and four rounds; and as many more for each segment that is harmed.
 pub fn whole_paths_deliver()
     ensures ends_octets { UncheckedPathsEnd octets long_patience }
     ensures ends_values { UncheckedPathsEnd values long_patience }
