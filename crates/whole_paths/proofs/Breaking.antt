@@ -242,7 +242,7 @@ more_none : {X : Type 0} (test : X → Bool) (xs : List X) (y : X) → list_any 
 more_none test [] y none last = or_from (test y) false last refl
 more_none test (x ∷ xs) y none last = let parts = or_parts (test x) (list_any test xs) none in or_from (test x) (list_any test (xs ++ y ∷ [])) parts.0 (more_none test xs y parts.1 last)
 
-asks_open : (s : Side) (m : Actor Carried) (x : Ask) → member_asks values m ≡ Some x → OpenMember m → asks_fast_close s x ≡ false
+pub asks_open : (s : Side) (m : Actor Carried) (x : Ask) → member_asks values m ≡ Some x → OpenMember m → asks_fast_close s x ≡ false
 asks_open s (App a) x is h = (elim a.agenda as (λ ds. app_asks_first ds a ≡ Some x → closes ds ≡ false → asks_fast_close s x ≡ false)
     [ [] ↦ λ is none. cc | d ∷ ds ↦ λ is none. subst (λ y. asks_fast_close s y ≡ false) (same_Some _ x is) (ask_open s d ds a none) ]) is h.1
 asks_open s (Path p) x is h = (elim p.agenda as (λ ds. asks_first values ds p ≡ Some x → asks_fast_close s x ≡ false)
@@ -256,7 +256,7 @@ member_next_open : (m : Actor Carried) → OpenMember m → OpenMember (member_n
 member_next_open (App a) h = settled_open start_of_app (record a { count = 0; stops_in = a_round_less a.stops_in; agenda = start_of_app }) (ap a_round_less h.0)
 member_next_open (Path p) h = tt
 
-each_open : (start : Start) (turns : List Turn) → IsMildStart start → Every OpenCrew (world_run values turns (opened_world start)).crew
+pub each_open : (start : Start) (turns : List Turn) → IsMildStart start → Every OpenCrew (world_run values turns (opened_world start)).crew
 each_open start turns mild = run_lifted values OpenCrew
     (λ books c x is h. (member_takes_open (answer_to books x) c.member h.0, λ s. more_none (note_asks_fast_close s) c.list (note_of books c.pass x) (h.1 s) (asks_open s c.member x is h.0)))
     (λ stamp c over h. (member_next_open c.member h.0, h.1)) turns (opened_world start)

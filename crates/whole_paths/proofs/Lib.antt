@@ -45,6 +45,7 @@ pub mod Keeping
 pub mod Keyed
 pub mod Knowing
 pub mod KnownEnds
+pub mod KnownModes
 pub mod Lanes
 pub mod Links
 pub mod Opening
@@ -122,4 +123,7 @@ pub mod WholeCourses
 pub mod Listening
 pub mod SynAcks
 pub mod Syns
+pub mod FirstPieces
 pub mod WholeMappings
+pub mod ReadModes
+pub mod NeverAborted

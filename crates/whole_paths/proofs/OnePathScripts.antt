@@ -155,5 +155,5 @@ ends_as_it_begins within ends script path file_a file_b before more mild also la
     enough : Enough (begun ++ more)
     enough few going many =
         let harms = harmed values 0 (begun ++ more) (opened_world start) in
-        ends start (plan_of script 0 path) begun more harms (mild_scripts_begin_with_one_path script path file_a file_b mild) also.unchecked
+        ends start (plan_of script 0 path) begun more harms (mild_scripts_begin_with_one_path script path file_a file_b mild)
         (lawful_rest begun more (opened_world start) going) few first (le_refl harms) (rounds_so (ticks_for (within start) (suc (most_news start + harms))) (rounds_in more) many)

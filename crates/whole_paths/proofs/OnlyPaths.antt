@@ -4,8 +4,8 @@ use Rattle.sides.specs.declared.side.Side.TheVariants.{A}
 use Rattle.path_core.specs.Octets.{octets}
 use Rattle.path_core.specs.Values.{values}
 use Rattle.world_laws.specs.Openings.{PathPlan, Start}
-use Rattle.whole_paths.specs.Finish.{UncheckedPathsDeliver}
-use Rattle.whole_paths.specs.OnePathScripts.{BeginsWithOnePath, EndsWithin, UncheckedPathsEnd, way_there_and_back}
+use Rattle.whole_paths.specs.Finish.{BriefPathsDeliver}
+use Rattle.whole_paths.specs.OnePathScripts.{BeginsWithOnePath, EndsWithin, BriefPathsEnd, way_there_and_back}
 use Rattle.whole_paths.specs.OnlyPaths.{long_patience, news_within}
 use Rattle.whole_paths.specs.WholeCourses.{IsAwaited, WaysAreShort}
 use Rattle.whole_paths.specs.WindowWaits.{AwaitsAWindow}
@@ -28,14 +28,14 @@ only_paths_end = what_is_there_in_time_is_delivered news_within (exchanges_bring
     exchanges start plan most way (60000 + way) (λ n x turns. AwaitsAWindow start x turns) begins.one begins.mild (omega (arith, least)) (ways_short start plan begins) (le_refl (60000 + way))
     (shut_windows_open_in_time start plan most way begins.one begins.mild (omega (arith, least))))))
 
-pub paths_end : UncheckedPathsEnd values long_patience
+pub paths_end : BriefPathsEnd values long_patience
 paths_end = ends_as_it_begins news_within only_paths_end
 
-pub paths_end_in_octets : UncheckedPathsEnd octets long_patience
+pub paths_end_in_octets : BriefPathsEnd octets long_patience
 paths_end_in_octets = ends_as_it_begins_in_octets news_within only_paths_end
 
-pub whole_paths_deliver : UncheckedPathsDeliver values long_patience
+pub whole_paths_deliver : BriefPathsDeliver values long_patience
 whole_paths_deliver = whole_paths_didnt_die values long_patience paths_end
 
-pub whole_paths_deliver_in_octets : UncheckedPathsDeliver octets long_patience
+pub whole_paths_deliver_in_octets : BriefPathsDeliver octets long_patience
 whole_paths_deliver_in_octets = whole_paths_didnt_die octets long_patience paths_end_in_octets

@@ -54,7 +54,7 @@ no_carrier : (P : Type 0) (o : Option ℕ) → IfSome o (λ key. P) → (P → �
 no_carrier P None h never is = true≢false (sym is)
 no_carrier P (Some key) h never is = never h
 
-cast_notes : (s : Side) (t : Cast Carried) → notes_of s (world_of t).crew ≡ (seat_of s t).list
+pub cast_notes : (s : Side) (t : Cast Carried) → notes_of s (world_of t).crew ≡ (seat_of s t).list
 cast_notes = elim [ A ↦ λ t. refl | B ↦ λ t. refl ]
 
 pub ends_ask_for_themselves : (start : Start) (turns : List Turn) → IsMildStart start → (actor : ℕ) (c : ActorCrew Carried) → slice_get (world_run values turns (opened_world start)).crew actor ≡ Some c

@@ -207,7 +207,7 @@ later_between more v p q was now =
 
 -- ---- from where the path is whole to where it still is
 
-module _ (start : Start) (mild : IsMildStart start) (plain : start.checksums ≡ false) (before : List Turn) (whole : IsWhole 0 (reached values start before)) where
+module _ (start : Start) (mild : IsMildStart start) (before : List Turn) (whole : IsWhole 0 (reached values start before)) where
   abbrev w : WorldState Carried
   w = reached values start before
 
@@ -243,27 +243,26 @@ module _ (start : Start) (mild : IsMildStart start) (plain : start.checksums ≡
       here = h.here;
       is_open = h.open_if first_now.first;
       faithful = faithful;
-      no_sums = first_now.checksums ∙ plain;
       few = λ s. (later_between rest (world_run values ts w) h.path l h.here there).fewer s (few s);
     }
 
 -- ---- the turns between
 
-module _ (start : Start) (mild : IsMildStart start) (plain : start.checksums ≡ false) (before more : List Turn) (whole : IsWhole 0 (reached values start before))
+module _ (start : Start) (mild : IsMildStart start) (before more : List Turn) (whole : IsWhole 0 (reached values start before))
     (last : IsWhole 0 (reached values start (before ++ more))) (few : (s : Side) → segments_sent s last.path.link < 2 ^ 64 - 1) where
   holds_along : (ts us : List Turn) → ts ++ us ≡ more → IsOpenAfter start (before ++ ts)
   holds_along ts us is =
       subst IsOpenNow (sym (run_append values before ts (opened_world start)))
-      (holds_now start mild plain before whole ts us
-      (open_at start mild plain before whole ts us (subst (λ (v : WorldState Carried). IsWhole 0 v) last_is last))
+      (holds_now start mild before whole ts us
+      (open_at start mild before whole ts us (subst (λ (v : WorldState Carried). IsWhole 0 v) last_is last))
       last.path (subst (λ (v : WorldState Carried). IsPathAt 0 v last.path) (last_is ∙ run_append values ts us (reached values start before)) last.here) few)
     where
       last_is : reached values start (before ++ more) ≡ world_run values (ts ++ us) (reached values start before)
       last_is = run_append values before more (opened_world start) ∙ ap (λ (xs : List Turn). world_run values xs (reached values start before)) (sym is)
 
 pub open_exchanges_end : OpenExchangesEnd
-open_exchanges_end start most within Over Waits mild plain x before more lawful whole last few low enough =
-    exchanges_end values start (IsOpenAfter start) most within Over Waits x (λ turns. news_is_bounded start turns mild.plain mild.fit) before more lawful (holds_along start mild plain before more whole last few) low enough
+open_exchanges_end start most within Over Waits mild x before more lawful whole last few low enough =
+    exchanges_end values start (IsOpenAfter start) most within Over Waits x (λ turns. news_is_bounded start turns mild.plain mild.fit) before more lawful (holds_along start mild before more whole last few) low enough
 
 pub lawful_parts : (ts us : List Turn) (w : WorldState Carried) → AreLawful values (ts ++ us) w → AreLawful values ts w × AreLawful values us (world_run values ts w)
 lawful_parts [] us w lawful = (tt, lawful)

@@ -40,10 +40,10 @@ use Rattle.world_laws.proofs.Promises.Made.{run_fresh}
 use Rattle.world_laws.proofs.Promises.OverOctets.{same_notes_of}
 use Rattle.world_laws.proofs.Worlds.Carrying.{run_same}
 use Rattle.whole_paths.specs.Delivery.{AllIsThere}
-use Rattle.whole_paths.specs.Finish.{AnEndDied, IsMild, IsPathAt, IsUnchecked, IsWhole, Patience, WholePathsDeliverWhere, harmed, harms_between, harms_of, is_harmed, rounds_in}
+use Rattle.whole_paths.specs.Finish.{AnEndDied, IsMild, IsPathAt, IsBrief, IsWhole, Patience, WholePathsDeliverWhere, harmed, harms_between, harms_of, is_harmed, rounds_in}
 use Rattle.whole_paths.specs.News.{news, path_news, side_news}
 use Rattle.whole_paths.specs.OnePathScripts.{AnEndDiedEarly, EndsAsItBegins, rounds_within}
-use Rattle.whole_paths.specs.OverOctets.{FewLossesFinishAsOverValues, IsAsFarAsOverValues, OctetsAreAsFarAsValues, OnePathEndsAsOverValues, UncheckedPathsDeliverAsOverValues, WholePathsDeliverAsOverValues}
+use Rattle.whole_paths.specs.OverOctets.{FewLossesFinishAsOverValues, IsAsFarAsOverValues, OctetsAreAsFarAsValues, OnePathEndsAsOverValues, BriefPathsDeliverAsOverValues, WholePathsDeliverAsOverValues}
 use Rattle.whole_paths.proofs.OnePathScripts.{ends_as_it_begins, mild_scripts_begin_with_one_path}
 
 -- ---- lawful turns
@@ -258,8 +258,8 @@ deliver_where Also enough deliver script path file_a file_b before more mild als
 pub whole_paths_deliver_as_over_values : WholePathsDeliverAsOverValues
 whole_paths_deliver_as_over_values = deliver_where (λ script turns. Unit {0})
 
-pub unchecked_paths_deliver_as_over_values : UncheckedPathsDeliverAsOverValues
-unchecked_paths_deliver_as_over_values = deliver_where IsUnchecked
+pub brief_paths_deliver_as_over_values : BriefPathsDeliverAsOverValues
+brief_paths_deliver_as_over_values = deliver_where IsBrief
 
 ended : (start : Start) (turns : List Turn) → IsAsFarAsOverValues start turns → (outcome_of (reached values start turns).crew ≡ Delivered) ⊎ AnEndDied 0 (reached values start turns)
     → (outcome_of (reached octets start turns).crew ≡ Delivered) ⊎ AnEndDied 0 (reached octets start turns)

@@ -1,11 +1,12 @@
 -- A wait for a record goes on by each turn between open ends, or something is counted.
 use Rattle.std.proofs.Common.{◌≡◌, refl, sym, subst, ap, ◌∙◌, ◌⊎◌, ⊎_elim, inl, inr, ℕ, ◌+◌, ◌<◌, ◌≤◌, arith, Bool, true, false, true≢false, if◌then◌else◌, le_refl, map, Some, None, Option, List, [], ◌∷◌, ◌++◌, suc, IfSome}
 use Rattle.std.specs.List.{slice_get}
-use Rattle.std.proofs.lemmas.Bool.{cases_lt, ltb-true}
+use Rattle.std.proofs.lemmas.Bool.{both_ways, cases_lt, ltb-true}
 use Rattle.std.proofs.lemmas.Option.{same_Some}
 use Rattle.sides.specs.declared.side.Side.{Side}
 use Rattle.sides.specs.declared.side.Side.TheVariants.{A, B}
 use Rattle.sides.specs.Side.{peer}
+use Rattle.fallback_state.specs.Modes.{reads_mappings}
 use Rattle.subflow_send.specs.Records.{Record, end_of}
 use Rattle.stream_lanes.proofs.Lists.{in_map}
 use Rattle.subflow_tcp.specs.State.{is_behind, is_fin_passed}
@@ -38,6 +39,7 @@ use Rattle.whole_paths.specs.Mild.{IsMildStart}
 use Rattle.whole_paths.specs.News.{ActorCounts, one_if}
 use Rattle.whole_paths.specs.News.{Counts as counts}
 use Rattle.whole_paths.specs.OpenCourses.{HoldUpsCount, IsOpenAfter, IsOpenNow}
+use Rattle.whole_paths.specs.ReadModes.{ReadsMappings}
 use Rattle.whole_paths.specs.RecordWaits.{AwaitsARecord, HasARecord, IsRecordAwaited, RecordsAreAwaitedAlways}
 use Rattle.whole_paths.specs.Straying.{HardlyStrays, IsHardlyAstray, IsOpen}
 use Rattle.whole_paths.specs.Straying.{IsHardlyAstray as hardly}
@@ -53,6 +55,7 @@ use Rattle.whole_paths.proofs.GoesOn.{goes_on_so}
 use Rattle.whole_paths.proofs.Keeping.{what_waits_is_kept}
 use Rattle.whole_paths.proofs.InTime.{nil_so}
 use Rattle.whole_paths.proofs.OpenCourses.{IsFirstPath, each_first}
+use Rattle.whole_paths.proofs.ReadModes.{ends_read_mappings}
 use Rattle.whole_paths.proofs.RoundBegins.{next_rests, no_round_counts}
 use Rattle.whole_paths.proofs.Straying.{open_ends_hardly_stray}
 use Rattle.whole_paths.proofs.Timing.{timers_run_out}
@@ -208,9 +211,14 @@ module _ (start : Start) (mild : IsMildStart start) (turns : List Turn) (turn : 
       whole : NoneIsPartial p
       whole = subst (HoldsOfKind (λ app. Unit {0}) NoneIsPartial) before.here.is (mappings_are_whole start turns mild before.here.crew before.here.there)
 
+      -- and checks are told of
+      is_read : ReadsMappings q
+      is_read = subst (HoldsOfKind (λ app. Unit {0}) ReadsMappings) after.here.is
+          (ends_read_mappings start (turns ++ turn ∷ []) mild 2 after.here.crew (subst (λ (x : WorldState Carried). slice_get x.crew 2 ≡ Some after.here.crew) (sym last) after.here.there))
+
       strays : IsHardlyAstray s r p q → Next
       strays (hardly.behind_fin behind) = if_ahead (λ ahead. absurd (not_behind ahead behind))
-      strays (hardly.untold sums reads) = absurd (true≢false (sym sums ∙ after.no_sums))
+      strays (hardly.untold sums reads) = absurd (both_ways (reads_mappings (end_at (peer s) q).modes.mode) reads (is_read (peer s)))
       strays (hardly.partial is) = absurd (whole s r h.first h.is_data is)
       strays (hardly.past_window past) = absurd (let room = h.room in omega (arith, past, room))
 

@@ -1,6 +1,6 @@
 -- B's SYN/ACK comes again to an end past the handshake, which acknowledges it, and that comes back.
-use Rattle.std.proofs.Common.{◌≡◌, refl, sym, subst, ap, ◌∙◌, inl, inr, ⊎_elim, ℕ, ◌+◌, ◌-◌, ◌^◌, ◌<◌, ◌≤◌, arith, le_refl, max, Bool, true, false, if◌then◌else◌, Some, None, List, [], ◌∷◌}
-use Rattle.std.specs.List.{slice_get}
+use Rattle.std.proofs.Common.{◌⊎◌, true≢false, ◌≡◌, refl, sym, subst, ap, ◌∙◌, inl, inr, ⊎_elim, ℕ, ◌+◌, ◌-◌, ◌^◌, ◌<◌, ◌≤◌, arith, le_refl, max, Bool, true, false, if◌then◌else◌, Some, None, List, [], ◌∷◌}
+use Rattle.std.specs.List.{list_any, slice_get}
 use Rattle.std.proofs.lemmas.Bool.{cases_lt}
 use Rattle.path_segments.specs.Spelled.{PlainSegment}
 use Rattle.sides.specs.declared.side.Side.{Side}
@@ -13,7 +13,8 @@ use Rattle.subflow_send.specs.declared.record.RecordKind.{RecordKind}
 use Rattle.subflow_send.specs.declared.record.RecordKind.TheVariants.{Data, Fin, Syn}
 use Rattle.subflow_send.specs.Rules.{is_fin}
 use Rattle.subflow_tcp.specs.Emitting.{is_syn}
-use Rattle.subflow_tcp.specs.States.{is_closed_to_segments, is_dead, is_opening}
+use Rattle.subflow_tcp.specs.States.{is_behind_fin, is_closed_to_segments, is_dead, is_opening}
+use Rattle.subflow_tcp.specs.declared.handshake.State.{State as EndPhase}
 use Rattle.subflow_tcp.specs.declared.handshake.State.TheVariants as phase
 use Rattle.subflow_tcp.specs.declared.verdicts.Meaning.TheVariants as means
 use Rattle.path_agenda.specs.declared.duty.Duty.{Duty}
@@ -26,14 +27,16 @@ use Rattle.path_core.specs.declared.events.Event.TheVariants as happenings
 use Rattle.world_laws.specs.declared.member.Member.TheVariants.{App, Path}
 use Rattle.world_laws.specs.Actors.{Actor, ActorCrew}
 use Rattle.world_laws.specs.Openings.{Start}
-use Rattle.world_laws.specs.Promises.{HasRoom, NumbersFit}
 use Rattle.world_laws.specs.RoundDone.{reached}
 use Rattle.world_laws.specs.Worlds.{Turn, after_turn}
+use Rattle.world_laws.proofs.Lanes.Showing.{is_unfinished}
 use Rattle.whole_paths.specs.AgendaSteps.{event_side}
 use Rattle.whole_paths.specs.Answered.{AcksGoFirst}
 use Rattle.whole_paths.specs.Arrivals.{Arrival}
 use Rattle.whole_paths.specs.AsFar.{stage}
 use Rattle.whole_paths.specs.Copies.{IsUnderWay}
+use Rattle.whole_paths.specs.Delivery.{HasFinished}
+use Rattle.whole_paths.specs.Delivery.HasFinished.{sent_fin}
 use Rattle.whole_paths.specs.Exchanges.{IsBareWithin, IsFaithful}
 use Rattle.whole_paths.specs.Exchanges.{IsHeldUp as held}
 use Rattle.whole_paths.specs.Flights.{ComesSo, GoesOnTo, IsCopyOf}
@@ -42,8 +45,12 @@ use Rattle.whole_paths.specs.Harms.{longest_way}
 use Rattle.whole_paths.specs.Hearing.{PathsCount}
 use Rattle.whole_paths.specs.InTime.{ComesFrom}
 use Rattle.whole_paths.specs.Kept.{EndsKeepWhatWaits}
+use Rattle.whole_paths.specs.Mild.{IsMildStart, IsNeverBroken, is_harsh}
+use Rattle.whole_paths.specs.News.{one_if}
+use Rattle.whole_paths.specs.Overruns.{StaysWithin}
 use Rattle.whole_paths.specs.Opening.{ComesAs, IsSyn, SynCounts}
-use Rattle.whole_paths.specs.Owed.{AnswerComesSo, AnswerGoesOn, IsAnswered, IsAnsweredSo}
+use Rattle.whole_paths.specs.Owed.{AnswerComesSo, AnswerGoesOn, IsAnswered, IsAnsweredSo, IsToRefuse}
+use Rattle.whole_paths.specs.Owed.{IsToRefuse as refuse}
 use Rattle.whole_paths.specs.Owed.{AnswerGoesOn as answer}
 use Rattle.whole_paths.specs.SynAcks.{EachSynAckIsAnswered, IsSynAnswered, IsToBeAnswered, SynAckGoesOn, SynAcksBegin, SynAcksEnd, SynAcksGoOn}
 use Rattle.whole_paths.specs.SynAcks.IsSynAnswered.{answered, comes}
@@ -52,6 +59,8 @@ use Rattle.whole_paths.specs.Syns.{IsSynSent}
 use Rattle.whole_paths.specs.Waits.{IsNews}
 use Rattle.whole_paths.proofs.Acking.{HandsComeSo, hands_come_so, same_actor}
 use Rattle.whole_paths.proofs.Arrivals.{each_copy_arrives}
+use Rattle.whole_paths.proofs.Breaking.{never_breaks}
+use Rattle.whole_paths.proofs.Clearing.{Clears, MemberClears, each_clears, never_refuses}
 use Rattle.whole_paths.proofs.Exchanges.{IsTurn, Known, OfPaths, acks_bare, answer_comes, answer_from, answer_later, bare_later, below_limit, numbered, tick_from, way_from}
 use Rattle.whole_paths.proofs.Flying.{FramesStay, SentAtTheEnd, SentGoOn, frames_stay, sent_at_the_end, sent_go_on}
 use Rattle.whole_paths.proofs.Hearing.{each_acknowledgement_counts}
@@ -60,16 +69,28 @@ use Rattle.whole_paths.proofs.Keeping.{what_waits_is_kept}
 use Rattle.whole_paths.proofs.Knowing.{what_is_told_is_known}
 use Rattle.whole_paths.proofs.OpenCourses.{IsFirstPath, each_first}
 use Rattle.whole_paths.proofs.OpeningSyns.{each_syn_counts}
+use Rattle.whole_paths.proofs.Overruns.{no_end_overruns}
 use Rattle.whole_paths.proofs.Owing.{copies_are_answered}
 use Rattle.whole_paths.proofs.Passing.{what_is_in_order_is_passed}
 use Rattle.whole_paths.proofs.Paying.{AnswersComeSo, TurnedTo, answers_come_so, turned_to}
 use Rattle.whole_paths.proofs.Reached.{first_reached, none_left}
 use Rattle.whole_paths.proofs.Syns.{each_known, still_received}
 
+-- what a state is, as to the FIN
+behind_or : (state : EndPhase) → (is_behind_fin state ≡ true) ⊎ (is_unfinished state ≡ true)
+behind_or phase.FinWait1 = inl refl
+behind_or phase.FinWait2 = inl refl
+behind_or phase.Closing = inl refl
+behind_or phase.LastAck = inl refl
+behind_or phase.TimeWait = inl refl
+behind_or phase.Dead = inl refl
+behind_or _ = inr refl
+
 -- ---- one turn of a path
 
 module _ (p q : PathState Carried) (known : Known p) (faithful : IsFaithful p) (few : (t : Side) → segments_sent t p.link < 2 ^ 64 - 1) (turn : IsTurn p q) (acks_first : AcksGoFirst p)
-    (hands : HandsComeSo (IsBareWithin p.b.tcp.recv.edge p.a.tcp.send.nxt) values (Path p) (Path q)) (answers : AnswersComeSo (IsBareWithin p.b.tcp.recv.edge p.a.tcp.send.nxt) values (Path p) (Path q)) where
+    (hands : HandsComeSo (IsBareWithin p.b.tcp.recv.edge p.a.tcp.send.nxt) values (Path p) (Path q)) (answers : AnswersComeSo (IsBareWithin p.b.tcp.recv.edge p.a.tcp.send.nxt) values (Path p) (Path q))
+    (unbroken : list_any is_harsh p.agenda ≡ false) (clears : (t : Side) → Clears t p.agenda (end_at t p)) (within : StaysWithin p) (first_path : is_unfinished p.a.tcp.state ≡ true → p.a.tcp.send.finished ≡ false) where
   abbrev Bare : PlainSegment → Type 0
   Bare = IsBareWithin p.b.tcp.recv.edge p.a.tcp.send.nxt
 
@@ -82,6 +103,14 @@ module _ (p q : PathState Carried) (known : Known p) (faithful : IsFaithful p) (
     unstripped = faithful.whole.strips B (next_number B p.link) p.clock;
     unaltered = faithful.plain.alters B (next_number B p.link);
   }
+
+  -- A sends more than B's window has room for with its FIN alone
+  past_so : is_dead p.a.tcp.state ≡ false → p.b.tcp.recv.edge + 1048576 < p.a.tcp.send.nxt → HasFinished p.a
+  past_so living far = by p.a.tcp.send.finished refl
+    where
+      by : (b : Bool) → p.a.tcp.send.finished ≡ b → HasFinished p.a
+      by false is = absurd (let una = known.came.una A living in let most = within A in let none = ap one_if is in omega (arith, far, una, most, none))
+      by true is = ⊎_elim (λ behind. sent_fin behind living) (λ before. absurd (true≢false (sym is ∙ first_path before))) (behind_or (p.a.tcp.state))
 
   module _ (x : ℕ) (h : IsToBeAnswered x p) where
     abbrev Goes : Type 0
@@ -112,21 +141,6 @@ module _ (p q : PathState Carried) (known : Known p) (faithful : IsFaithful p) (
         stays (answered later.0 (subst (λ n. IsAnsweredSo (IsBareWithin n q.a.tcp.send.nxt) later.0) (sym same)
         (bare_later A 1 x p.b.tcp.recv.edge p.a.tcp.send.nxt q.a.tcp.send.nxt q (turn.pushed A) later.0 later.1))))
 
-    answer_goes : (position before : ℕ) → 1 ≤ position → before ≤ x → (go : AnswerGoesOn values A position before p q) → AnswerComesSo Bare go → Goes
-    answer_goes position before enough low (answer.on g) so = answered_still position before enough low g so
-    answer_goes position before enough low (answer.arrives f in_time there g others first next) so = ⊎_elim
-        (λ same. same_goes same)
-        (λ y. ⊎_elim
-        (λ heard. goes.held_up (held.news (IsNews.on_subflow (let none = h.unheard in omega (arith, enough, heard, none)))))
-        (λ hindered. ⊎_elim (λ z. goes.held_up z) (λ z. goes.past_window z) hindered)
-        y)
-        (answer_comes p q known faithful few turn B acks_first hands answers position f there g so (let was = ap stage h.half_open in omega (arith, was)) others first next (omega (arith, enough)))
-    answer_goes position before enough low (answer.harmed less) so = goes.held_up (held.harmed less)
-    answer_goes position before enough low (answer.lost y covers taken loses) so = goes.held_up (held.lost A y taken loses)
-    answer_goes position before enough low (answer.resets is) so = goes.refuses is
-    answer_goes position before enough low (answer.gone dead) so = goes.held_up (held.gone A (inr dead))
-    answer_goes position before enough low (answer.dies line next is dead) so = goes.held_up (held.dies line next is dead)
-
     -- unless A is dead
     if_living : (is_dead p.a.tcp.state ≡ false → Goes) → Goes
     if_living then_so = by (is_dead p.a.tcp.state) refl
@@ -134,6 +148,25 @@ module _ (p q : PathState Carried) (known : Known p) (faithful : IsFaithful p) (
         by : (b : Bool) → is_dead p.a.tcp.state ≡ b → Goes
         by true is = goes.held_up (held.gone A (inl is))
         by false is = then_so is
+
+    never_refused : IsToRefuse A p.agenda → Goes
+    never_refused (refuse.refuses others is) = absurd (true≢false (sym (ap (λ ds. list_any is_harsh ds) is) ∙ unbroken))
+    never_refused (refuse.answers others is) = if_living (λ living. absurd (never_refuses p A clears living others is))
+
+    answer_goes : (position before : ℕ) → 1 ≤ position → before ≤ x → (go : AnswerGoesOn values A position before p q) → AnswerComesSo Bare go → Goes
+    answer_goes position before enough low (answer.on g) so = answered_still position before enough low g so
+    answer_goes position before enough low (answer.arrives f in_time there g others first next) so = ⊎_elim
+        (λ same. same_goes same)
+        (λ y. ⊎_elim
+        (λ heard. goes.held_up (held.news (IsNews.on_subflow (let none = h.unheard in omega (arith, enough, heard, none)))))
+        (λ hindered. ⊎_elim (λ z. goes.held_up z) (λ far. if_living (λ living. goes.finished (past_so living far))) hindered)
+        y)
+        (answer_comes p q known faithful few turn B acks_first hands answers position f there g so (let was = ap stage h.half_open in omega (arith, was)) others first next (omega (arith, enough)))
+    answer_goes position before enough low (answer.harmed less) so = goes.held_up (held.harmed less)
+    answer_goes position before enough low (answer.lost y covers taken loses) so = goes.held_up (held.lost A y taken loses)
+    answer_goes position before enough low (answer.resets is) so = never_refused is
+    answer_goes position before enough low (answer.gone dead) so = goes.held_up (held.gone A (inr dead))
+    answer_goes position before enough low (answer.dies line next is dead) so = goes.held_up (held.dies line next is dead)
 
     module _ (syn : Record) (kind : syn.kind ≡ Syn) (at_first : syn.pos ≡ 0) (empty : syn.piece ≡ []) (arrival : ℕ) (soon : arrival + longest_way A p.link ≤ x) where
       -- a copy comes
@@ -226,33 +259,36 @@ module _ (start : Start) (p : PathState Carried) (known : Known p) (first : IsFi
 
 -- ---- the world
 
-syn_acks_go : (m n : Actor Carried) → OfPaths Known m → OfPaths AcksGoFirst m → EndsKeepWhatWaits m n → FramesStay m n → TurnedTo m n → SentGoOn (IsSynSent B) values m n
-    → ((Was : PlainSegment → Type 0) → HandsComeSo Was values m n) → ((Was : PlainSegment → Type 0) → AnswersComeSo Was values m n) → PathsCount values m n → SynAcksGoOn m n
-syn_acks_go (App a) (App b) known acks_first kept frames turned sent hands answers pays = tt
-syn_acks_go (Path p) (Path q) known acks_first kept frames turned sent hands answers pays = λ faithful few x h. syn_ack_goes p q known faithful few
+syn_acks_go : (start : Start) (m n : Actor Carried) → OfPaths Known m → OfPaths AcksGoFirst m → EndsKeepWhatWaits m n → FramesStay m n → TurnedTo m n → SentGoOn (IsSynSent B) values m n
+    → ((Was : PlainSegment → Type 0) → HandsComeSo Was values m n) → ((Was : PlainSegment → Type 0) → AnswersComeSo Was values m n) → PathsCount values m n
+    → OfPaths IsNeverBroken m → MemberClears m → OfPaths StaysWithin m → OfPaths (IsFirstPath start) m → SynAcksGoOn m n
+syn_acks_go start (App a) (App b) known acks_first kept frames turned sent hands answers pays unbroken clears within first = tt
+syn_acks_go start (Path p) (Path q) known acks_first kept frames turned sent hands answers pays unbroken clears within first = λ faithful few x h. syn_ack_goes p q known faithful few
     (record { kept = kept; frames = frames; far = λ s. (turned.far s).subflow.received; pushed = λ s. (turned.far s).subflow.pushed; later = λ s. (turned.far s).subflow.state; counts = pays })
-    acks_first (hands (IsBareWithin p.b.tcp.recv.edge p.a.tcp.send.nxt)) (answers (IsBareWithin p.b.tcp.recv.edge p.a.tcp.send.nxt)) x h sent
-syn_acks_go (App a) (Path q) known acks_first kept frames turned sent hands answers pays = absurd turned
-syn_acks_go (Path p) (App b) known acks_first kept frames turned sent hands answers pays = absurd turned
+    acks_first (hands (IsBareWithin p.b.tcp.recv.edge p.a.tcp.send.nxt)) (answers (IsBareWithin p.b.tcp.recv.edge p.a.tcp.send.nxt))
+    (unbroken first.first).duties (clears first.first) within (first.unfinished A) x h sent
+syn_acks_go start (App a) (Path q) known acks_first kept frames turned sent hands answers pays unbroken clears within first = absurd turned
+syn_acks_go start (Path p) (App b) known acks_first kept frames turned sent hands answers pays unbroken clears within first = absurd turned
 
-syn_acks_by_turns : (start : Start) (turns : List Turn) → HasRoom start → NumbersFit start → let w = reached values start turns in (turn : Turn) (actor : ℕ) (c : ActorCrew Carried) → slice_get w.crew actor ≡ Some c
-    → (d : ActorCrew Carried) × (slice_get (after_turn values turn w).crew actor ≡ Some d) × SynAcksGoOn c.member d.member
-syn_acks_by_turns start turns size fit turn actor c at =
+syn_acks_by_turns : (start : Start) (turns : List Turn) → IsMildStart start → let w = reached values start turns in (turn : Turn) (c : ActorCrew Carried) → slice_get w.crew 2 ≡ Some c
+    → (d : ActorCrew Carried) × (slice_get (after_turn values turn w).crew 2 ≡ Some d) × SynAcksGoOn c.member d.member
+syn_acks_by_turns start turns mild turn c at =
     let w = reached values start turns in
     let v = after_turn values turn w in
     let all_answered = copies_are_answered values start turns in
-    let kept = what_waits_is_kept values w (turn ∷ []) actor c at in
+    let kept = what_waits_is_kept values w (turn ∷ []) 2 c at in
     let d : ActorCrew Carried = kept.0 in (
       d,
       kept.1,
-      syn_acks_go c.member d.member (each_known start turns size fit actor c at) (all_answered.first actor c at) kept.2
-          (same_actor (λ x. FramesStay c.member x.member) v actor d kept.1 (frames_stay values w turn actor c at))
-          (same_actor (λ x. TurnedTo c.member x.member) v actor d kept.1 (turned_to values w turn actor c at))
-          (same_actor (λ x. SentGoOn (IsSynSent B) values c.member x.member) v actor d kept.1 (sent_go_on (IsSynSent B) values w (nothing_is_overdue values start turns) turn actor c at))
-          (λ Was. same_actor (λ x. HandsComeSo Was values c.member x.member) v actor d kept.1
-          (hands_come_so Was values w all_answered (what_is_in_order_is_passed values start turns) ((what_is_told_is_known values).live start turns) turn actor c at))
-          (λ Was. same_actor (λ x. AnswersComeSo Was values c.member x.member) v actor d kept.1 (answers_come_so Was values w all_answered turn actor c at))
-          (same_actor (λ x. PathsCount values c.member x.member) v actor d kept.1 (each_acknowledgement_counts values w turn actor c at)),
+      syn_acks_go start c.member d.member (each_known start turns mild.plain.size mild.fit 2 c at) (all_answered.first 2 c at) kept.2
+          (same_actor (λ x. FramesStay c.member x.member) v 2 d kept.1 (frames_stay values w turn 2 c at))
+          (same_actor (λ x. TurnedTo c.member x.member) v 2 d kept.1 (turned_to values w turn 2 c at))
+          (same_actor (λ x. SentGoOn (IsSynSent B) values c.member x.member) v 2 d kept.1 (sent_go_on (IsSynSent B) values w (nothing_is_overdue values start turns) turn 2 c at))
+          (λ Was. same_actor (λ x. HandsComeSo Was values c.member x.member) v 2 d kept.1
+          (hands_come_so Was values w all_answered (what_is_in_order_is_passed values start turns) ((what_is_told_is_known values).live start turns) turn 2 c at))
+          (λ Was. same_actor (λ x. AnswersComeSo Was values c.member x.member) v 2 d kept.1 (answers_come_so Was values w all_answered turn 2 c at))
+          (same_actor (λ x. PathsCount values c.member x.member) v 2 d kept.1 (each_acknowledgement_counts values w turn 2 c at))
+          ((never_breaks start turns mild).each 2 c at) ((each_clears values start turns).each 2 c at) (no_end_overruns start turns mild c at) (each_first start turns mild.plain.size c at),
     )
 
 member_begins : (start : Start) (m : Actor Carried) → OfPaths Known m → OfPaths (IsFirstPath start) m → OfPaths (SentAtTheEnd (IsSynSent B) values) m → OfPaths SynAcksBegin m

@@ -109,7 +109,7 @@ still_listens phase.LastAck is none = absurd (omega (arith, is))
 still_listens phase.TimeWait is none = absurd (omega (arith, is))
 still_listens phase.Dead is none = absurd (omega (arith, is))
 
-apart : {X : Type 0} → A ≡ B → X
+pub apart : {X : Type 0} → A ≡ B → X
 apart is = cc
 
 -- ---- one turn of a path

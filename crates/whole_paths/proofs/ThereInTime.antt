@@ -1,19 +1,16 @@
 -- Where exchanges go on, all of both streams comes in time, or an end died early; and then both files are delivered.
-use Rattle.std.proofs.Common.{◌≡◌, refl, sym, subst, ap, ◌∙◌, ⊎_elim, inl, inr, ◌⊎◌, ℕ, suc, ◌+◌, ◌-◌, ◌*◌, ◌^◌, ◌<◌, ◌≤◌, arith, Bool, true, false, true≢false, Some, List, [], ◌∷◌, ◌++◌, length, length-append, append_assoc}
-use Rattle.std.specs.List.{slice_get}
+use Rattle.std.proofs.Common.{◌≡◌, refl, sym, subst, ap, ◌∙◌, ⊎_elim, inl, inr, ◌⊎◌, ℕ, suc, ◌+◌, ◌-◌, ◌*◌, ◌^◌, ◌<◌, ◌≤◌, arith, true, true≢false, List, [], ◌∷◌, ◌++◌, length, length-append, append_assoc}
 use Rattle.std.proofs.lemmas.Bool.{cases_lt}
 use Rattle.std.proofs.lemmas.Option.{same_Some}
-use Rattle.sides.specs.declared.side.Side.{Side}
 use Rattle.sides.specs.declared.side.Side.TheVariants.{A, B}
 use Rattle.subflow_tcp.specs.declared.handshake.State.{State}
 use Rattle.subflow_tcp.specs.States.{is_dead}
 use Rattle.path_core.specs.Codec.{Codec}
-use Rattle.path_core.specs.Standing.{is_connected}
 use Rattle.path_core.specs.State.{end_at}
 use Rattle.path_core.specs.Values.{Carried, values}
-use Rattle.world_laws.specs.declared.member.Member.TheVariants.{App, Path}
+use Rattle.world_laws.specs.declared.member.Member.TheVariants.{Path}
 use Rattle.world_laws.specs.declared.outcome.Outcome.TheVariants.{Delivered}
-use Rattle.world_laws.specs.Actors.{Actor, ActorCrew}
+use Rattle.world_laws.specs.Actors.{ActorCrew}
 use Rattle.world_laws.specs.Openings.{PathPlan, Start, opened_world}
 use Rattle.world_laws.specs.Outcomes.{outcome_of}
 use Rattle.world_laws.specs.RoundDone.{reached}
@@ -22,9 +19,9 @@ use Rattle.world_laws.proofs.Weaving.WholeRounds.{run_append}
 use Rattle.whole_paths.specs.AsFar.{IsActorAsFar, stage}
 use Rattle.whole_paths.specs.Courses.{Exchanges}
 use Rattle.whole_paths.specs.Delivery.{AllIsThere}
-use Rattle.whole_paths.specs.Finish.{AnEndDied, IsWhole, Patience, UncheckedPathsDeliver, harmed, opened, rounds_in}
+use Rattle.whole_paths.specs.Finish.{AnEndDied, IsWhole, Patience, BriefPathsDeliver, harmed, opened, rounds_in}
 use Rattle.whole_paths.specs.News.{most_news}
-use Rattle.whole_paths.specs.OnePathScripts.{AllIsThereWithin, AnEndDiedEarly, BeginsWithOnePath, UncheckedPathsEnd, WhatIsThereInTimeIsDelivered}
+use Rattle.whole_paths.specs.OnePathScripts.{AllIsThereWithin, AnEndDiedEarly, BeginsWithOnePath, BriefPathsEnd, WhatIsThereInTimeIsDelivered}
 use Rattle.whole_paths.specs.OpenCourses.{IsOpenAfter}
 use Rattle.whole_paths.specs.Rounds.{ticks_for}
 use Rattle.whole_paths.specs.SentByTurns.{SentAtMost}
@@ -34,6 +31,7 @@ use Rattle.whole_paths.proofs.GoesOn.{goes_on_so}
 use Rattle.whole_paths.proofs.GoingOn.{there_or}
 use Rattle.whole_paths.proofs.OpenCourses.{lawful_parts, open_exchanges_end}
 use Rattle.whole_paths.proofs.SentByTurns.{each_turn_sends_one_at_most}
+use Rattle.whole_paths.proofs.StayingWhole.{whole_paths_stay_whole}
 use Rattle.whole_paths.proofs.Straying.{connected_stage, end_far}
 
 -- ---- the last rounds
@@ -61,15 +59,7 @@ last_rounds n (Turn.Round ∷ turns) few = ⊎_elim
     (λ enough. with_turn Turn.Round n turns (last_rounds n turns enough))
     (cases_lt (rounds_in turns) n)
 
--- ---- a path that was whole
-
-connected_so : (state : State) → 3 ≤ stage state → is_dead state ≡ false → is_connected state ≡ true
-connected_so State.Waiting far living = absurd (omega (arith, far))
-connected_so State.Listen far living = absurd (omega (arith, far))
-connected_so State.SynSent far living = absurd (omega (arith, far))
-connected_so State.SynReceived far living = absurd (omega (arith, far))
-connected_so State.Dead far living = absurd (true≢false living)
-connected_so _ far living = refl
+-- ---- a path of which an end was dead
 
 dead_stage : (state : State) → is_dead state ≡ true → 7 ≤ stage state
 dead_stage State.Dead is = omega arith
@@ -79,35 +69,7 @@ module _ {C : Type 0} (k : Codec C) (w : WorldState C) (more : List Turn) where
   abbrev later : WorldState C
   later = world_run k more w
 
-  -- is whole still, or an end of it is dead
-  still_whole : IsWhole 0 w → IsWhole 0 later ⊎ AnEndDied 0 later
-  still_whole h =
-      let found = (goes_on_so k w more).crew 2 h.here.crew h.here.there in
-      by found.0 found.0.member found.1 refl (subst (λ m. IsActorAsFar m found.0.member) h.here.is found.2.member)
-    where
-      by : (c : ActorCrew C) (m : Actor C) → slice_get later.crew 2 ≡ Some c → c.member ≡ m → IsActorAsFar (Path h.path) m → IsWhole 0 later ⊎ AnEndDied 0 later
-      by c (App a) there is far = absurd far
-      by c (Path q) there is far = ends (is_dead (end_at A q).tcp.state) refl (is_dead (end_at B q).tcp.state) refl
-        where
-          connected : (s : Side) → is_dead (end_at s q).tcp.state ≡ false → is_connected (end_at s q).tcp.state ≡ true
-          connected s living =
-              let low = (connected_stage (end_at s h.path).tcp.state (h.connected s)).0 in let up = (end_far h.path q far s).subflow.state in
-              connected_so (end_at s q).tcp.state (omega (arith, low, up)) living
-
-          died : (s : Side) → is_dead (end_at s q).tcp.state ≡ true → AnEndDied 0 later
-          died s dead = record { path = q; here = record { crew = c; there = there; is = is }; side = s; dead = dead }
-
-          ends : (a : Bool) → is_dead (end_at A q).tcp.state ≡ a → (b : Bool) → is_dead (end_at B q).tcp.state ≡ b → IsWhole 0 later ⊎ AnEndDied 0 later
-          ends true dead b other = inr (died A dead)
-          ends false living true dead = inr (died B dead)
-          ends false living false other = inl (record {
-            path = q;
-            here = record { crew = c; there = there; is = is };
-            connected = elim [ A ↦ connected A living | B ↦ connected B other ];
-            clear = λ s. (end_far h.path q far s).clear (h.clear s);
-          })
-
-  -- and no path is whole of which an end was dead
+  -- isn't whole
   dead_not_whole : AnEndDied 0 w → IsWhole 0 later → ⊥
   dead_not_whole died whole =
       let found = (goes_on_so k w more).crew 2 died.here.crew died.here.there in
@@ -120,7 +82,7 @@ module _ {C : Type 0} (k : Codec C) (w : WorldState C) (more : List Turn) where
       omega (arith, high, up, low)
 
 -- a path that is still whole then has no end that died
-pub whole_paths_didnt_die : {C : Type 0} (k : Codec C) (enough : Patience) → UncheckedPathsEnd k enough → UncheckedPathsDeliver k enough
+pub whole_paths_didnt_die : {C : Type 0} (k : Codec C) (enough : Patience) → BriefPathsEnd k enough → BriefPathsDeliver k enough
 whole_paths_didnt_die k enough ends script path file_a file_b before more mild also lawful first last many = ⊎_elim
     (λ delivered. delivered)
     (λ early. absurd (dead_not_whole k (world_run k early.first (opened script file_a file_b)) early.rest early.died
@@ -137,7 +99,7 @@ all_there_or w = ⊎_elim
     (there_or A w)
 
 pub what_is_there_in_time_is_delivered : WhatIsThereInTimeIsDelivered
-what_is_there_in_time_is_delivered within comes start plan before more most begins unchecked lawful few whole low many =
+what_is_there_in_time_is_delivered within comes start plan before more most begins lawful few whole low many =
     subst Ends (sym parts.is)
     (by parts.first parts.rest (subst (λ ts. AreLawful values ts (reached values start before)) parts.is lawful) (subst (λ ts. length (before ++ ts) < 2 ^ 64 - 1) parts.is few)
     (subst (λ ts. harmed values 0 (before ++ ts) (opened_world start) ≤ most) parts.is low) parts.last (let all = parts.all in omega (arith, many, all)))
@@ -167,13 +129,13 @@ what_is_there_in_time_is_delivered within comes start plan before more most begi
         all_came last =
             let sum = length-append (before ++ first) rest in let long = ap length same in
             let harms = harmed_append values 0 (before ++ first) rest (opened_world start) in let all = ap (λ ts. harmed values 0 ts (opened_world start)) same in
-            comes start plan before first most begins unchecked (lawful_parts first rest (reached values start before) going).0 (omega (arith, short, sum, long)) whole last (omega (arith, harms, all, fewer)) enough
+            comes start plan before first most begins (lawful_parts first rest (reached values start before) going).0 (omega (arith, short, sum, long)) whole last (omega (arith, harms, all, fewer)) enough
 
         ended : (AllIsThere (reached values start (before ++ first)) → ⊥) → Ends (first ++ rest)
         ended missing = ⊎_elim
             (λ last. absurd (missing (all_came (subst (IsWhole 0) (sym then) last))))
             (λ died. inr (record { first = before ++ first; rest = rest; is = sym same; died = subst (AnEndDied 0) (sym then) died; missing = missing }))
-            (still_whole values (reached values start before) first whole)
+            (whole_paths_stay_whole values (reached values start before) 0 first whole)
 
 -- ---- from exchanges
 
@@ -182,8 +144,8 @@ pub exchanges_bring_all : (within : Start → ℕ) (Waits : Start → ℕ → �
     → ((start : Start) (plan : PathPlan) (most : ℕ) → BeginsWithOnePath start plan
     → Exchanges values start (IsOpenAfter start) most (within start) (λ turns. AllIsThere (reached values start turns)) (Waits start most))
     → AllIsThereWithin within
-exchanges_bring_all within Waits exchanges start plan before more most begins unchecked lawful few whole last low many =
-    open_exchanges_end start most (within start) (λ turns. AllIsThere (reached values start turns)) (Waits start most) begins.mild unchecked (exchanges start plan most begins)
+exchanges_bring_all within Waits exchanges start plan before more most begins lawful few whole last low many =
+    open_exchanges_end start most (within start) (λ turns. AllIsThere (reached values start turns)) (Waits start most) begins.mild (exchanges start plan most begins)
     before more lawful whole last
     (λ s. let sent = subst (SentAtMost (length (before ++ more))) last.here.is (each_turn_sends_one_at_most values start (before ++ more) 2 last.here.crew last.here.there) s in omega (arith, sent, few))
     low many

@@ -89,7 +89,7 @@ pub record CameBefore (x : PlainSegment) (e : PathEnd) : Type 0 where
   pub below_limit : is_at_limit e.tcp ≡ false
   pub passed : x.position + length x.payload ≤ e.tcp.recv.edge
 
--- of the path that opens the connection, without checksums: a copy of such a segment that comes, neither stripped nor altered
+-- of the path that opens the connection: a copy of such a segment that comes, neither stripped nor altered
 pub record Arrival (x : PlainSegment) (p : PathState Carried) : Type 0 where
   pub others : List Duty
   pub first : p.agenda ≡ duties.Step step_duties.Events ∷ others

@@ -53,7 +53,7 @@ pub data AnswerIsAwaitedOn (later : SixBooks) (s : Side) (place : ℕ) (fin : Bo
   held_up : IsHeldUp s p q → AnswerIsAwaitedOn later s place fin by p q
   awry : IsHardlyAwry s p q → AnswerIsAwaitedOn later s place fin by p q
 
--- as the path, where it has no checksums, becomes this actor, and is still open, with fewer than 2^64 - 1 segments sent from each side
+-- as the path becomes this actor, and is still open, with fewer than 2^64 - 1 segments sent from each side
 abbrev pub AnswerIsAwaitedBy : SixBooks → SixBooks → Actor Carried → Actor Carried → Type 0
 AnswerIsAwaitedBy six later (Path p) (Path q) =
     IsOpen p → IsOpen q → ((t : Side) → segments_sent t p.link < 2 ^ 64 - 1)

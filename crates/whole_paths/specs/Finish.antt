@@ -65,9 +65,8 @@ payload_of mss = max (mss - 28) 1
 abbrev pub segments : ℕ → ℕ → ℕ
 segments mss length = div_ceil length (payload_of mss)
 
--- no mapping has a checksum, and there are fewer than 2^64 - 1 turns
-pub record IsUnchecked (script : Script) (turns : List Turn) : Type 0 where
-  pub unchecked : script.checksum ≡ false
+-- there are fewer than 2^64 - 1 turns
+pub record IsBrief (script : Script) (turns : List Turn) : Type 0 where
   pub few : length turns < 2 ^ 64 - 1
 
 -- how many rounds are enough, by a script, its path, the files of both sides, and how many segments are harmed
@@ -168,9 +167,9 @@ module _ {C : Type 0} (k : Codec C) where
   abbrev pub WholePathsDeliver : Patience → Type 0
   WholePathsDeliver = WholePathsDeliverWhere (λ script turns. Unit {0})
 
-  -- of those without checksums, by turns so few that no count of segments ends
-  abbrev pub UncheckedPathsDeliver : Patience → Type 0
-  UncheckedPathsDeliver = WholePathsDeliverWhere IsUnchecked
+  -- by turns so few that no count of segments ends
+  abbrev pub BriefPathsDeliver : Patience → Type 0
+  BriefPathsDeliver = WholePathsDeliverWhere IsBrief
 
   -- as soon as so many rounds have ended they are delivered, or an end died, however much is lost
   abbrev pub OnePathEnds : Patience → Type 0

@@ -39,6 +39,7 @@ pub mod InHand
 pub mod InTime
 pub mod Kept
 pub mod KnownEnds
+pub mod KnownModes
 pub mod Lanes
 pub mod Mapped
 pub mod Opening
@@ -85,4 +86,7 @@ pub mod ShutWindows
 pub mod WholeCourses
 pub mod SynAcks
 pub mod Syns
+pub mod FirstPieces
 pub mod WholeMappings
+pub mod ReadModes
+pub mod NeverAborted

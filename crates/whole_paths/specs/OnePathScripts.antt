@@ -1,5 +1,5 @@
 -- Connections over one path by mild scripts: how they begin, how long a segment is under way, and what is said of them by how they begin.
-use Rattle.std.specs.Prelude.{ℕ, suc, ◌+◌, ◌-◌, ◌*◌, ◌/◌, ◌^◌, ◌≡◌, ◌<◌, ◌≤◌, ◌⊎◌, false, Some, List, [], ◌∷◌, ◌++◌, length, slice_get}
+use Rattle.std.specs.Prelude.{ℕ, suc, ◌+◌, ◌-◌, ◌*◌, ◌/◌, ◌^◌, ◌≡◌, ◌<◌, ◌≤◌, ◌⊎◌, Some, List, [], ◌∷◌, ◌++◌, length, slice_get}
 use Rattle.sides.specs.declared.side.Side.{Side}
 use Rattle.sides.specs.declared.side.Side.TheVariants.{A, B}
 use Rattle.sides.specs.Side.{peer}
@@ -19,7 +19,7 @@ use Rattle.world_laws.specs.Outcomes.{outcome_of}
 use Rattle.world_laws.specs.RoundDone.{reached}
 use Rattle.world_laws.specs.Worlds.{Turn, AreLawful}
 use Rattle.whole_paths.specs.Delivery.{AllIsThere}
-use Rattle.whole_paths.specs.Finish.{AnEndDied, IsEnough, IsMild, IsPathAt, IsUnchecked, IsWhole, Patience, harmed, opened, rounds_in, run_of}
+use Rattle.whole_paths.specs.Finish.{AnEndDied, IsEnough, IsMild, IsPathAt, IsBrief, IsWhole, Patience, harmed, opened, rounds_in, run_of}
 use Rattle.whole_paths.specs.Harms.{full_queue_waits, longest_way}
 use Rattle.whole_paths.specs.Mild.{IsMildStart}
 use Rattle.whole_paths.specs.News.{most_news}
@@ -62,10 +62,10 @@ OnlyWaysStay {C} k = (start : Start) (turns : List Turn) (plan : PathPlan) → s
 
 -- ---- what is said of a connection by how it begins
 
--- Without checksums, in fewer than 2^64 - 1 turns: where path 0 is whole, and still is after rounds enough for all news that there can be and
+-- In fewer than 2^64 - 1 turns: where path 0 is whole, and still is after rounds enough for all news that there can be and
 -- each segment that is harmed, if each comes within so many ticks, all of both streams is with the peers.
 abbrev pub AllIsThereWithin : (Start → ℕ) → Type 0
-AllIsThereWithin within = (start : Start) (plan : PathPlan) (before more : List Turn) (most : ℕ) → BeginsWithOnePath start plan → start.checksums ≡ false
+AllIsThereWithin within = (start : Start) (plan : PathPlan) (before more : List Turn) (most : ℕ) → BeginsWithOnePath start plan
     → AreLawful values more (reached values start before) → length (before ++ more) < 2 ^ 64 - 1 → IsWhole 0 (reached values start before)
     → IsWhole 0 (reached values start (before ++ more)) → harmed values 0 (before ++ more) (opened_world start) ≤ most
     → ticks_for (within start) (suc (most_news start + most)) < 100 * rounds_in more → AllIsThere (reached values start (before ++ more))
@@ -80,7 +80,7 @@ pub record AnEndDiedEarly {C : Type 0} (k : Codec C) (start : Start) (turns : Li
 
 -- three rounds later both files are delivered; or an end died early
 abbrev pub EndsWithin : (Start → ℕ) → Type 0
-EndsWithin within = (start : Start) (plan : PathPlan) (before more : List Turn) (most : ℕ) → BeginsWithOnePath start plan → start.checksums ≡ false
+EndsWithin within = (start : Start) (plan : PathPlan) (before more : List Turn) (most : ℕ) → BeginsWithOnePath start plan
     → AreLawful values more (reached values start before) → length (before ++ more) < 2 ^ 64 - 1 → IsWhole 0 (reached values start before)
     → harmed values 0 (before ++ more) (opened_world start) ≤ most
     → ticks_for (within start) (suc (most_news start + most)) + 300 < 100 * rounds_in more
@@ -97,14 +97,13 @@ rounds_within within script path file_a file_b harms =
     let start = start_of script file_a file_b in ticks_for (within start) (suc (most_news start + harms)) / 100 + 4
 
 module _ {C : Type 0} (k : Codec C) where
-  -- Once the path is whole at the end of a round, both files are delivered when so many more have ended; or an end died early. It is said
-  -- without checksums.
-  abbrev pub UncheckedPathsEnd : Patience → Type 0
-  UncheckedPathsEnd enough = (script : Script) (path : PathLine) (file_a file_b : List ℕ) (before more : List Turn) → IsMild script path file_a file_b
-      → let turns = before ++ Turn.Round ∷ more in IsUnchecked script turns → AreLawful k turns (opened script file_a file_b)
+  -- Once the path is whole at the end of a round, both files are delivered when so many more have ended; or an end died early.
+  abbrev pub BriefPathsEnd : Patience → Type 0
+  BriefPathsEnd enough = (script : Script) (path : PathLine) (file_a file_b : List ℕ) (before more : List Turn) → IsMild script path file_a file_b
+      → let turns = before ++ Turn.Round ∷ more in IsBrief script turns → AreLawful k turns (opened script file_a file_b)
       → IsWhole 0 (run_of k script file_a file_b (before ++ Turn.Round ∷ [])) → IsEnough k enough script path file_a file_b turns (rounds_in more)
       → (outcome_of (run_of k script file_a file_b turns).crew ≡ Delivered) ⊎ AnEndDiedEarly k (start_of script file_a file_b) turns
 
   -- what is said of each start holds of such scripts
   abbrev pub EndsAsItBegins : Type 0
-  EndsAsItBegins = (within : Start → ℕ) → EndsWithin within → UncheckedPathsEnd (rounds_within within)
+  EndsAsItBegins = (within : Start → ℕ) → EndsWithin within → BriefPathsEnd (rounds_within within)

@@ -1,4 +1,4 @@
--- A path that is whole, and still is after rounds enough, has delivered both files: over one path, without checksums.
+-- A path that is whole, and still is after rounds enough, has delivered both files: over one path.
 use Rattle.std.specs.Prelude.{ℕ, ◌+◌}
 use Rattle.world_laws.specs.Openings.{Start}
 use Rattle.whole_paths.specs.Finish.{Patience}

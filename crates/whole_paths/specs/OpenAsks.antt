@@ -64,7 +64,7 @@ pub data AskGoesOn (s : Side) (place : ℕ) (fin : Bool) (by written : ℕ) (p q
   held_up : IsHeldUp s p q → AskGoesOn s place fin by written p q
   awry : IsHardlyAwry s p q → AskGoesOn s place fin by written p q
 
--- as the path, where it has no checksums, becomes this actor, and is still open, with fewer than 2^64 - 1 segments sent from each side
+-- as the path becomes this actor, and is still open, with fewer than 2^64 - 1 segments sent from each side
 abbrev pub AskGoesOnBy : SixBooks → SixBooks → Actor Carried → Actor Carried → Type 0
 AskGoesOnBy six later (Path p) (Path q) =
     IsOpen p → IsOpen q → ((t : Side) → segments_sent t p.link < 2 ^ 64 - 1)

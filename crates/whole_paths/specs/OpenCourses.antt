@@ -1,6 +1,6 @@
 -- The course of a mild connection between two moments at which path 0 is whole: its ends are open at each moment, and what holds up an exchange
 -- is counted.
-use Rattle.std.specs.Prelude.{ℕ, suc, ◌+◌, ◌-◌, ◌*◌, ◌^◌, ◌≡◌, ◌<◌, ◌≤◌, false, Some, List, [], ◌∷◌, ◌++◌, slice_get}
+use Rattle.std.specs.Prelude.{ℕ, suc, ◌+◌, ◌-◌, ◌*◌, ◌^◌, ◌≡◌, ◌<◌, ◌≤◌, Some, List, [], ◌∷◌, ◌++◌, slice_get}
 use Rattle.sides.specs.declared.side.Side.{Side}
 use Rattle.link_model.specs.Steps.{segments_sent}
 use Rattle.path_core.specs.State.{PathState}
@@ -20,14 +20,13 @@ use Rattle.whole_paths.specs.Straying.{IsOpen}
 
 -- ---- a moment
 
--- Both ends of path 0 are open. There are no checksums, no line takes options away or alters payload, and the link
--- took fewer than 2^64 - 1 segments from each side.
+-- Both ends of path 0 are open. No line takes options away or alters payload, and the link took
+-- fewer than 2^64 - 1 segments from each side.
 pub record IsOpenNow (w : WorldState Carried) : Type 0 where
   pub path : PathState Carried
   pub here : IsPathAt 0 w path
   pub is_open : IsOpen path
   pub faithful : IsFaithful path
-  pub no_sums : path.profile.spelling.checksums ≡ false
   pub few : (s : Side) → segments_sent s path.link < 2 ^ 64 - 1
 
 -- after these turns
@@ -50,9 +49,9 @@ WhatHoldsUpCounts = (start : Start) (turns : List Turn) (turn : Turn) → let w 
 -- ---- the course
 
 -- Where exchanges go on between open ends until something is over, it is over after lawful turns from where path 0 is whole to where it still
--- is, with rounds enough. It is said without checksums, and of fewer than 2^64 - 1 segments from each side.
+-- is, with rounds enough. It is said of fewer than 2^64 - 1 segments from each side.
 abbrev pub OpenExchangesEnd : Type 1
-OpenExchangesEnd = (start : Start) (most within : ℕ) (Over : List Turn → Type 0) (Waits : ℕ → ℕ → List Turn → Type 0) → IsMildStart start → start.checksums ≡ false
+OpenExchangesEnd = (start : Start) (most within : ℕ) (Over : List Turn → Type 0) (Waits : ℕ → ℕ → List Turn → Type 0) → IsMildStart start
     → Exchanges values start (IsOpenAfter start) most within Over Waits
     → (before more : List Turn) → AreLawful values more (reached values start before) → IsWhole 0 (reached values start before)
     → (last : IsWhole 0 (reached values start (before ++ more))) → ((s : Side) → segments_sent s last.path.link < 2 ^ 64 - 1)

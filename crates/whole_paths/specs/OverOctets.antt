@@ -7,7 +7,7 @@ use Rattle.world_laws.specs.Outcomes.{outcome_of}
 use Rattle.world_laws.specs.Promises.{HasRoom, NumbersFit}
 use Rattle.world_laws.specs.RoundDone.{reached}
 use Rattle.world_laws.specs.Worlds.{Turn, AreLawful}
-use Rattle.whole_paths.specs.Finish.{AnEndDied, FewLossesFinish, IsWhole, OnePathEnds, Patience, UncheckedPathsDeliver, WholePathsDeliver, harmed}
+use Rattle.whole_paths.specs.Finish.{AnEndDied, FewLossesFinish, IsWhole, OnePathEnds, Patience, BriefPathsDeliver, WholePathsDeliver, harmed}
 use Rattle.whole_paths.specs.News.{news}
 
 -- after the same turns
@@ -30,8 +30,8 @@ OctetsAreAsFarAsValues = (start : Start) (turns : List Turn) → HasRoom start �
 abbrev pub WholePathsDeliverAsOverValues : Type 0
 WholePathsDeliverAsOverValues = (enough : Patience) → WholePathsDeliver values enough → WholePathsDeliver octets enough
 
-abbrev pub UncheckedPathsDeliverAsOverValues : Type 0
-UncheckedPathsDeliverAsOverValues = (enough : Patience) → UncheckedPathsDeliver values enough → UncheckedPathsDeliver octets enough
+abbrev pub BriefPathsDeliverAsOverValues : Type 0
+BriefPathsDeliverAsOverValues = (enough : Patience) → BriefPathsDeliver values enough → BriefPathsDeliver octets enough
 
 abbrev pub OnePathEndsAsOverValues : Type 0
 OnePathEndsAsOverValues = (enough : Patience) → OnePathEnds values enough → OnePathEnds octets enough

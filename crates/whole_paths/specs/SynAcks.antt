@@ -16,10 +16,12 @@ use Rattle.world_laws.specs.Promises.{HasRoom, NumbersFit}
 use Rattle.world_laws.specs.RoundDone.{reached}
 use Rattle.world_laws.specs.Worlds.{Turn, after_turn}
 use Rattle.whole_paths.specs.AsFar.{stage}
+use Rattle.whole_paths.specs.Delivery.{HasFinished}
 use Rattle.whole_paths.specs.Exchanges.{IsBareWithin, IsFaithful, IsHeldUp}
 use Rattle.whole_paths.specs.Flights.{IsOnItsWay, IsSentSo}
 use Rattle.whole_paths.specs.Harms.{longest_way}
-use Rattle.whole_paths.specs.Owed.{IsAnswered, IsAnsweredSo, IsToRefuse}
+use Rattle.whole_paths.specs.Mild.{IsMildStart}
+use Rattle.whole_paths.specs.Owed.{IsAnswered, IsAnsweredSo}
 use Rattle.whole_paths.specs.Syns.{IsSynSent}
 
 -- by this tick an answer is to come
@@ -42,9 +44,8 @@ pub data SynAckGoesOn (x : ℕ) (p q : PathState Carried) : Type 0 where
   on : IsToBeAnswered x q → SynAckGoesOn x p q
   further : (t : Side) → stage (end_at t p).tcp.state < stage (end_at t q).tcp.state → SynAckGoesOn x p q
   held_up : IsHeldUp B p q → SynAckGoesOn x p q
-  -- A refuses a copy next, or sent more than B's window has room for
-  refuses : IsToRefuse A p.agenda → SynAckGoesOn x p q
-  past_window : p.b.tcp.recv.edge + 1048576 < p.a.tcp.send.nxt → SynAckGoesOn x p q
+  -- A sent its FIN, so that all of its side's stream is with the peer
+  finished : HasFinished p.a → SynAckGoesOn x p q
 
 -- as the path becomes this actor, with fewer than 2^64 - 1 segments sent from each side
 abbrev pub SynAcksGoOn : Actor Carried → Actor Carried → Type 0
@@ -60,10 +61,10 @@ SynAcksBegin p = p.agenda ≡ [] → 3 ≤ stage p.a.tcp.state → p.b.tcp.state
 abbrev pub SynAcksEnd : PathState Carried → Type 0
 SynAcksEnd p = (x : ℕ) → IsToBeAnswered x p → p.clock ≤ x
 
--- on path 0, at any moment, and by any turn
+-- on path 0, at any moment, and by any turn of a mild connection
 pub record EachSynAckIsAnswered : Type 0 where
   pub begin : (start : Start) (turns : List Turn) → HasRoom start → NumbersFit start → (c : ActorCrew Carried) → slice_get (reached values start turns).crew 2 ≡ Some c
       → HoldsOfKind (λ app. Unit {0}) SynAcksBegin c.member
   pub end : (start : Start) (turns : List Turn) → (actor : ℕ) (c : ActorCrew Carried) → slice_get (reached values start turns).crew actor ≡ Some c → HoldsOfKind (λ app. Unit {0}) SynAcksEnd c.member
-  pub goes_on : (start : Start) (turns : List Turn) → HasRoom start → NumbersFit start → let w = reached values start turns in (turn : Turn) (actor : ℕ) (c : ActorCrew Carried) → slice_get w.crew actor ≡ Some c
-      → (d : ActorCrew Carried) × (slice_get (after_turn values turn w).crew actor ≡ Some d) × SynAcksGoOn c.member d.member
+  pub goes_on : (start : Start) (turns : List Turn) → IsMildStart start → let w = reached values start turns in (turn : Turn) (c : ActorCrew Carried) → slice_get w.crew 2 ≡ Some c
+      → (d : ActorCrew Carried) × (slice_get (after_turn values turn w).crew 2 ≡ Some d) × SynAcksGoOn c.member d.member

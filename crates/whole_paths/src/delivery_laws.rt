@@ -9,16 +9,17 @@ ghost use Rattle.whole_paths.specs.DataLeft.{WhatIsLeftIsData};
 ghost use Rattle.whole_paths.specs.Deliveries.{WhoIsToldHasAll};
 ghost use Rattle.whole_paths.specs.Delivery.{WhatIsFinishedIsThere, WhatIsThereIsDelivered, WhatIsThereStays};
 ghost use Rattle.whole_paths.specs.EndedStreams.{WhatEndedIsAcknowledged};
-ghost use Rattle.whole_paths.specs.Finish.{HarmsUseLines, UncheckedPathsDeliver};
+ghost use Rattle.whole_paths.specs.Finish.{HarmsUseLines, BriefPathsDeliver};
+ghost use Rattle.whole_paths.specs.Finish.{HarmsUseLines, BriefPathsDeliver};
 ghost use Rattle.whole_paths.specs.GoingOn.{RoundsBeginToGoOn, RoundsGoOn, StepsLetItGoOn};
 ghost use Rattle.whole_paths.specs.Halted.{WhoHaltsGoesOnHalting};
 ghost use Rattle.whole_paths.specs.Lanes.Laws.{LossyLanesEnd, LossyLanesFinish};
 ghost use Rattle.whole_paths.specs.LastFin.{FinsAreLast};
 ghost use Rattle.whole_paths.specs.Mild.{IsPromisedMildly, KeysAreKnown, LinksAreMild, MappingIsKept, MildScriptsStartMildly, NeverBreaks};
-ghost use Rattle.whole_paths.specs.OnePathScripts.{EndsAsItBegins, MildScriptsBeginWithOnePath, OnlyWaysStay, UncheckedPathsEnd, WaysStay, WhatIsThereInTimeIsDelivered};
+ghost use Rattle.whole_paths.specs.OnePathScripts.{EndsAsItBegins, MildScriptsBeginWithOnePath, OnlyWaysStay, BriefPathsEnd, WaysStay, WhatIsThereInTimeIsDelivered};
 ghost use Rattle.whole_paths.specs.OpenAsks.{OpenAsksAreInTime, OpenAsksGoOn, OpenEndsHardlyGoAwry};
 ghost use Rattle.whole_paths.specs.OnlyPaths.{long_patience};
-ghost use Rattle.whole_paths.specs.OverOctets.{FewLossesFinishAsOverValues, OctetsAreAsFarAsValues, OnePathEndsAsOverValues, UncheckedPathsDeliverAsOverValues, WholePathsDeliverAsOverValues};
+ghost use Rattle.whole_paths.specs.OverOctets.{FewLossesFinishAsOverValues, OctetsAreAsFarAsValues, OnePathEndsAsOverValues, BriefPathsDeliverAsOverValues, WholePathsDeliverAsOverValues};
 ghost use Rattle.whole_paths.specs.OpenCourses.{WhatHoldsUpCounts};
 ghost use Rattle.whole_paths.specs.Outstanding.{WhatIsOutstandingIsAwaited};
 ghost use Rattle.whole_paths.specs.Overruns.{NoEndOverruns};
@@ -128,8 +129,8 @@ pub fn no_round_counts()
     ensures { NoRoundCounts }
 {}
 
-/// A law: a wait for a record of data goes on between open ends of a mild connection without checksums until the record is acknowledged, or
-/// something is counted, and it is never late.
+/// A law: a wait for a record of data goes on between open ends of a mild connection until the record is acknowledged, or something is
+/// counted, and it is never late.
 ///
 /// Of what leads an exchange astray (`open_ends_hardly_stray`) nothing is left then. As a round begins such a wait begins, for a minute and the
 /// longest time there and back, where an end that sent no FIN has a record that isn't acknowledged: for that one, or where the peer filled the
@@ -286,12 +287,12 @@ pub fn whole_paths_stay_whole()
 ///
 /// After the same turns these are lawful of the one and of the other, as many segments were harmed, the outcome is one, the path is whole,
 /// or an end of it dead, in both, and both are equally far (`as_far`). What is shown of a connection over segments as values by a mild
-/// script of one path so holds over octets, in as many rounds: that a whole path delivers both files, also where it is said without
-/// checksums alone (`unchecked`), that both are delivered or an end dies, and that few losses end none.
+/// script of one path so holds over octets, in as many rounds: that a whole path delivers both files, also where it is said
+/// of fewer than 2^64 - 1 turns alone (`brief`), that both are delivered or an end dies, and that few losses end none.
 pub fn octets_finish_as_values_do()
     ensures as_far { OctetsAreAsFarAsValues }
     ensures deliver { WholePathsDeliverAsOverValues }
-    ensures unchecked { UncheckedPathsDeliverAsOverValues }
+    ensures brief { BriefPathsDeliverAsOverValues }
     ensures end { OnePathEndsAsOverValues }
     ensures finish { FewLossesFinishAsOverValues }
 {}
@@ -300,7 +301,7 @@ pub fn octets_finish_as_values_do()
 ///
 /// Each such script begins mildly, with one path, and each side buffers 4,096 octets at least (`starts`). If between two moments at which path 0
 /// is whole all of both streams comes to the peers in time, then both files are delivered three rounds later, or an end died early (`there`).
-/// So it is then by these scripts, without checksums and in fewer than 2^64 - 1 turns.
+/// So it is then by these scripts, in fewer than 2^64 - 1 turns.
 pub fn mild_scripts_end_as_they_begin()
     ensures starts { MildScriptsBeginWithOnePath }
     ensures there { WhatIsThereInTimeIsDelivered }
@@ -313,14 +314,14 @@ pub fn mild_scripts_end_as_they_begin()
 ///
 /// A path is whole where at both ends both SYNs are acknowledged, neither end is dead, and both may send a DSS (RFC 8684, section 3.1). If it
 /// is still whole after those rounds, no end died, and both files are delivered (`octets`, `values`). It is said of mild scripts, by which no
-/// option is taken away, no payload is altered and no side closes at once; without checksums, and of fewer than 2^64 - 1 turns. Enough
-/// rounds are so many that all is acknowledged of which there can be news, one after the other, each within a greatest timeout, the longest
-/// time there and back, and four rounds; and as many more for each segment that is harmed.
+/// option is taken away, no payload is altered and no side closes at once, and of fewer than 2^64 - 1 turns. Enough rounds are so many that all
+/// is acknowledged of which there can be news, one after the other, each within a greatest timeout, the longest time there and back, and four
+/// rounds; and as many more for each segment that is harmed.
 pub fn whole_paths_deliver()
-    ensures ends_octets { UncheckedPathsEnd octets long_patience }
-    ensures ends_values { UncheckedPathsEnd values long_patience }
-    ensures octets { UncheckedPathsDeliver octets long_patience }
-    ensures values { UncheckedPathsDeliver values long_patience }
+    ensures ends_octets { BriefPathsEnd octets long_patience }
+    ensures ends_values { BriefPathsEnd values long_patience }
+    ensures octets { BriefPathsDeliver octets long_patience }
+    ensures values { BriefPathsDeliver values long_patience }
 {}
 
 /// A law: on a lane that loses segments all is acknowledged, or the end gave up, after five rounds or so for each segment and two

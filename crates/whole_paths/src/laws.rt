@@ -32,6 +32,7 @@ ghost use Rattle.whole_paths.specs.Due.{CopiesArriveAsSent};
 ghost use Rattle.whole_paths.specs.Ends.{EndsAreSent};
 ghost use Rattle.whole_paths.specs.Exchanges.{EachRecordIsAcknowledged};
 ghost use Rattle.whole_paths.specs.Expiries.{WhatRunsOutGoesAgain};
+ghost use Rattle.whole_paths.specs.FirstPieces.{EachFirstPieceComes};
 ghost use Rattle.whole_paths.specs.Flights.{WhatWaitsComes};
 ghost use Rattle.whole_paths.specs.Harms.{EachUsesALineOrComes, PlainDirectionsHandOnAtOnce};
 ghost use Rattle.whole_paths.specs.Hearing.{EachAcknowledgementCounts};
@@ -39,8 +40,10 @@ ghost use Rattle.whole_paths.specs.InHand.{WhatIsInHandIsAcknowledged};
 ghost use Rattle.whole_paths.specs.InTime.{NothingIsOverdue};
 ghost use Rattle.whole_paths.specs.Kept.{WhatWaitsIsKept};
 ghost use Rattle.whole_paths.specs.KnownEnds.{EndsAreKnown, WhatIsClosedIsAcknowledged};
+ghost use Rattle.whole_paths.specs.KnownModes.{EndsKnowWhatWas, NoEndKnowsOfAFallback};
 ghost use Rattle.whole_paths.specs.Mapped.{WhatIsToldIsKnown};
 ghost use Rattle.whole_paths.specs.Opening.{EachHandshakeCounts, EachSynCounts};
+ghost use Rattle.whole_paths.specs.NeverAborted.{NoSideIsStopped};
 ghost use Rattle.whole_paths.specs.News.{EachGainCounts, EachNewsCounts, NewsIsBounded, NewsNeverFalls};
 ghost use Rattle.whole_paths.specs.Offered.{WhatIsTakenIsOffered};
 ghost use Rattle.whole_paths.specs.OpeningConfirmed.{EachConfirmationCounts, SignsAreSaid};
@@ -75,6 +78,16 @@ ghost use Rattle.whole_paths.specs.Writers.{WritersGoOn};
 pub fn nothing_goes_back()
     ensures octets { NothingGoesBack octets }
     ensures values { NothingGoesBack values }
+{}
+
+/// A law: the mode that an end knows, if it isn't the first one, is one that its side is or was in (RFC 8684, section 3.7).
+///
+/// An end is told the mode by its side's control book alone. In a connection whose script takes away no option and alters no payload no side
+/// falls back, so that no end knows of plain TCP or of an infinite mapping.
+pub fn ends_know_what_was()
+    ensures octets { EndsKnowWhatWas octets }
+    ensures values { EndsKnowWhatWas values }
+    ensures mild { NoEndKnowsOfAFallback }
 {}
 
 /// A law: how far a connection is, as one number, never falls, by whatever turns, whatever is lost, late, repeated or altered.
@@ -491,7 +504,7 @@ pub fn what_is_in_order_is_passed()
 /// A law: a copy of a piece that comes to an open end is taken in order, with its mapping, or it came before (RFC 9293, section 3.10.7.4;
 /// RFC 8684, section 3.3.1).
 ///
-/// The copy is neither stripped nor altered, on the path that opens the connection, without checksums, and a DSS maps its bytes. Where
+/// The copy is neither stripped nor altered, on the path that opens the connection, and a DSS maps its bytes. Where
 /// RCV.NXT is one of its positions, all of them lie in the window, what it acknowledges was sent, and the side didn't fall back to plain
 /// TCP, the end takes it. Where RCV.NXT is past it, it lies outside the window. `what_is_in_hand_is_acknowledged` says what follows of
 /// both. The segment of a record that an end sends with its own mapping is such a piece (`records`), and a copy of it that was under way
@@ -509,8 +522,8 @@ pub fn each_piece_comes_in_order()
 /// turn, and the acknowledgement can come by the same tick; or RCV.NXT is past the position, and the answer that says so goes the way of each
 /// (`what_is_owed_comes`). No segment goes before but a reset, since the octet at RCV.NXT is passed first (`what_is_in_order_is_passed`). Or
 /// the end is dead, or reset next; or RCV.NXT is past the peer's FIN; or B has neither both keys nor fell back; or no mapping counts
-/// (`what_is_told_is_known`), or the peer sends by an infinite one. So it is without checksums. A copy outside the window, as one that came
-/// before, is answered at once, where the end isn't half-open.
+/// (`what_is_told_is_known`), or the peer sends by an infinite one; or, with checksums, a mapping fails its check or isn't whole before the
+/// position. A copy outside the window, as one that came before, is answered at once, where the end isn't half-open.
 pub fn what_is_in_hand_is_acknowledged()
     ensures octets { WhatIsInHandIsAcknowledged octets }
     ensures values { WhatIsInHandIsAcknowledged values }
@@ -534,11 +547,11 @@ pub fn what_waits_comes()
 /// back, unless the script harms a segment of the exchange, or there is news (RFC 9293, section 3.10.7.4).
 ///
 /// Where a turn is over such an exchange begins. By each turn it goes on in its order, and the tick stays: a copy of the record comes to the
-/// peer, which takes its octets in order, with their mapping, or had them before; all of it is in hand there, and is passed; an
-/// acknowledgement goes back that says as much; and SND.UNA is at the record's end then, or past it. Once the clock is past the tick it is so
-/// (`in_time`). That is said of data on the path that opens the connection, without checksums, where no line takes options away or alters
-/// payload. Or there is news, octets of the peer's come in order, a segment is lost or late, or an end dies (`IsHeldUp`); or an end
-/// doesn't go by the mappings of pieces, or goes on to a reset (`IsAstray`).
+/// peer, which takes its octets in order, with their mapping, or had them before; all of it is in hand there, and is passed; an acknowledgement
+/// goes back that says as much; and SND.UNA is at the record's end then, or past it. Once the clock is past the tick it is so (`in_time`). That
+/// is said of data on the path that opens the connection, where no line takes options away or alters payload. Or there is news, octets of the
+/// peer's come in order, a segment is lost or late, or an end dies (`IsHeldUp`); or an end doesn't go by the mappings of pieces, or goes on to
+/// a reset (`IsAstray`).
 pub fn each_record_is_acknowledged()
     ensures { EachRecordIsAcknowledged }
 {}
@@ -568,7 +581,7 @@ pub fn what_is_asked_comes()
 /// peer (`what_is_asked_comes`), which takes it, or answers it as a copy that came before; an acknowledgement goes back whose Data ACK is
 /// at the place that the peer's reassembly book wants as it sends, or past it; and the end hears it, in its turn. Where a turn is over such
 /// an exchange begins, within a minute and the longest time there and back, and once the clock is past its tick the Data ACK is heard
-/// (`in_time`). That is said of a path without checksums where no line takes options away or alters payload. Or the end has a record again,
+/// (`in_time`). That is said of a path where no line takes options away or alters payload. Or the end has a record again,
 /// or nothing of it is outstanding; or there is news, octets of the peer's come in order, a segment is lost or late, or an end dies
 /// (`IsHeldUp`); or an end isn't open or doesn't go by Data ACKs (`IsAwry`).
 pub fn each_ask_is_answered()
@@ -624,6 +637,12 @@ pub fn a_copy_leaves_by_arriving()
     ensures values { CopiesLeaveByArriving values }
 {}
 
+/// A law: in a mild connection no side's control book is or was aborted: no application asks for a fast close, so that none is heard
+/// (RFC 8684, section 3.5).
+pub fn no_side_is_stopped()
+    ensures { NoSideIsStopped }
+{}
+
 /// A law: with checksums, up to the end of the first record of data of an end of path 0 of a mild connection, the mapping at its peer's RCV.NXT
 /// begins there, and ends there or before.
 ///
@@ -649,12 +668,21 @@ pub fn each_syn_comes()
     ensures { EachSynComes }
 {}
 
+/// A law: A's first piece comes to B with both keys, whatever is lost, while neither end of path 0 may send a DSS yet, and nothing came to B behind
+/// the SYN: B hears them in its turn, and may send a DSS by then (RFC 8684, section 3.1).
+///
+/// Where a turn is over it comes within a minute and the longest time on its way (`begin`, `end`). By each turn of a mild connection that stays so,
+/// or something counts, or the exchange is held up, or a SYN/ACK is treated (`goes_on`).
+pub fn each_first_piece_comes()
+    ensures { EachFirstPieceComes }
+{}
+
 /// A law: the SYN/ACK of B on path 0 comes again to A's end that is past the handshake, which acknowledges it, and B hears that, whatever is
 /// lost (RFC 9293, sections 3.5 and 3.10.7.4).
 ///
 /// So a half-open end opens though the third segment was lost. Where a turn is over that is to come within a minute and the longest time there
-/// and back (`begin`, `end`). By each turn it stays so, or an end is further, or there is news or else something that counts (`goes_on`); it
-/// isn't said that A refuses no copy, and that it sends no more than B's window has room for (`refuses`, `past_window`).
+/// and back (`begin`, `end`). By each turn of a mild connection it stays so, or an end is further, or there is news or else something
+/// that counts; or A sent its FIN, so that all of its stream is with the peer (`goes_on`, `what_is_finished_is_there`).
 pub fn each_syn_ack_is_answered()
     ensures { EachSynAckIsAnswered }
 {}

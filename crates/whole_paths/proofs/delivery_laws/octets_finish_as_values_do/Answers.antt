@@ -13,5 +13,5 @@ returns-clause-end c = over_octets.one_path_ends_as_over_values
 pub returns-clause-finish : goal.returns-clause-finish
 returns-clause-finish c = over_octets.few_losses_finish_as_over_values
 
-pub returns-clause-unchecked : goal.returns-clause-unchecked
-returns-clause-unchecked c = over_octets.unchecked_paths_deliver_as_over_values
+pub returns-clause-brief : goal.returns-clause-brief
+returns-clause-brief c = over_octets.brief_paths_deliver_as_over_values
