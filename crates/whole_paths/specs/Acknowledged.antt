@@ -51,7 +51,8 @@ module _ {C : Type 0} where
 
   -- as much is acknowledged where an end has nothing outstanding
   abbrev pub WrittenIsAcknowledged : WorldState C → WorldState C → PathState C → Type 0
-  WrittenIsAcknowledged begun w p = p.agenda ≡ [] → (s : Side) → may_finish (end_at s p).tcp.state ≡ true → (end_at s p).modes.clear ≡ true → (IsOutstanding (end_at s p) → ⊥)
+  WrittenIsAcknowledged begun w p = p.agenda ≡ [] → (s : Side) → may_finish (end_at s p).tcp.state ≡ true → (end_at s p).modes.clear ≡ true
+      → (IsOutstanding (end_at s p) → ⊥)
       → IsAllAcknowledged s (steps_since 2 begun w) (length (written_by s begun).written) (written_by s w)
 
   -- in each round of a connection over one path, which is the actor 2

@@ -82,7 +82,8 @@ pub data Follows (s : Side) (gone : Bool) (d : Duty) (ds : List Duty) : List Dut
   -- the others; it once more; another one of the side in its place
   goes_on : Follows s gone d ds ds
   again : Follows s gone d ds (d ∷ ds)
-  told : treats_copy d ≡ true → (e : Duty) → side_of e ≡ s → is_of_both e ≡ false → is_told e ≡ true → (is_silent e ≡ true) ⊎ (hears_join d ≡ true) → Follows s gone d ds (e ∷ ds)
+  told : treats_copy d ≡ true → (e : Duty) → side_of e ≡ s → is_of_both e ≡ false → is_told e ≡ true → (is_silent e ≡ true) ⊎ (hears_join d ≡ true)
+      → Follows s gone d ds (e ∷ ds)
   -- the end is dead and gives back its bytes, and then tells it
   left : gone ≡ true → Follows s gone d ds (duties.Ask (ask_duties.Leave s) ∷ ds)
   noted : Follows s gone d ds (duties.Ask (ask_duties.Dead s) ∷ ds)

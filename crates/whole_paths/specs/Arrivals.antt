@@ -64,7 +64,8 @@ pub record HasItsMapping (c : Profile) (s : Side) (r : Record) (e : PathEnd) : T
 
 -- the segment of such a record is such a segment
 abbrev pub EachMappedRecordIsAPiece : Type 0
-EachMappedRecordIsAPiece = (c : Profile) (s : Side) (r : Record) (e : PathEnd) (x : PlainSegment) → HasItsMapping c s r e → IsSegmentOf r x → IsSaidAt c s r e x → IsPiece x
+EachMappedRecordIsAPiece = (c : Profile) (s : Side) (r : Record) (e : PathEnd) (x : PlainSegment) → HasItsMapping c s r e → IsSegmentOf r x
+    → IsSaidAt c s r e x → IsPiece x
 
 -- the end has both SYNs, and takes the segment: RCV.NXT is one of its positions, all of them lie in the window, and what it acknowledges
 -- was sent
@@ -102,8 +103,10 @@ pub record Arrival (x : PlainSegment) (p : PathState Carried) : Type 0 where
 
 -- a copy of a record comes that was under way, where nothing was taken away or altered
 abbrev pub EachCopyArrives : Type 0
-EachCopyArrives = (s : Side) (r : Record) (p : PathState Carried) (f : Flight Carried) (copy : IsCopyOf values s r p f) → copy.stripped ≡ false → copy.altered ≡ false
-    → IsUnderWay f p → f.number < 2 ^ 64 - 1 → CopiesArriveSo p → (others : List Duty) → p.agenda ≡ duties.Step step_duties.Events ∷ others → next_event p ≡ Some (happenings.Arrives (due_of f))
+EachCopyArrives = (s : Side) (r : Record) (p : PathState Carried) (f : Flight Carried) (copy : IsCopyOf values s r p f) → copy.stripped ≡ false
+    → copy.altered ≡ false
+    → IsUnderWay f p → f.number < 2 ^ 64 - 1 → CopiesArriveSo p → (others : List Duty) → p.agenda ≡ duties.Step step_duties.Events ∷ others
+    → next_event p ≡ Some (happenings.Arrives (due_of f))
     → is_joined p.profile ≡ false → Arrival copy.segment p
 
 -- a record's payload is brought in order

@@ -63,7 +63,8 @@ AnswerIsAwaitedBy six later _ _ = Unit {0}
 -- where the turn of an open path is over such a wait begins, for a minute and the longest time there and back
 abbrev pub AnswerIsAwaitedFrom : SixBooks → PathState Carried → Type 0
 AnswerIsAwaitedFrom six p = IsOpen p → p.agenda ≡ [] → (s : Side) → (end_at s p).tcp.send.records ≡ [] → (place : ℕ) (fin : Bool) → IsUnansweredAt six s place fin p
-    → place ≤ received (reassembly_of (peer s) six) + one_if fin → IsAnswerAwaited six s place fin (p.clock + 60000 + longest_way s p.link + longest_way (peer s) p.link) p
+    → place ≤ received (reassembly_of (peer s) six) + one_if fin
+    → IsAnswerAwaited six s place fin (p.clock + 60000 + longest_way s p.link + longest_way (peer s) p.link) p
 
 -- at any moment of a mild connection, and by any turn where there is one path
 pub record OpenAsksAreAnswered : Type 0 where
@@ -71,4 +72,5 @@ pub record OpenAsksAreAnswered : Type 0 where
       (actor : ℕ) (c : ActorCrew Carried) → slice_get w.crew actor ≡ Some c → HoldsOfKind (λ app. Unit {0}) (AnswerIsAwaitedFrom (books_in w.books)) c.member
   pub goes_on : (start : Start) (turns : List Turn) (turn : Turn) (plan : PathPlan) → start.paths ≡ plan ∷ [] → IsMildStart start
       → let w = world_run values turns (opened_world start) in let v = after_turn values turn w in
-      (actor : ℕ) (c d : ActorCrew Carried) → slice_get w.crew actor ≡ Some c → slice_get v.crew actor ≡ Some d → AnswerIsAwaitedBy (books_in w.books) (books_in v.books) c.member d.member
+      (actor : ℕ) (c d : ActorCrew Carried) → slice_get w.crew actor ≡ Some c → slice_get v.crew actor ≡ Some d
+      → AnswerIsAwaitedBy (books_in w.books) (books_in v.books) c.member d.member

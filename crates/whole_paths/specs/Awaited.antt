@@ -39,7 +39,8 @@ AwaitedGoesOn six after steps p q = IsFaithful p → (s : Side) (at by : ℕ) �
 -- Where a turn is over, of each end that opens, is open or closes, without a record, and of each place past the edge, where the peer's book takes
 -- so much: within a minute and the longest time there and back.
 abbrev pub AwaitingBegins : SixBooks → PathState Carried → Type 0
-AwaitingBegins six p = p.agenda ≡ [] → (s : Side) → is_closed_to_segments (end_at s p).tcp.state ≡ false → (end_at s p).tcp.send.records ≡ [] → IsOutstanding (end_at s p)
+AwaitingBegins six p = p.agenda ≡ [] → (s : Side) → is_closed_to_segments (end_at s p).tcp.state ≡ false → (end_at s p).tcp.send.records ≡ []
+    → IsOutstanding (end_at s p)
     → (at : ℕ) → (send_of s six).edge < at → at + 31 ≤ arriving.edge (reassembly_of (peer s) six)
     → IsAwaited six s at (p.clock + 60000 + longest_way s p.link + longest_way (peer s) p.link) p
 

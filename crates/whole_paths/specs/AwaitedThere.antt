@@ -31,4 +31,5 @@ AwaitedIsThere six p = IsOpen p → p.agenda ≡ [] → (s : Side) → (end_at s
 -- at every moment of a mild connection over one path, which is the actor 2
 abbrev pub WhatIsAwaitedIsThere : Type 0
 WhatIsAwaitedIsThere = (start : Start) (plan : PathPlan) (turns : List Turn) → start.paths ≡ plan ∷ [] → IsMildStart start
-    → let w = reached values start turns in (c : ActorCrew Carried) → slice_get w.crew 2 ≡ Some c → HoldsOfKind (λ app. Unit {0}) (AwaitedIsThere (books_in w.books)) c.member
+    → let w = reached values start turns in (c : ActorCrew Carried) → slice_get w.crew 2 ≡ Some c
+    → HoldsOfKind (λ app. Unit {0}) (AwaitedIsThere (books_in w.books)) c.member

@@ -11,7 +11,8 @@ use Rattle.world_laws.specs.Worlds.{WorldState, Turn, after_turn}
 
 module _ {C : Type 0} where
   -- as the path becomes this actor, and its steps are these
-  abbrev pub PathsBetween : (SixBooks → SixBooks → List Note → PathState C → PathState C → Type 0) → StampedBooks → StampedBooks → List Note → Actor C → Actor C → Type 0
+  abbrev pub PathsBetween : (SixBooks → SixBooks → List Note → PathState C → PathState C → Type 0) → StampedBooks → StampedBooks → List Note → Actor C
+      → Actor C → Type 0
   PathsBetween R books after steps (Path p) (Path q) = R (books_in books) (books_in after) steps p q
   PathsBetween R books after steps (App a) (App b) = Unit {0}
   PathsBetween R books after steps _ _ = ⊥

@@ -51,6 +51,7 @@ pub record EndComes (place : ℕ) (p : PathState Carried) : Type 0 where
 
 -- where such a copy was under way, and nothing was taken away or altered, on the path that opens the connection
 abbrev pub EachDataFinComes : Type 0
-EachDataFinComes = (s : Side) (p : PathState Carried) (f : Flight Carried) (h : IsAsking values s p f) → h.stripped ≡ false → h.altered ≡ false → IsUnderWay f p → f.number < 2 ^ 64 - 1
+EachDataFinComes = (s : Side) (p : PathState Carried) (f : Flight Carried) (h : IsAsking values s p f) → h.stripped ≡ false → h.altered ≡ false
+    → IsUnderWay f p → f.number < 2 ^ 64 - 1
     → CopiesArriveSo p → (others : List Duty) → p.agenda ≡ duties.Step step_duties.Events ∷ others → next_event p ≡ Some (happenings.Arrives (due_of f))
     → is_joined p.profile ≡ false → (place : ℕ) → OwesItsEnd place h.sender → TakesFrom h.sender (end_at (peer s) p) → EndComes place p

@@ -38,7 +38,8 @@ module _ {C : Type 0} where
   -- The bytes before this place are received from the side, or all but the place of its DATA_FIN, which the peer heard. Then the peer's
   -- book wants the place, or one past it, as the peer sends.
   abbrev pub HeardIsWanted : StampedBooks → PathState C → Type 0
-  HeardIsWanted books p = (s : Side) (place : ℕ) (fin : Bool) → IsPastTheEnd books s place fin → place ≤ received (reassembly_of (peer s) (books_in books)) + one_if fin
+  HeardIsWanted books p = (s : Side) (place : ℕ) (fin : Bool) → IsPastTheEnd books s place fin
+      → place ≤ received (reassembly_of (peer s) (books_in books)) + one_if fin
       → (fin ≡ true → IsFinHeard (peer s) p) → WantsWhereItSends (books_in books) (peer s) place p
 
 -- at every moment

@@ -65,7 +65,8 @@ module _ {C : Type 0} (k : Codec C) (start : Start) where
   -- Where exchanges go on, it is over after lawful turns in which rounds enough begin for all news there can be and for each segment that is
   -- harmed.
   abbrev pub ExchangesEnd : Type 1
-  ExchangesEnd = (Holds : List Turn → Type 0) (most within : ℕ) (Over : List Turn → Type 0) (Waits : ℕ → ℕ → List Turn → Type 0) → Exchanges Holds most within Over Waits
+  ExchangesEnd = (Holds : List Turn → Type 0) (most within : ℕ) (Over : List Turn → Type 0) (Waits : ℕ → ℕ → List Turn → Type 0)
+      → Exchanges Holds most within Over Waits
       → ((turns : List Turn) → news start (reached k start turns) ≤ most_news start)
       → (before more : List Turn) → AreLawful k more (reached k start before) → ((ts us : List Turn) → ts ++ us ≡ more → Holds (before ++ ts))
       → harmed_so_far (before ++ more) ≤ most → ticks_for within (suc (most_news start + most)) < 100 * rounds_in more → Over (before ++ more)

@@ -71,7 +71,8 @@ module _ {C : Type 0} where
     -- a line was used by which a segment is lost or late
     harmed : harms_left q.link < harms_left p.link → AskingGoesOn k s by p q
     -- the link took the segment, and lost it by the word drawn for it, or since its queue was full
-    lost : (x : PlainSegment) → x ≡ ack_resent p.profile s (end_at s p) → q.link ≡ handed k s x p → loses s (length (made p.profile.spelling s x)) p.clock p.link ≡ true
+    lost : (x : PlainSegment) → x ≡ ack_resent p.profile s (end_at s p) → q.link ≡ handed k s x p
+        → loses s (length (made p.profile.spelling s x)) p.clock p.link ≡ true
         → AskingGoesOn k s by p q
     -- the end is dead, or the line came next by which the path died
     gone : is_dead (end_at s q).tcp.state ≡ true → AskingGoesOn k s by p q
@@ -97,7 +98,8 @@ module _ {C : Type 0} where
   -- at the end of a turn each end that opens, is open or closes asks again, where something of it is outstanding, but no record, within a
   -- minute and the longest time that a segment is under way
   abbrev pub IsAskedAtTheEnd : Codec C → PathState C → Type 0
-  IsAskedAtTheEnd k p = p.agenda ≡ [] → (s : Side) → is_closed_to_segments (end_at s p).tcp.state ≡ false → (end_at s p).tcp.send.records ≡ [] → IsOutstanding (end_at s p)
+  IsAskedAtTheEnd k p = p.agenda ≡ [] → (s : Side) → is_closed_to_segments (end_at s p).tcp.state ≡ false → (end_at s p).tcp.send.records ≡ []
+      → IsOutstanding (end_at s p)
       → IsAskedAgain k s (p.clock + 60000 + longest_way s p.link) p
 
   -- on each path

@@ -72,6 +72,7 @@ pub record AskArrives (s : Side) (p : PathState Carried) (f : Flight Carried) (e
 
 -- where a copy of it was under way, and nothing was taken away or altered, on the path that opens the connection
 abbrev pub EachAskArrives : Type 0
-EachAskArrives = (s : Side) (p : PathState Carried) (f : Flight Carried) (h : IsAsking values s p f) → h.stripped ≡ false → h.altered ≡ false → IsUnderWay f p → f.number < 2 ^ 64 - 1
+EachAskArrives = (s : Side) (p : PathState Carried) (f : Flight Carried) (h : IsAsking values s p f) → h.stripped ≡ false → h.altered ≡ false
+    → IsUnderWay f p → f.number < 2 ^ 64 - 1
     → CopiesArriveSo p → (others : List Duty) → p.agenda ≡ duties.Step step_duties.Events ∷ others → next_event p ≡ Some (happenings.Arrives (due_of f))
     → is_joined p.profile ≡ false → AskArrives s p f h.sender

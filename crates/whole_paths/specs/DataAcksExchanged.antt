@@ -48,9 +48,11 @@ pub record IsAskedPlainly (base : ℕ) (e : PathEnd) (stripped altered : Bool) :
 -- how far the exchange is, if by this tick an answer is to come with a Data ACK of this place, or one past it, with the DATA_FIN or without
 pub data IsInquired (s : Side) (place : ℕ) (fin : Bool) (by : ℕ) (p : PathState Carried) : Type 0 where
   -- the end asks, so early that the answer comes in time
-  asks : (arrival : ℕ) → arrival + longest_way (peer s) p.link ≤ by → (h : IsAskedAgain values s arrival p) → IsAskedSo (IsAskedPlainly (end_at s p).tcp.send.una) h → IsInquired s place fin by p
+  asks : (arrival : ℕ) → arrival + longest_way (peer s) p.link ≤ by → (h : IsAskedAgain values s arrival p)
+      → IsAskedSo (IsAskedPlainly (end_at s p).tcp.send.una) h → IsInquired s place fin by p
   -- the end has both SYNs, and the peer answers so
-  answered : 2 ≤ stage (end_at s p).tcp.state → (h : IsAnswered values (peer s) 1 by p) → IsAnsweredSo (IsDataAckFrom (end_at s p).tcp.recv.edge (end_at (peer s) p).tcp.send.nxt place) h → IsInquired s place fin by p
+  answered : 2 ≤ stage (end_at s p).tcp.state → (h : IsAnswered values (peer s) 1 by p)
+      → IsAnsweredSo (IsDataAckFrom (end_at s p).tcp.recv.edge (end_at (peer s) p).tcp.send.nxt place) h → IsInquired s place fin by p
   -- the end heard such a Data ACK, or hears it in its turn
   heard : (next : ℕ) → place ≤ next → IsHeard s next fin p → IsInquired s place fin by p
 
@@ -82,7 +84,8 @@ pub data IsAwry (s : Side) (steps : List Note) (p q : PathState Carried) : Type 
 pub data InquiryGoesOn (s : Side) (place : ℕ) (fin : Bool) (by : ℕ) (steps : List Note) (p q : PathState Carried) : Type 0 where
   on : IsInquired s place fin by q → InquiryGoesOn s place fin by steps p q
   -- the end, which had none, has a record again, which comes on its part (`WhatWaitsComes`), or nothing of it is outstanding any longer
-  record_waits : (r : Record) (arrival : ℕ) → arrival ≤ by → (end_at s p).tcp.send.records ≡ [] → IsFirst r (end_at s q) → IsOnItsWay values s r arrival q → InquiryGoesOn s place fin by steps p q
+  record_waits : (r : Record) (arrival : ℕ) → arrival ≤ by → (end_at s p).tcp.send.records ≡ [] → IsFirst r (end_at s q)
+      → IsOnItsWay values s r arrival q → InquiryGoesOn s place fin by steps p q
   done : (IsOutstanding (end_at s q) → ⊥) → InquiryGoesOn s place fin by steps p q
   held_up : IsHeldUp s p q → InquiryGoesOn s place fin by steps p q
   awry : IsAwry s steps p q → InquiryGoesOn s place fin by steps p q
@@ -97,7 +100,8 @@ InquiriesGoOn books steps _ _ = ⊥
 
 -- where a turn is over, of each end that opens, is open or closes, without a record: within a minute and the longest time there and back
 abbrev pub InquiriesBegin : PathState Carried → Type 0
-InquiriesBegin p = p.agenda ≡ [] → (s : Side) → is_closed_to_segments (end_at s p).tcp.state ≡ false → (end_at s p).tcp.send.records ≡ [] → IsOutstanding (end_at s p)
+InquiriesBegin p = p.agenda ≡ [] → (s : Side) → is_closed_to_segments (end_at s p).tcp.state ≡ false → (end_at s p).tcp.send.records ≡ []
+    → IsOutstanding (end_at s p)
     → (place : ℕ) (fin : Bool) → IsInquired s place fin (p.clock + 60000 + longest_way s p.link + longest_way (peer s) p.link) p
 
 -- once the clock is past its tick the end heard such a Data ACK, or hears it in its turn
@@ -117,6 +121,7 @@ pub record InquiriesAreInTime (w : WorldState Carried) : Type 0 where
 -- at any moment, and by any turn where there is one path
 pub record EachAskIsAnswered : Type 0 where
   pub in_time : Always values (λ start w. InquiriesAreInTime w)
-  pub goes_on : (start : Start) (turns : List Turn) (plan : PathPlan) → start.paths ≡ plan ∷ [] → HasRoom start → NumbersFit start → let w = world_run values turns (opened_world start) in
+  pub goes_on : (start : Start) (turns : List Turn) (plan : PathPlan) → start.paths ≡ plan ∷ [] → HasRoom start → NumbersFit start
+      → let w = world_run values turns (opened_world start) in
       (turn : Turn) (actor : ℕ) (c : ActorCrew Carried) → slice_get w.crew actor ≡ Some c
       → (d : ActorCrew Carried) × (slice_get (after_turn values turn w).crew actor ≡ Some d) × InquiriesGoOn w.books d.list c.member d.member

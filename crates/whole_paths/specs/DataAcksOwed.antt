@@ -42,9 +42,11 @@ module _ {C : Type 0} where
   -- TCP and is between these positions, and that is so as it sends, such is the answer that it owes.
   abbrev pub DataAcksGoOn : SixBooks → Codec C → Actor C → Actor C → Type 0
   DataAcksGoOn six k (Path p) (Path q) = (s : Side) (position by edge last place : ℕ) → segments_sent s p.link < 2 ^ 64 - 1
-      → (end_at s p).modes.clear ≡ true → (end_at s p).modes.identity ≡ false → edge ≤ (end_at s p).tcp.send.nxt → (end_at s p).tcp.send.nxt ≤ last → (end_at s p).receiving.next < 2 ^ 62
+      → (end_at s p).modes.clear ≡ true → (end_at s p).modes.identity ≡ false → edge ≤ (end_at s p).tcp.send.nxt → (end_at s p).tcp.send.nxt ≤ last
+      → (end_at s p).receiving.next < 2 ^ 62
       → WantsWhereItSends six s place p
-      → (h : IsAnswered k s position by p) → IsAnsweredSo (IsDataAckFrom edge last place) h → (go : AnswerGoesOn k s position by p q) × AnswerComesSo (IsDataAckFrom edge last place) go
+      → (h : IsAnswered k s position by p) → IsAnsweredSo (IsDataAckFrom edge last place) h → (go : AnswerGoesOn k s position by p q)
+      × AnswerComesSo (IsDataAckFrom edge last place) go
   DataAcksGoOn six k (App a) (App b) = Unit {0}
   DataAcksGoOn six k _ _ = ⊥
 

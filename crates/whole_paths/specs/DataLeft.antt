@@ -22,10 +22,12 @@ pub record IsData (r : Record) (e : PathEnd) : Type 0 where
 
 -- such a record is the first one of an open end that sent no FIN, or has more than the FIN to be acknowledged
 abbrev pub HasDataLeft : PathState Carried → Type 0
-HasDataLeft p = IsOpen p → (s : Side) → ((end_at s p).tcp.send.finished ≡ false) ⊎ ((end_at s p).tcp.send.una + 1 < (end_at s p).tcp.send.nxt) → (r : Record) (others : List Record)
+HasDataLeft p = IsOpen p → (s : Side) → ((end_at s p).tcp.send.finished ≡ false) ⊎ ((end_at s p).tcp.send.una + 1 < (end_at s p).tcp.send.nxt)
+    → (r : Record) (others : List Record)
     → (end_at s p).tcp.send.records ≡ r ∷ others → IsData r (end_at s p)
 
 -- on path 0, at every moment
 abbrev pub WhatIsLeftIsData : Type 0
-WhatIsLeftIsData = (start : Start) (turns : List Turn) → HasRoom start → NumbersFit start → (c : ActorCrew Carried) → slice_get (reached values start turns).crew 2 ≡ Some c
+WhatIsLeftIsData = (start : Start) (turns : List Turn) → HasRoom start → NumbersFit start → (c : ActorCrew Carried)
+    → slice_get (reached values start turns).crew 2 ≡ Some c
     → HoldsOfKind (λ app. Unit {0}) HasDataLeft c.member

@@ -16,4 +16,5 @@ BothAreTold w = (s : Side) → was_told_end s w ≡ true
 
 -- then both files are delivered
 abbrev pub WhoIsToldHasAll : Type 0
-WhoIsToldHasAll = (start : Start) (turns : List Turn) → IsMildStart start → BothAreTold (reached values start turns) → outcome_of (reached values start turns).crew ≡ Delivered
+WhoIsToldHasAll = (start : Start) (turns : List Turn) → IsMildStart start → BothAreTold (reached values start turns)
+    → outcome_of (reached values start turns).crew ≡ Delivered

@@ -48,9 +48,11 @@ pub record AllIsThere {C : Type 0} (w : WorldState C) : Type 0 where
 
 -- all of a stream that is there stays there
 abbrev pub WhatIsThereStays : Type 0
-WhatIsThereStays = (start : Start) (turns more : List Turn) → IsMildStart start → (s : Side) → IsAllThere s (reached values start turns) → IsAllThere s (reached values start (turns ++ more))
+WhatIsThereStays = (start : Start) (turns more : List Turn) → IsMildStart start → (s : Side) → IsAllThere s (reached values start turns)
+    → IsAllThere s (reached values start (turns ++ more))
 
 -- once all of both streams is there, and three more rounds have ended, both files are delivered, and it stays so
 abbrev pub WhatIsThereIsDelivered : Type 0
-WhatIsThereIsDelivered = (start : Start) (plan : PathPlan) (turns more : List Turn) → start.paths ≡ plan ∷ [] → IsMildStart start → AllIsThere (reached values start turns)
+WhatIsThereIsDelivered = (start : Start) (plan : PathPlan) (turns more : List Turn) → start.paths ≡ plan ∷ [] → IsMildStart start
+    → AllIsThere (reached values start turns)
     → AreLawful values more (reached values start turns) → 3 ≤ rounds_in more → outcome_of (reached values start (turns ++ more)).crew ≡ Delivered

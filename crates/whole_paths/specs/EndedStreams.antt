@@ -18,7 +18,8 @@ module _ {C : Type 0} where
   -- As the turn of the path is over, which is the actor 2, at an end that may ask for bytes, all of whose pieces are acknowledged and whose
   -- peer's window isn't shut. Or the path was on standby when it asked for bytes last, or the connection was stopped.
   abbrev pub EndedIsAcknowledged : WorldState C → PathState C → Type 0
-  EndedIsAcknowledged w p = p.agenda ≡ [] → (s : Side) → may_ask p.profile s (end_at s p) ≡ true → (end_at s p).sending.granted ≡ [] → (end_at s p).sending.shut ≡ false
+  EndedIsAcknowledged w p = p.agenda ≡ [] → (s : Side) → may_ask p.profile s (end_at s p) ≡ true → (end_at s p).sending.granted ≡ []
+      → (end_at s p).sending.shut ≡ false
       → (n : ℕ) → (end_at s p).sending.known_end ≡ Some n → IsAllAcknowledged s (notes_at 2 w.crew) n (written_by s w)
 
   -- at every moment of a connection over one path

@@ -71,7 +71,8 @@ pub record IsBareWithin (edge next : ℕ) (x : PlainSegment) : Type 0 where
 -- how far the exchange of a record is that this side's end sends, if by this tick an answer is to come
 pub data IsExchanged (s : Side) (r : Record) (by : ℕ) (p : PathState Carried) : Type 0 where
   -- the record is the first that isn't acknowledged, and a copy of it comes so early that the answer comes in time
-  comes : (arrival : ℕ) → arrival + longest_way (peer s) p.link ≤ by → IsFirst r (end_at s p) → (way : IsOnItsWay values s r arrival p) → IsSentSo (IsSentWhole p.profile s r) way
+  comes : (arrival : ℕ) → arrival + longest_way (peer s) p.link ≤ by → IsFirst r (end_at s p) → (way : IsOnItsWay values s r arrival p)
+      → IsSentSo (IsSentWhole p.profile s r) way
       → IsExchanged s r by p
   -- the end has both SYNs, and the peer has all of it in hand, or answers that its RCV.NXT is at the end of the record, or past it
   in_hand : 2 ≤ stage (end_at s p).tcp.state → IsInHand (peer s) (end_of r) by p → IsExchanged s r by p
@@ -118,7 +119,8 @@ pub data IsAstray (s : Side) (r : Record) (p q : PathState Carried) : Type 0 whe
   past_window : (end_at s p).tcp.recv.edge + 1048576 < (end_at (peer s) p).tcp.send.nxt → IsAstray s r p q
   -- with checksums: at the peer a mapping fails its check, or the control book isn't told of that; or the mapping at its RCV.NXT isn't whole
   fails : FailsItsCheck (peer s) p ⊎ IsSome (failing_mapping p.profile (end_at (peer s) p)) → IsAstray s r p q
-  untold : q.profile.spelling.checksums ≡ true → reads_mappings (end_at (peer s) q).modes.mode ≡ false → (end_at (peer s) q).modes.identity ≡ false → IsAstray s r p q
+  untold : q.profile.spelling.checksums ≡ true → reads_mappings (end_at (peer s) q).modes.mode ≡ false → (end_at (peer s) q).modes.identity ≡ false
+      → IsAstray s r p q
   partial : IsPartial (peer s) (end_of r) p → IsAstray s r p q
   -- the record is A's first piece, which carries both keys
   first_piece : is_first_piece s r (end_at s p) ≡ true → IsAstray s r p q
@@ -134,7 +136,8 @@ pub data ExchangeGoesOn (s : Side) (r : Record) (by : ℕ) (p q : PathState Carr
 -- of each record of data, as the path becomes this actor, with fewer than 2^64 - 1 segments sent from each side
 abbrev pub ExchangesGoOn : Actor Carried → Actor Carried → Type 0
 ExchangesGoOn (Path p) (Path q) =
-    IsFaithful p → (s : Side) (r : Record) (by : ℕ) → r.kind ≡ Data → ((t : Side) → segments_sent t p.link < 2 ^ 64 - 1) → IsExchanged s r by p → ExchangeGoesOn s r by p q
+    IsFaithful p → (s : Side) (r : Record) (by : ℕ) → r.kind ≡ Data → ((t : Side) → segments_sent t p.link < 2 ^ 64 - 1) → IsExchanged s r by p
+    → ExchangeGoesOn s r by p q
 ExchangesGoOn (App a) (App b) = Unit {0}
 ExchangesGoOn _ _ = ⊥
 

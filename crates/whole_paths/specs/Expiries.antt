@@ -64,7 +64,8 @@ module _ {C : Type 0} where
   -- the link takes the segment of the first record that isn't acknowledged, or another one where there is none
   pub record SendsAgain (k : Codec C) (s : Side) (p q : PathState C) : Type 0 where
     pub segment : PlainSegment
-    pub first : (r : Record) (others : List Record) → (end_at s p).tcp.send.records ≡ r ∷ others → IsSegmentOf r segment × IsSaidAt p.profile s r (end_at s p) segment
+    pub first : (r : Record) (others : List Record) → (end_at s p).tcp.send.records ≡ r ∷ others → IsSegmentOf r segment
+        × IsSaidAt p.profile s r (end_at s p) segment
     pub taken : q.link ≡ handed k s segment p
 
   -- what becomes of a path whose timer runs out, and of one that is to send again, unless it stays as it is

@@ -45,7 +45,8 @@ pub record ShowsBothKeys (c : Profile) (r : Record) (e : PathEnd) (stripped alte
 -- turn.
 pub data IsFirstPieceAwaited (x : ℕ) (p : PathState Carried) : Type 0 where
   comes : (r : Record) → r.kind ≡ Data → r.pos ≡ 1 → 2 ≤ stage p.a.tcp.state → p.a.modes.clear ≡ false → is_some p.a.modes.peer_key ≡ true
-      → p.b.modes.clear ≡ false → 2 ≤ stage p.b.tcp.state → p.b.tcp.recv.edge ≡ 1 → (way : IsOnItsWay values A r x p) → IsSentSo (ShowsBothKeys p.profile r) way → IsFirstPieceAwaited x p
+      → p.b.modes.clear ≡ false → 2 ≤ stage p.b.tcp.state → p.b.tcp.recv.edge ≡ 1 → (way : IsOnItsWay values A r x p)
+      → IsSentSo (ShowsBothKeys p.profile r) way → IsFirstPieceAwaited x p
   hears : p.b.modes.clear ≡ false → IsConfirmed B p → IsFirstPieceAwaited x p
 
 -- as the path becomes another one
@@ -65,7 +66,8 @@ FirstPiecesGoOn _ _ = ⊥
 
 -- where a turn is over, within a minute and the longest time on its way
 abbrev pub FirstPiecesBegin : PathState Carried → Type 0
-FirstPiecesBegin p = p.agenda ≡ [] → is_joined p.profile ≡ false → is_dead p.a.tcp.state ≡ false → (r : Record) (others : List Record) → p.a.tcp.send.records ≡ r ∷ others → r.kind ≡ Data → r.pos ≡ 1 → 2 ≤ stage p.a.tcp.state → p.a.modes.clear ≡ false
+FirstPiecesBegin p = p.agenda ≡ [] → is_joined p.profile ≡ false → is_dead p.a.tcp.state ≡ false → (r : Record) (others : List Record)
+    → p.a.tcp.send.records ≡ r ∷ others → r.kind ≡ Data → r.pos ≡ 1 → 2 ≤ stage p.a.tcp.state → p.a.modes.clear ≡ false
     → p.b.modes.clear ≡ false → 2 ≤ stage p.b.tcp.state → p.b.tcp.recv.edge ≡ 1 → IsFirstPieceAwaited (p.clock + 60000 + longest_way A p.link) p
 
 -- where a turn is over the clock isn't past its tick
@@ -74,7 +76,10 @@ FirstPiecesEnd p = p.agenda ≡ [] → (x : ℕ) → IsFirstPieceAwaited x p →
 
 -- on path 0 of mild connections, at any moment, and by any turn
 pub record EachFirstPieceComes : Type 0 where
-  pub begin : (start : Start) (turns : List Turn) → IsMildStart start → (actor : ℕ) (c : ActorCrew Carried) → slice_get (reached values start turns).crew actor ≡ Some c → HoldsOfKind (λ app. Unit {0}) FirstPiecesBegin c.member
-  pub end : (start : Start) (turns : List Turn) → (actor : ℕ) (c : ActorCrew Carried) → slice_get (reached values start turns).crew actor ≡ Some c → HoldsOfKind (λ app. Unit {0}) FirstPiecesEnd c.member
-  pub goes_on : (start : Start) (turns : List Turn) → IsMildStart start → let w = reached values start turns in (turn : Turn) (actor : ℕ) (c : ActorCrew Carried) → slice_get w.crew actor ≡ Some c
+  pub begin : (start : Start) (turns : List Turn) → IsMildStart start → (actor : ℕ) (c : ActorCrew Carried)
+      → slice_get (reached values start turns).crew actor ≡ Some c → HoldsOfKind (λ app. Unit {0}) FirstPiecesBegin c.member
+  pub end : (start : Start) (turns : List Turn) → (actor : ℕ) (c : ActorCrew Carried) → slice_get (reached values start turns).crew actor ≡ Some c
+      → HoldsOfKind (λ app. Unit {0}) FirstPiecesEnd c.member
+  pub goes_on : (start : Start) (turns : List Turn) → IsMildStart start
+      → let w = reached values start turns in (turn : Turn) (actor : ℕ) (c : ActorCrew Carried) → slice_get w.crew actor ≡ Some c
       → (d : ActorCrew Carried) × (slice_get (after_turn values turn w).crew actor ≡ Some d) × FirstPiecesGoOn c.member d.member

@@ -30,7 +30,8 @@ pub record IsWaiting (w : WorldState Carried) : Type 0 where
   pub side : Side
   pub may : may_finish (end_at side path).tcp.state ≡ true
   pub outstanding : IsOutstanding (end_at side path)
-  pub left : (end_at side path).tcp.send.records ≡ [] → (end_at side path).sending.granted ≡ [] → WaitsForNoEnd (end_at side path) → acked_len (written_by side w).marks < length (written_by side w).written
+  pub left : (end_at side path).tcp.send.records ≡ [] → (end_at side path).sending.granted ≡ [] → WaitsForNoEnd (end_at side path)
+      → acked_len (written_by side w).marks < length (written_by side w).written
 
 -- a step of each of these actors, in this order
 abbrev pub steps_of : List ℕ → List Turn
@@ -40,11 +41,14 @@ steps_of order = map (λ actor. Turn.Step actor) order
 -- rounds, of which one goes on.
 pub data IsAboutToGoOn (start : Start) (n rounds : ℕ) (turns : List Turn) : Type 0 where
   -- the round goes on that began then
-  this_round : (s : Side) (since : List Turn) (order : List ℕ) → rounds ≡ 2 → turns ≡ since ++ steps_of order → counted values start since ≡ n → BeginsRound values start (reached values start since)
+  this_round : (s : Side) (since : List Turn) (order : List ℕ) → rounds ≡ 2 → turns ≡ since ++ steps_of order → counted values start since ≡ n
+      → BeginsRound values start (reached values start since)
       → (IsAllThere s (reached values start since) → ⊥) → IsAboutToGoOn start n rounds turns
   -- the next one does: the stream wasn't closed then, and all that was written is acknowledged
-  next_round : (s : Side) (since more : List Turn) (order : List ℕ) → rounds ≡ 1 → turns ≡ (since ++ more) ++ steps_of order → counted values start since ≡ n → BeginsRound values start (reached values start (since ++ more))
-      → (written_by s (reached values start since)).closed ≡ false → length (written_by s (reached values start since)).written ≤ acked_len (written_by s (reached values start (since ++ more))).marks
+  next_round : (s : Side) (since more : List Turn) (order : List ℕ) → rounds ≡ 1 → turns ≡ (since ++ more) ++ steps_of order
+      → counted values start since ≡ n → BeginsRound values start (reached values start (since ++ more))
+      → (written_by s (reached values start since)).closed ≡ false
+      → length (written_by s (reached values start since)).written ≤ acked_len (written_by s (reached values start (since ++ more))).marks
       → IsAboutToGoOn start n rounds turns
 
 -- path 0 is open
@@ -58,7 +62,8 @@ RoundsBeginToGoOn = (start : Start) (turns : List Turn) → BeginsRound values s
 
 -- a step leaves that so
 abbrev pub StepsLetItGoOn : Type 0
-StepsLetItGoOn = (start : Start) (n rounds : ℕ) (turns : List Turn) (actor : ℕ) → IsAboutToGoOn start n rounds turns → IsAboutToGoOn start n rounds (turns ++ Turn.Step actor ∷ [])
+StepsLetItGoOn = (start : Start) (n rounds : ℕ) (turns : List Turn) (actor : ℕ) → IsAboutToGoOn start n rounds turns
+    → IsAboutToGoOn start n rounds (turns ++ Turn.Step actor ∷ [])
 
 -- As a round ends at which path 0 is open: more is counted, or something is outstanding at one of its ends, or there is one round less until
 -- more is.

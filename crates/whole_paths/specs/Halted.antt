@@ -37,5 +37,7 @@ HaltsGoOn six after _ _ = ⊥
 
 -- by any turn of a mild connection over one path, which is the actor 2
 abbrev pub WhoHaltsGoesOnHalting : Type 0
-WhoHaltsGoesOnHalting = (start : Start) (plan : PathPlan) (turns : List Turn) (turn : Turn) → start.paths ≡ plan ∷ [] → IsMildStart start → let w = reached values start turns in let v = after_turn values turn w in
-    (c : ActorCrew Carried) → slice_get w.crew 2 ≡ Some c → (d : ActorCrew Carried) × (slice_get v.crew 2 ≡ Some d) × HaltsGoOn (books_in w.books) (books_in v.books) c.member d.member
+WhoHaltsGoesOnHalting = (start : Start) (plan : PathPlan) (turns : List Turn) (turn : Turn) → start.paths ≡ plan ∷ [] → IsMildStart start
+    → let w = reached values start turns in let v = after_turn values turn w in
+    (c : ActorCrew Carried) → slice_get w.crew 2 ≡ Some c → (d : ActorCrew Carried) × (slice_get v.crew 2 ≡ Some d)
+    × HaltsGoOn (books_in w.books) (books_in v.books) c.member d.member

@@ -67,7 +67,8 @@ module _ {C : Type 0} where
     infinite : IsSome (end_at s p).modes.peer_infinite → HandGoesOn k s position by p q
     -- with checksums: a mapping fails its check, which no mild connection lets it do, or the control book isn't told of that; or none is whole
     fails : FailsItsCheck s p ⊎ IsSome (failing_mapping p.profile (end_at s p)) → HandGoesOn k s position by p q
-    untold : q.profile.spelling.checksums ≡ true → reads_mappings (end_at s q).modes.mode ≡ false → (end_at s q).modes.identity ≡ false → HandGoesOn k s position by p q
+    untold : q.profile.spelling.checksums ≡ true → reads_mappings (end_at s q).modes.mode ≡ false → (end_at s q).modes.identity ≡ false
+        → HandGoesOn k s position by p q
     partial : IsPartial s position p → HandGoesOn k s position by p q
 
   -- of an answer to it, that this holds of its segment

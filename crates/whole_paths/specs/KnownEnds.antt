@@ -30,7 +30,8 @@ WaitsForNoEnd e = e.sending.fin_sent ≡ true → e.sending.close.own_acked ≡ 
 module _ {C : Type 0} where
   -- as the turn of a path is over, of a side whose stream was closed as the round began: an end that may ask for bytes knows the end
   abbrev pub EndIsKnown : WorldState C → WorldState C → PathState C → Type 0
-  EndIsKnown begun w p = p.agenda ≡ [] → (s : Side) → (written_by s begun).closed ≡ true → may_ask p.profile s (end_at s p) ≡ true → KnowsTheEnd (written_by s w) (end_at s p)
+  EndIsKnown begun w p = p.agenda ≡ [] → (s : Side) → (written_by s begun).closed ≡ true → may_ask p.profile s (end_at s p) ≡ true
+      → KnowsTheEnd (written_by s w) (end_at s p)
 
   -- in each round, on each path
   abbrev pub EndsAreKnown : Codec C → Type 0
@@ -39,10 +40,12 @@ module _ {C : Type 0} where
 
   -- there an end that is open and may send a DSS, that sends with mappings and has no record left, doesn't wait for more than its DATA_FIN
   abbrev pub ClosedIsAcknowledged : WorldState C → WorldState C → PathState C → Type 0
-  ClosedIsAcknowledged begun w p = p.agenda ≡ [] → (s : Side) → (written_by s begun).closed ≡ true → may_finish (end_at s p).tcp.state ≡ true → (end_at s p).modes.clear ≡ true
+  ClosedIsAcknowledged begun w p = p.agenda ≡ [] → (s : Side) → (written_by s begun).closed ≡ true → may_finish (end_at s p).tcp.state ≡ true
+      → (end_at s p).modes.clear ≡ true
       → sends_plainly (end_at s p).modes ≡ false → (end_at s p).tcp.send.records ≡ [] → WaitsForNoEnd (end_at s p) → EndIsAcknowledged (written_by s w) (end_at s p)
 
   -- in each round, on each path
   abbrev pub WhatIsClosedIsAcknowledged : Codec C → Type 0
-  WhatIsClosedIsAcknowledged k = (start : Start) (begun : WorldState C) (order : List ℕ) → HasRoom start → NumbersFit start → BeginsRound k start begun → let w = after_steps k order begun in
+  WhatIsClosedIsAcknowledged k = (start : Start) (begun : WorldState C) (order : List ℕ) → HasRoom start → NumbersFit start
+      → BeginsRound k start begun → let w = after_steps k order begun in
       (actor : ℕ) (c : ActorCrew C) → slice_get w.crew actor ≡ Some c → HoldsOfKind (λ app. Unit {0}) (ClosedIsAcknowledged begun w) c.member

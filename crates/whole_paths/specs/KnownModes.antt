@@ -23,5 +23,6 @@ EndsKnowWhatWas {C} k = (such : Mode → Bool) → such Starting ≡ false → (
 
 -- In a mild connection no end knows of a fallback to plain TCP, nor of an infinite mapping.
 abbrev pub NoEndKnowsOfAFallback : Type 0
-NoEndKnowsOfAFallback = (start : Start) (turns : List Turn) → IsMildStart start → (actor : ℕ) (c : ActorCrew Carried) → slice_get (reached values start turns).crew actor ≡ Some c
+NoEndKnowsOfAFallback = (start : Start) (turns : List Turn) → IsMildStart start → (actor : ℕ) (c : ActorCrew Carried)
+    → slice_get (reached values start turns).crew actor ≡ Some c
     → HoldsOfKind (λ app. Unit {0}) (λ (p : PathState Carried). (s : Side) → is_fallen_back (end_at s p).modes.mode ≡ false) c.member

@@ -103,7 +103,8 @@ module _ {C : Type 0} where
   -- with each of these it rises
   abbrev pub EachNewsCounts : Codec C → Type 0
   EachNewsCounts k = (start : Start) (before more : List Turn) → let w = reached k start before in let v = world_run k more w in
-      (actor : ℕ) (c d : ActorCrew C) → slice_get w.crew actor ≡ Some c → slice_get v.crew actor ≡ Some d → ActorCounts c.member d.member → news start w < news start v
+      (actor : ℕ) (c d : ActorCrew C) → slice_get w.crew actor ≡ Some c → slice_get v.crew actor ≡ Some d → ActorCounts c.member d.member
+      → news start w < news start v
 
   -- with each gain of a side it rises too
   abbrev pub EachGainCounts : Codec C → Type 0

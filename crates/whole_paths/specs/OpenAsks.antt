@@ -51,7 +51,8 @@ HardlyGoesAwry steps _ _ = Unit {0}
 -- by any turn of a mild connection
 abbrev pub OpenEndsHardlyGoAwry : Type 0
 OpenEndsHardlyGoAwry = (start : Start) (turns : List Turn) (turn : Turn) → IsMildStart start → let w = world_run values turns (opened_world start) in
-    (actor : ℕ) (c d : ActorCrew Carried) → slice_get w.crew actor ≡ Some c → slice_get (after_turn values turn w).crew actor ≡ Some d → HardlyGoesAwry d.list c.member d.member
+    (actor : ℕ) (c d : ActorCrew Carried) → slice_get w.crew actor ≡ Some c → slice_get (after_turn values turn w).crew actor ≡ Some d
+    → HardlyGoesAwry d.list c.member d.member
 
 -- ---- what becomes of it
 
@@ -69,13 +70,16 @@ abbrev pub AskGoesOnBy : SixBooks → SixBooks → Actor Carried → Actor Carri
 AskGoesOnBy six later (Path p) (Path q) =
     IsOpen p → IsOpen q → ((t : Side) → segments_sent t p.link < 2 ^ 64 - 1)
     → (s : Side) (place : ℕ) (fin : Bool) (by : ℕ) → WantsWhereItSends six (peer s) place p
-    → IsInquired s place fin by p → IsUnanswered place fin (length (send_of s six).written) (end_at s p).sending → AskGoesOn s place fin by (length (send_of s later).written) p q
+    → IsInquired s place fin by p → IsUnanswered place fin (length (send_of s six).written) (end_at s p).sending
+    → AskGoesOn s place fin by (length (send_of s later).written) p q
 AskGoesOnBy six later _ _ = Unit {0}
 
 -- by any turn of a mild connection over one path
 abbrev pub OpenAsksGoOn : Type 0
-OpenAsksGoOn = (start : Start) (turns : List Turn) (turn : Turn) (plan : PathPlan) → start.paths ≡ plan ∷ [] → IsMildStart start → let w = world_run values turns (opened_world start) in let v = after_turn values turn w in
-    (actor : ℕ) (c d : ActorCrew Carried) → slice_get w.crew actor ≡ Some c → slice_get v.crew actor ≡ Some d → AskGoesOnBy (books_in w.books) (books_in v.books) c.member d.member
+OpenAsksGoOn = (start : Start) (turns : List Turn) (turn : Turn) (plan : PathPlan) → start.paths ≡ plan ∷ [] → IsMildStart start
+    → let w = world_run values turns (opened_world start) in let v = after_turn values turn w in
+    (actor : ℕ) (c d : ActorCrew Carried) → slice_get w.crew actor ≡ Some c → slice_get v.crew actor ≡ Some d
+    → AskGoesOnBy (books_in w.books) (books_in v.books) c.member d.member
 
 -- ---- how it begins, and that it is answered in time
 
@@ -86,7 +90,8 @@ module _ (six : SixBooks) where
 
   -- an end of an open path without a record waits for an answer, or a window, if something of it is outstanding
   abbrev pub AskWaits : PathState Carried → Type 0
-  AskWaits p = IsOpen p → (s : Side) → (end_at s p).tcp.send.records ≡ [] → IsOutstanding (end_at s p) → WaitsForAnswer (length (send_of s six).written) (end_at s p).sending
+  AskWaits p = IsOpen p → (s : Side) → (end_at s p).tcp.send.records ≡ [] → IsOutstanding (end_at s p)
+      → WaitsForAnswer (length (send_of s six).written) (end_at s p).sending
 
   -- where the path's turn is over it asks for the answer, within a minute and the longest time there and back
   abbrev pub AskBegins : PathState Carried → Type 0
@@ -95,7 +100,8 @@ module _ (six : SixBooks) where
 
   -- in a round that ends past its tick it was answered
   abbrev pub AskIsDue : PathState Carried → Type 0
-  AskIsDue p = IsOpen p → p.agenda ≡ [] → (s : Side) (place : ℕ) (fin : Bool) (by : ℕ) → by < p.until → IsInquired s place fin by p → IsUnansweredAt s place fin p → ⊥
+  AskIsDue p = IsOpen p → p.agenda ≡ [] → (s : Side) (place : ℕ) (fin : Bool) (by : ℕ) → by < p.until → IsInquired s place fin by p
+      → IsUnansweredAt s place fin p → ⊥
 
 -- on each path
 pub record OpenAsksAreInTime (w : WorldState Carried) : Type 0 where

@@ -60,11 +60,13 @@ pub record SynCounts (x : PlainSegment) (p : PathState Carried) (t : EndState) :
   -- the SYN of the end that opens comes to the one that listens
   pub asks : t.state ≡ Listen → x.acknowledged ≡ None → ComesAs p Opens
   -- the SYN/ACK comes to the end that sent the SYN
-  pub answers : (acknowledged : ℕ) → t.state ≡ SynSent → is_at_limit t ≡ false → x.acknowledged ≡ Some acknowledged → 0 < acknowledged → acknowledged ≤ t.send.nxt → ComesAs p (Accepts acknowledged)
+  pub answers : (acknowledged : ℕ) → t.state ≡ SynSent → is_at_limit t ≡ false → x.acknowledged ≡ Some acknowledged → 0 < acknowledged
+      → acknowledged ≤ t.send.nxt → ComesAs p (Accepts acknowledged)
   -- either of them comes once more, and is answered by the SYN/ACK, or by an acknowledgement
   pub again : 2 ≤ stage t.state → is_dead t.state ≡ false → is_at_limit t ≡ false → 0 < t.recv.edge → ComesAs p RepeatedSyn ⊎ ComesAs p Outside
   -- the SYN/ACK is answered by an acknowledgement
-  pub once_more : (acknowledged : ℕ) → x.acknowledged ≡ Some acknowledged → 2 ≤ stage t.state → is_dead t.state ≡ false → is_at_limit t ≡ false → 0 < t.recv.edge → ComesAs p Outside
+  pub once_more : (acknowledged : ℕ) → x.acknowledged ≡ Some acknowledged → 2 ≤ stage t.state → is_dead t.state ≡ false → is_at_limit t ≡ false
+      → 0 < t.recv.edge → ComesAs p Outside
 
 -- on the path that opens the connection
 abbrev pub EachSynCounts : Type 0

@@ -44,7 +44,8 @@ pub record SignsAreSaid : Type 0 where
   pub dss : (x : PlainSegment) (e : PathEnd) (joined : Bool) (s : Side) (next : Option ℕ) (mapping : Option (PathMapping ℕ)) (others : List PlainOption)
       → x.options ≡ Dss next mapping ∷ others → e.modes.identity ≡ false → item_at 0 (items_of joined s (options_heard e (meant x))) ≡ Some says.Dss
   pub keys : (x : PlainSegment) (e : PathEnd) (sender receiver : ℕ) (flag_a flag_c : Bool) (others : List PlainOption)
-      → x.options ≡ Capable flag_a flag_c (Both sender receiver) ∷ others → e.modes.identity ≡ false → item_at 0 (items_of false B (options_heard e (meant x))) ≡ Some (says.Keys receiver sender)
+      → x.options ≡ Capable flag_a flag_c (Both sender receiver) ∷ others → e.modes.identity ≡ false
+      → item_at 0 (items_of false B (options_heard e (meant x))) ≡ Some (says.Keys receiver sender)
   pub first_piece : (x : PlainSegment) (e : PathEnd) (sender receiver len : ℕ) (checksum : Option ℕ) (flag_a flag_c : Bool) (others : List PlainOption)
       → x.options ≡ Capable flag_a flag_c (WithData sender receiver len checksum) ∷ others → e.modes.identity ≡ false
       → item_at 0 (items_of false B (options_heard e (meant x))) ≡ Some (says.Keys receiver sender)

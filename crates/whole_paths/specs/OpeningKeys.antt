@@ -15,7 +15,8 @@ use Rattle.path_core.specs.State.{PathState, end_at}
 pub data ShowsKeys (key : ℕ) (e : PathEnd) (x : PlainSegment) : Type 0 where
   -- both keys, A's first: on an acknowledgement, or on the first piece
   bare : (flag_a flag_c : Bool) (others : List PlainOption) → x.options ≡ Capable flag_a flag_c (Both e.modes.own_key key) ∷ others → ShowsKeys key e x
-  with_data : (flag_a flag_c : Bool) (len : ℕ) (checksum : Option ℕ) (others : List PlainOption) → x.options ≡ Capable flag_a flag_c (WithData e.modes.own_key key len checksum) ∷ others
+  with_data : (flag_a flag_c : Bool) (len : ℕ) (checksum : Option ℕ) (others : List PlainOption)
+      → x.options ≡ Capable flag_a flag_c (WithData e.modes.own_key key len checksum) ∷ others
       → ShowsKeys key e x
   -- a DSS: on a piece behind the first one, a FIN or a notice
   dss : (next : ℕ) (mapping : Option (PathMapping ℕ)) (others : List PlainOption) → x.options ≡ Dss (Some next) mapping ∷ others → ShowsKeys key e x
@@ -28,4 +29,5 @@ pub data ShowsKeys (key : ℕ) (e : PathEnd) (x : PlainSegment) : Type 0 where
 -- plain TCP
 abbrev pub EachSegmentShowsKeys : Type 0 → Type 0
 EachSegmentShowsKeys C = (p : PathState C) → IfSome (first_sends p.agenda p) (λ t. t.from ≡ A → (key : ℕ) → (end_at t.from p).modes.peer_key ≡ Some key
-    → (end_at t.from p).modes.clear ≡ false → (end_at t.from p).modes.identity ≡ false → (end_at t.from p).modes.owes_third ≡ false → ShowsKeys key (end_at t.from p) (segment_sent p t))
+    → (end_at t.from p).modes.clear ≡ false → (end_at t.from p).modes.identity ≡ false → (end_at t.from p).modes.owes_third ≡ false
+    → ShowsKeys key (end_at t.from p) (segment_sent p t))

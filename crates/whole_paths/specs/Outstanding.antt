@@ -40,6 +40,7 @@ module _ (start : Start) (way : ℕ) (turns : List Turn) where
 
 -- after a round of a mild connection over one path, or something was counted in it
 abbrev pub WhatIsOutstandingIsAwaited : Type 0
-WhatIsOutstandingIsAwaited = (start : Start) (plan : PathPlan) (way : ℕ) (since : List Turn) (order : List ℕ) → start.paths ≡ plan ∷ [] → IsMildStart start → BeginsRound values start (reached values start since)
+WhatIsOutstandingIsAwaited = (start : Start) (plan : PathPlan) (way : ℕ) (since : List Turn) (order : List ℕ) → start.paths ≡ plan ∷ []
+    → IsMildStart start → BeginsRound values start (reached values start since)
     → all_over (reached values start (since ++ steps_of order)).crew ≡ true → (h : HasOutstanding start way (since ++ steps_of order))
     → (counted values start since < counted values start (since ++ steps_of order)) ⊎ WaitsForOne start way (since ++ steps_of order) h

@@ -76,7 +76,8 @@ module _ {C : Type 0} where
     resets : IsToRefuse s p.agenda → AnswerGoesOn k s position by p q
     -- the end is dead, or the line came next by which the path died
     gone : is_dead (end_at s q).tcp.state ≡ true → AnswerGoesOn k s position by p q
-    dies : (line : LineLeft) → next_event p ≡ Some (happenings.Takes line) → line.action ≡ actions.Die → is_dead q.a.tcp.state ≡ true → AnswerGoesOn k s position by p q
+    dies : (line : LineLeft) → next_event p ≡ Some (happenings.Takes line) → line.action ≡ actions.Die → is_dead q.a.tcp.state ≡ true
+        → AnswerGoesOn k s position by p q
 
   -- of an answer under way, that this holds of its segment
   abbrev pub IsAnsweredSo : {k : Codec C} {s : Side} {position by : ℕ} {p : PathState C} → (PlainSegment → Type 0) → IsAnswered k s position by p → Type 0
@@ -91,7 +92,8 @@ module _ {C : Type 0} where
 
   -- as the path becomes this actor, with fewer than 2^64 - 1 segments sent from the side
   abbrev pub AnswersGoOn : Codec C → Actor C → Actor C → Type 0
-  AnswersGoOn k (Path p) (Path q) = (s : Side) (position by : ℕ) → segments_sent s p.link < 2 ^ 64 - 1 → IsAnswered k s position by p → AnswerGoesOn k s position by p q
+  AnswersGoOn k (Path p) (Path q) = (s : Side) (position by : ℕ) → segments_sent s p.link < 2 ^ 64 - 1 → IsAnswered k s position by p
+      → AnswerGoesOn k s position by p q
   AnswersGoOn k (App a) (App b) = Unit {0}
   AnswersGoOn k _ _ = ⊥
 

@@ -37,16 +37,19 @@ use Rattle.whole_paths.specs.WindowsHeard.{IsOpenTo}
 -- How far it is, if by this tick an answer is to come, at the end's RCV.NXT or behind it, of which this is said; and what the end hears.
 pub data IsAskedFor (Says : ℕ → ℕ → PlainSegment → Type 0) (Hears : PathState Carried → Type 0) (s : Side) (by : ℕ) (p : PathState Carried) : Type 0 where
   -- the end asks, so early that the answer comes in time
-  asks : (arrival : ℕ) → arrival + longest_way (peer s) p.link ≤ by → (h : IsAskedAgain values s arrival p) → IsAskedSo (IsAskedPlainly (end_at s p).tcp.send.una) h → IsAskedFor Says Hears s by p
+  asks : (arrival : ℕ) → arrival + longest_way (peer s) p.link ≤ by → (h : IsAskedAgain values s arrival p)
+      → IsAskedSo (IsAskedPlainly (end_at s p).tcp.send.una) h → IsAskedFor Says Hears s by p
   -- the end has both SYNs, and the peer answers so
-  answered : 2 ≤ stage (end_at s p).tcp.state → (h : IsAnswered values (peer s) 1 by p) → IsAnsweredSo (Says (end_at s p).tcp.recv.edge (end_at (peer s) p).tcp.send.nxt) h → IsAskedFor Says Hears s by p
+  answered : 2 ≤ stage (end_at s p).tcp.state → (h : IsAnswered values (peer s) 1 by p)
+      → IsAnsweredSo (Says (end_at s p).tcp.recv.edge (end_at (peer s) p).tcp.send.nxt) h → IsAskedFor Says Hears s by p
   heard : Hears p → IsAskedFor Says Hears s by p
 
 -- what becomes of it, as the path becomes another one, and its steps are these
 pub data AskTurns (On : Type 0) (s : Side) (by : ℕ) (steps : List Note) (p q : PathState Carried) : Type 0 where
   on : On → AskTurns On s by steps p q
   -- the end, which had none, has a record again, which comes on its part (`WhatWaitsComes`), or nothing of it is outstanding any longer
-  record_waits : (r : Record) (arrival : ℕ) → arrival ≤ by → (end_at s p).tcp.send.records ≡ [] → IsFirst r (end_at s q) → IsOnItsWay values s r arrival q → AskTurns On s by steps p q
+  record_waits : (r : Record) (arrival : ℕ) → arrival ≤ by → (end_at s p).tcp.send.records ≡ [] → IsFirst r (end_at s q)
+      → IsOnItsWay values s r arrival q → AskTurns On s by steps p q
   done : (IsOutstanding (end_at s q) → ⊥) → AskTurns On s by steps p q
   held_up : IsHeldUp s p q → AskTurns On s by steps p q
   awry : IsAwry s steps p q → AskTurns On s by steps p q
@@ -71,7 +74,8 @@ ProbesGoOn six after steps p q =
 
 -- where a turn is over, of each end that opens, is open or closes, without a record: within a minute and the longest time there and back
 abbrev pub ProbesBegin : SixBooks → PathState Carried → Type 0
-ProbesBegin six p = p.agenda ≡ [] → (s : Side) → is_closed_to_segments (end_at s p).tcp.state ≡ false → (end_at s p).tcp.send.records ≡ [] → IsOutstanding (end_at s p)
+ProbesBegin six p = p.agenda ≡ [] → (s : Side) → is_closed_to_segments (end_at s p).tcp.state ≡ false → (end_at s p).tcp.send.records ≡ []
+    → IsOutstanding (end_at s p)
     → (at : ℕ) → IsProbed six s at (p.clock + 60000 + longest_way s p.link + longest_way (peer s) p.link) p
 
 -- once the clock is past its tick the side may send so far, or hears so in its turn
@@ -80,7 +84,8 @@ ProbesEnd six p = (s : Side) (at by : ℕ) → IsProbed six s at by p → by < p
 
 -- where a turn is over in a round that ends past its tick, and the peer isn't dead, the side may send so far
 abbrev pub ProbesAreDue : SixBooks → PathState Carried → Type 0
-ProbesAreDue six p = p.agenda ≡ [] → (s : Side) → is_dead (end_at (peer s) p).tcp.state ≡ false → (at by : ℕ) → IsProbed six s at by p → by < p.until → at ≤ (send_of s six).edge
+ProbesAreDue six p = p.agenda ≡ [] → (s : Side) → is_dead (end_at (peer s) p).tcp.state ≡ false → (at by : ℕ) → IsProbed six s at by p → by < p.until
+    → at ≤ (send_of s six).edge
 
 -- on each path
 pub record ProbesAreInTime (w : WorldState Carried) : Type 0 where

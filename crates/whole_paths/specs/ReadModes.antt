@@ -17,5 +17,6 @@ ReadsMappings p = (s : Side) → reads_mappings (end_at s p).modes.mode ≡ true
 
 -- on each path, at every moment
 abbrev pub EndsReadMappings : Type 0
-EndsReadMappings = (start : Start) (turns : List Turn) → IsMildStart start → (actor : ℕ) (c : ActorCrew Carried) → slice_get (reached values start turns).crew actor ≡ Some c
+EndsReadMappings = (start : Start) (turns : List Turn) → IsMildStart start → (actor : ℕ) (c : ActorCrew Carried)
+    → slice_get (reached values start turns).crew actor ≡ Some c
     → HoldsOfKind (λ app. Unit {0}) ReadsMappings c.member

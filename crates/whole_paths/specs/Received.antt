@@ -53,4 +53,5 @@ module _ {C : Type 0} where
 
   -- in a mild connection of one path, always
   abbrev pub HoldsOfOnlyPaths : Codec C → (WorldState C → Type 0) → Type 0
-  HoldsOfOnlyPaths k P = (start : Start) (turns : List Turn) (plan : PathPlan) → start.paths ≡ plan ∷ [] → IsMildStart start → P (world_run k turns (opened_world start))
+  HoldsOfOnlyPaths k P = (start : Start) (turns : List Turn) (plan : PathPlan) → start.paths ≡ plan ∷ [] → IsMildStart start
+      → P (world_run k turns (opened_world start))

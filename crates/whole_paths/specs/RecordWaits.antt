@@ -72,7 +72,8 @@ module _ (start : Start) (most : ℕ) where
   -- round begins, or something is counted; and no round begins past it, unless something is counted.
   pub record RecordsAreAwaited : Type 0 where
     -- where the peer of such an end filled its window, and sent its FIN behind, the peer's first record is waited for
-    pub room : (way : ℕ) (v u : List Turn) → Opens v u → (h : SentNoFin start way v) → AwaitsARecord start (round_end values start v + (60000 + way)) u ⊎ LeavesRoom h
+    pub room : (way : ℕ) (v u : List Turn) → Opens v u → (h : SentNoFin start way v)
+        → AwaitsARecord start (round_end values start v + (60000 + way)) u ⊎ LeavesRoom h
     pub begins : (way : ℕ) (v u : List Turn) → Opens v u → HasARecord start way v → AwaitsARecord start (round_end values start v + (60000 + way)) u
     pub on : (x : ℕ) (v u : List Turn) → Steps v u → AwaitsARecord start x v → (counted values start v < counted values start u) ⊎ AwaitsARecord start x u
     pub next : (x : ℕ) (v u : List Turn) → Opens v u → AwaitsARecord start x v → (counted values start v < counted values start u) ⊎ AwaitsARecord start x u
@@ -86,4 +87,5 @@ RecordsAreAwaitedAlways = (start : Start) (most : ℕ) → IsMildStart start →
 
 -- where each turn is over nothing is counted as the next round begins
 abbrev pub NoRoundCounts : Type 0
-NoRoundCounts = (start : Start) (turns : List Turn) → all_over (reached values start turns).crew ≡ true → counted values start (turns ++ Turn.Round ∷ []) ≡ counted values start turns
+NoRoundCounts = (start : Start) (turns : List Turn) → all_over (reached values start turns).crew ≡ true
+    → counted values start (turns ++ Turn.Round ∷ []) ≡ counted values start turns

@@ -19,8 +19,10 @@ module _ {C : Type 0} where
   pub record HasWindows (p : PathState C) : Type 0 where
     pub least : (s : Side) → p.profile.mss ≤ (end_at s p).tcp.congestion.reno.window
     pub greatest : (s : Side) → (end_at s p).tcp.congestion.reno.window ≤ 1048576
-    pub unsent : (s : Side) → may_finish (end_at s p).tcp.state ≡ true → (end_at s p).modes.clear ≡ true → (end_at s p).tcp.send.records ≡ [] → may_ask p.profile s (end_at s p) ≡ true
-    pub asks : (s : Side) → may_finish (end_at s p).tcp.state ≡ true → (end_at s p).modes.clear ≡ true → (IsOutstanding (end_at s p) → ⊥) → may_ask p.profile s (end_at s p) ≡ true
+    pub unsent : (s : Side) → may_finish (end_at s p).tcp.state ≡ true → (end_at s p).modes.clear ≡ true → (end_at s p).tcp.send.records ≡ []
+        → may_ask p.profile s (end_at s p) ≡ true
+    pub asks : (s : Side) → may_finish (end_at s p).tcp.state ≡ true → (end_at s p).modes.clear ≡ true → (IsOutstanding (end_at s p) → ⊥)
+        → may_ask p.profile s (end_at s p) ≡ true
 
   -- on each path, at every moment
   abbrev pub WhoIsDoneMayAsk : Codec C → Type 0

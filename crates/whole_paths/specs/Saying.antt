@@ -25,7 +25,8 @@ pub data SaysWhatCame (e : PathEnd) (x : PlainSegment) : Type 0 where
 module _ {C : Type 0} where
   -- as a path becomes another one, or stays: the link takes the segment that it was to send next, which says what came
   pub record HandsOver (k : Codec C) (p q : PathState C) : Type 0 where
-    pub sends : IfSome (first_sends p.agenda p) (λ t. (q ≡ p) ⊎ ((q.link ≡ handed k t.from (segment_sent p t) p) × SaysWhatCame (end_at t.from p) (segment_sent p t)))
+    pub sends : IfSome (first_sends p.agenda p) (λ t. (q ≡ p)
+        ⊎ ((q.link ≡ handed k t.from (segment_sent p t) p) × SaysWhatCame (end_at t.from p) (segment_sent p t)))
 
   -- as the path becomes this actor
   abbrev pub PathsHandOver : Codec C → Actor C → Actor C → Type 0

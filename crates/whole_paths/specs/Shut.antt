@@ -20,7 +20,8 @@ use Rattle.world_laws.specs.Worlds.{WorldState}
 -- stopped there.
 pub data IsSentToTheEdge (s : Side) (steps : List Note) (begun : Sending) (e : PathEnd) (book : Sending) : Type 0 where
   acknowledged : e.sending.shut ≡ false → length begun.written ≤ acked_len book.marks → IsSentToTheEdge s steps begun e book
-  shut : e.sending.shut ≡ true → begun.edge ≤ acked_len book.marks → begun.edge < length book.written → acked_len book.marks ≤ book.edge → IsSentToTheEdge s steps begun e book
+  shut : e.sending.shut ≡ true → begun.edge ≤ acked_len book.marks → begun.edge < length book.written → acked_len book.marks ≤ book.edge
+      → IsSentToTheEdge s steps begun e book
   standby : last_on_standby s false steps ≡ true → IsSentToTheEdge s steps begun e book
   stopped : book.aborted ≡ true → IsSentToTheEdge s steps begun e book
 

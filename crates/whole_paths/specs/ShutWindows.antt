@@ -36,6 +36,7 @@ pub record HasRoomForMore {start : Start} {turns : List Turn} (h : IsShutOut sta
 
 -- So it is as a round is over, or something was counted in the round, in a mild connection over one path with buffers of 32 bytes at least.
 abbrev pub ShutWindowsHaveRoom : Type 0
-ShutWindowsHaveRoom = (start : Start) (plan : PathPlan) (since : List Turn) (order : List ℕ) → start.paths ≡ plan ∷ [] → IsMildStart start → 32 ≤ start.buffer → BeginsRound values start (reached values start since)
+ShutWindowsHaveRoom = (start : Start) (plan : PathPlan) (since : List Turn) (order : List ℕ) → start.paths ≡ plan ∷ [] → IsMildStart start
+    → 32 ≤ start.buffer → BeginsRound values start (reached values start since)
     → let turns = since ++ steps_of order in all_over (reached values start turns).crew ≡ true → (h : IsShutOut start turns)
     → (counted values start since < counted values start turns) ⊎ HasRoomForMore h

@@ -6,4 +6,5 @@ use Rattle.whole_paths.specs.Finish.{AnEndDied, IsWhole}
 
 -- by whatever turns
 abbrev pub WholePathsStayWhole : {C : Type 0} → Codec C → Type 0
-WholePathsStayWhole {C} k = (w : WorldState C) (number : ℕ) (more : List Turn) → IsWhole number w → IsWhole number (world_run k more w) ⊎ AnEndDied number (world_run k more w)
+WholePathsStayWhole {C} k = (w : WorldState C) (number : ℕ) (more : List Turn) → IsWhole number w → IsWhole number (world_run k more w)
+    ⊎ AnEndDied number (world_run k more w)

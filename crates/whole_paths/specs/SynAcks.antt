@@ -27,7 +27,8 @@ use Rattle.whole_paths.specs.Syns.{IsSynSent}
 -- by this tick an answer is to come
 pub data IsSynAnswered (x : ℕ) (p : PathState Carried) : Type 0 where
   -- a copy of B's SYN comes so early that the answer comes in time
-  comes : (syn : Record) → syn.kind ≡ Syn → syn.pos ≡ 0 → syn.piece ≡ [] → (arrival : ℕ) → arrival + longest_way A p.link ≤ x → (way : IsOnItsWay values B syn arrival p) → IsSentSo (IsSynSent B) way
+  comes : (syn : Record) → syn.kind ≡ Syn → syn.pos ≡ 0 → syn.piece ≡ [] → (arrival : ℕ) → arrival + longest_way A p.link ≤ x
+      → (way : IsOnItsWay values B syn arrival p) → IsSentSo (IsSynSent B) way
       → IsSynAnswered x p
   -- A answers it
   answered : (h : IsAnswered values A 1 x p) → IsAnsweredSo (IsBareWithin p.b.tcp.recv.edge p.a.tcp.send.nxt) h → IsSynAnswered x p
@@ -55,7 +56,8 @@ SynAcksGoOn _ _ = ⊥
 
 -- where a turn is over, within a minute and the longest time there and back
 abbrev pub SynAcksBegin : PathState Carried → Type 0
-SynAcksBegin p = p.agenda ≡ [] → 3 ≤ stage p.a.tcp.state → p.b.tcp.state ≡ SynReceived → p.b.tcp.send.una ≡ 0 → IsToBeAnswered (p.clock + 60000 + longest_way B p.link + longest_way A p.link) p
+SynAcksBegin p = p.agenda ≡ [] → 3 ≤ stage p.a.tcp.state → p.b.tcp.state ≡ SynReceived → p.b.tcp.send.una ≡ 0
+    → IsToBeAnswered (p.clock + 60000 + longest_way B p.link + longest_way A p.link) p
 
 -- the clock isn't past its tick
 abbrev pub SynAcksEnd : PathState Carried → Type 0
@@ -63,8 +65,11 @@ SynAcksEnd p = (x : ℕ) → IsToBeAnswered x p → p.clock ≤ x
 
 -- on path 0, at any moment, and by any turn of a mild connection
 pub record EachSynAckIsAnswered : Type 0 where
-  pub begin : (start : Start) (turns : List Turn) → HasRoom start → NumbersFit start → (c : ActorCrew Carried) → slice_get (reached values start turns).crew 2 ≡ Some c
+  pub begin : (start : Start) (turns : List Turn) → HasRoom start → NumbersFit start → (c : ActorCrew Carried)
+      → slice_get (reached values start turns).crew 2 ≡ Some c
       → HoldsOfKind (λ app. Unit {0}) SynAcksBegin c.member
-  pub end : (start : Start) (turns : List Turn) → (actor : ℕ) (c : ActorCrew Carried) → slice_get (reached values start turns).crew actor ≡ Some c → HoldsOfKind (λ app. Unit {0}) SynAcksEnd c.member
-  pub goes_on : (start : Start) (turns : List Turn) → IsMildStart start → let w = reached values start turns in (turn : Turn) (c : ActorCrew Carried) → slice_get w.crew 2 ≡ Some c
+  pub end : (start : Start) (turns : List Turn) → (actor : ℕ) (c : ActorCrew Carried) → slice_get (reached values start turns).crew actor ≡ Some c
+      → HoldsOfKind (λ app. Unit {0}) SynAcksEnd c.member
+  pub goes_on : (start : Start) (turns : List Turn) → IsMildStart start → let w = reached values start turns in (turn : Turn) (c : ActorCrew Carried)
+      → slice_get w.crew 2 ≡ Some c
       → (d : ActorCrew Carried) × (slice_get (after_turn values turn w).crew 2 ≡ Some d) × SynAcksGoOn c.member d.member

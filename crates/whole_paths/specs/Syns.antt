@@ -67,8 +67,11 @@ SynsEnd p = (s : Side) (x : ℕ) → IsSynAwaited s x p → p.clock ≤ x
 
 -- on path 0, at any moment, and by any turn
 pub record EachSynComes : Type 0 where
-  pub begin : (start : Start) (turns : List Turn) → HasRoom start → NumbersFit start → (c : ActorCrew Carried) → slice_get (reached values start turns).crew 2 ≡ Some c
+  pub begin : (start : Start) (turns : List Turn) → HasRoom start → NumbersFit start → (c : ActorCrew Carried)
+      → slice_get (reached values start turns).crew 2 ≡ Some c
       → HoldsOfKind (λ app. Unit {0}) SynsBegin c.member
-  pub end : (start : Start) (turns : List Turn) → (actor : ℕ) (c : ActorCrew Carried) → slice_get (reached values start turns).crew actor ≡ Some c → HoldsOfKind (λ app. Unit {0}) SynsEnd c.member
-  pub goes_on : (start : Start) (turns : List Turn) → HasRoom start → NumbersFit start → let w = reached values start turns in (turn : Turn) (actor : ℕ) (c : ActorCrew Carried) → slice_get w.crew actor ≡ Some c
+  pub end : (start : Start) (turns : List Turn) → (actor : ℕ) (c : ActorCrew Carried) → slice_get (reached values start turns).crew actor ≡ Some c
+      → HoldsOfKind (λ app. Unit {0}) SynsEnd c.member
+  pub goes_on : (start : Start) (turns : List Turn) → HasRoom start → NumbersFit start
+      → let w = reached values start turns in (turn : Turn) (actor : ℕ) (c : ActorCrew Carried) → slice_get w.crew actor ≡ Some c
       → (d : ActorCrew Carried) × (slice_get (after_turn values turn w).crew actor ≡ Some d) × SynsGoOn c.member d.member

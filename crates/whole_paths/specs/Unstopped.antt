@@ -17,4 +17,5 @@ pub record NothingIsStopped {C : Type 0} (w : WorldState C) : Type 0 where
 
 -- nothing is stopped at any moment of a mild connection over one path
 abbrev pub MildPathsAreNeverStopped : Type 0
-MildPathsAreNeverStopped = (start : Start) (plan : PathPlan) (turns : List Turn) → start.paths ≡ plan ∷ [] → IsMildStart start → NothingIsStopped (world_run values turns (opened_world start))
+MildPathsAreNeverStopped = (start : Start) (plan : PathPlan) (turns : List Turn) → start.paths ≡ plan ∷ [] → IsMildStart start
+    → NothingIsStopped (world_run values turns (opened_world start))

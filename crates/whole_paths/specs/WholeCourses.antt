@@ -32,11 +32,13 @@ module _ (start : Start) (most way within : ℕ) where
   -- As a round is over, and the next one begins, a wait begins at such an end, for so long, or something was counted in that round. The wait goes on
   -- by each step, and as the next round begins, or something is counted; and no round begins past it, unless something is counted.
   pub record ShutWindowsOpen (Waits : ℕ → ℕ → List Turn → Type 0) : Type 0 where
-    pub begins : (since : List Turn) (order : List ℕ) (v u : List Turn) → v ≡ since ++ steps_of order → BeginsRound values start (reached values start since) → Opens start most v u
+    pub begins : (since : List Turn) (order : List ℕ) (v u : List Turn) → v ≡ since ++ steps_of order
+        → BeginsRound values start (reached values start since) → Opens start most v u
         → HasAShutEnd start way v → (counted values start since < counted values start u) ⊎ Waits (counted values start v) (round_end values start v + within) u
     pub on : (n x : ℕ) (v u : List Turn) → Steps start most v u → n ≤ counted values start v → Waits n x v → (n < counted values start u) ⊎ Waits n x u
     pub next : (n x : ℕ) (v u : List Turn) → Opens start most v u → n ≤ counted values start v → Waits n x v → (n < counted values start u) ⊎ Waits n x u
-    pub due : (n x : ℕ) (v u : List Turn) → Opens start most v u → n ≤ counted values start v → Waits n x v → x < round_end values start v → n < counted values start u
+    pub due : (n x : ℕ) (v u : List Turn) → Opens start most v u → n ≤ counted values start v → Waits n x v → x < round_end values start v
+        → n < counted values start u
 
 -- What is waited for by this tick, since so much was counted: that the connection goes on in one of the next rounds, and then a wait of so long, or a
 -- record, an answer, or a window.

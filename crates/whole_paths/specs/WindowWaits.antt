@@ -52,7 +52,8 @@ module _ (start : Start) (most : ℕ) where
   pub record WindowsAreAwaited : Type 0 where
     pub begins : (way : ℕ) (v u : List Turn) → Opens start most v u → HasAShutWindow start way v → AwaitsAWindow start (round_end values start v + (60000 + way)) u
     pub on : (x : ℕ) (v u : List Turn) → Steps start most v u → AwaitsAWindow start x v → (counted values start v < counted values start u) ⊎ AwaitsAWindow start x u
-    pub next : (x : ℕ) (v u : List Turn) → Opens start most v u → AwaitsAWindow start x v → (counted values start v < counted values start u) ⊎ AwaitsAWindow start x u
+    pub next : (x : ℕ) (v u : List Turn) → Opens start most v u → AwaitsAWindow start x v → (counted values start v < counted values start u)
+        ⊎ AwaitsAWindow start x u
     pub due : (x : ℕ) (v u : List Turn) → Opens start most v u → AwaitsAWindow start x v → x < round_end values start v → ⊥
 
 -- in each mild connection over one path
