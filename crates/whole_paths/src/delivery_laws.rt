@@ -10,7 +10,6 @@ ghost use Rattle.whole_paths.specs.Deliveries.{WhoIsToldHasAll};
 ghost use Rattle.whole_paths.specs.Delivery.{WhatIsFinishedIsThere, WhatIsThereIsDelivered, WhatIsThereStays};
 ghost use Rattle.whole_paths.specs.EndedStreams.{WhatEndedIsAcknowledged};
 ghost use Rattle.whole_paths.specs.Finish.{HarmsUseLines, BriefPathsDeliver};
-ghost use Rattle.whole_paths.specs.Finish.{HarmsUseLines, BriefPathsDeliver};
 ghost use Rattle.whole_paths.specs.GoingOn.{RoundsBeginToGoOn, RoundsGoOn, StepsLetItGoOn};
 ghost use Rattle.whole_paths.specs.Halted.{WhoHaltsGoesOnHalting};
 ghost use Rattle.whole_paths.specs.Lanes.Laws.{LossyLanesEnd, LossyLanesFinish};
