@@ -43,6 +43,7 @@ pub mod InRounds
 pub mod InTime
 pub mod Keeping
 pub mod Keyed
+pub mod KeysStay
 pub mod Knowing
 pub mod KnownEnds
 pub mod KnownModes

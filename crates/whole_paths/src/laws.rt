@@ -672,7 +672,7 @@ pub fn each_syn_comes()
 /// the SYN: B hears them in its turn, and may send a DSS by then (RFC 8684, section 3.1).
 ///
 /// Where a turn is over it comes within a minute and the longest time on its way (`begin`, `end`). By each turn of a mild connection that stays so,
-/// or something counts, or the exchange is held up, or a SYN/ACK is treated (`goes_on`).
+/// or something counts, or the exchange is held up (`goes_on`).
 pub fn each_first_piece_comes()
     ensures { EachFirstPieceComes }
 {}
