@@ -294,7 +294,7 @@ module _ (start : Start) (most : ℕ) (mild : IsMildStart start) (Holds : PathSt
     goes_over = ap (λ (b : Bool). if b then record ended { crew = map (begins (greatest 0 ended.crew)) ended.crew } else ended) step.over
 
     -- the clock of path 0 is at the end of the round before
-    clock_is : (p : PathState Carried) → IsPathAt 0 (reached values start u) p → p.clock ≡ round_end values start v
+    pub clock_is : (p : PathState Carried) → IsPathAt 0 (reached values start u) p → p.clock ≡ round_end values start v
     clock_is p here =
         let found = in_map (begins (greatest 0 ended.crew)) ended.crew 2 here.crew (subst (λ (y : WorldState Carried). slice_get y.crew 2 ≡ Some here.crew) (there_is ∙ goes_over) here.there) in
         by found.0.member found.0 found.1 refl (ap (λ (c : ActorCrew Carried). c.member) found.2 ∙ here.is)

@@ -21,6 +21,7 @@ ghost use Rattle.whole_paths.specs.OpenAsks.{OpenAsksAreInTime, OpenAsksGoOn, Op
 ghost use Rattle.whole_paths.specs.OnlyPaths.{long_patience};
 ghost use Rattle.whole_paths.specs.OverOctets.{FewLossesFinishAsOverValues, OctetsAreAsFarAsValues, OnePathEndsAsOverValues, BriefPathsDeliverAsOverValues, WholePathsDeliverAsOverValues};
 ghost use Rattle.whole_paths.specs.OpenCourses.{WhatHoldsUpCounts};
+ghost use Rattle.whole_paths.specs.OpeningWaits.{OpeningsAreAwaited};
 ghost use Rattle.whole_paths.specs.Outstanding.{WhatIsOutstandingIsAwaited};
 ghost use Rattle.whole_paths.specs.Overruns.{NoEndOverruns};
 ghost use Rattle.whole_paths.specs.RecordWaits.{NoRoundCounts, RecordsAreAwaitedAlways};
@@ -148,6 +149,15 @@ pub fn records_are_awaited_always()
 /// as in `records_are_awaited_always`, where the end's own window has room for all that its peer sent.
 pub fn senders_are_awaited()
     ensures { SendersAreAwaited }
+{}
+
+/// A law: while path 0 of a mild connection opens, and no end of it is dead, a SYN is awaited, or the answer to B's SYN/ACK that comes again,
+/// until something is counted (RFC 9293, section 3.5).
+///
+/// As a round begins at whose beginning a SYN isn't acknowledged the wait begins (`each_syn_comes`, `each_syn_ack_is_answered`), for a minute and
+/// the longest time there and back; it is never late. Where A's end has finished all of its stream is with the peer.
+pub fn openings_are_awaited()
+    ensures { OpeningsAreAwaited }
 {}
 
 /// A law: what an open end of the only path of a mild connection asks for, the Data ACK of its DATA_FIN or of a piece (`each_ask_is_answered`),

@@ -28,7 +28,7 @@ pub use delivery_laws::{
     mild_scripts_keep_mapping, mild_scripts_never_break, mild_scripts_tell_keys, no_end_overruns,
     no_round_counts, octets_finish_as_values_do, open_asks_are_answered, open_asks_go_on,
     open_ends_hardly_go_awry, open_ends_hardly_stray, records_are_awaited_always,
-    senders_are_awaited, shut_windows_have_room, shut_windows_open_in_time, ways_stay,
+    openings_are_awaited, senders_are_awaited, shut_windows_have_room, shut_windows_open_in_time, ways_stay,
     what_ended_is_acknowledged, what_holds_up_counts, what_is_awaited_is_there,
     what_is_finished_is_there, what_is_left_is_data, what_is_outstanding_is_awaited,
     what_is_there_is_delivered, who_halts_goes_on_halting, who_is_told_has_all,
