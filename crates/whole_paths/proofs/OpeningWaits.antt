@@ -2,7 +2,7 @@
 use Rattle.std.proofs.Common.{◌≡◌, sym, subst, ap, ◌∙◌, ◌⊎◌, ⊎_elim, inl, inr, ℕ, ◌+◌, ◌<◌, ◌≤◌, arith, true, List, [], ◌∷◌, ◌++◌}
 use Rattle.sides.specs.declared.side.Side.{Side}
 use Rattle.sides.specs.declared.side.Side.TheVariants.{A, B}
-use Rattle.path_core.specs.State.{PathState}
+use Rattle.path_core.specs.State.{PathState, end_at}
 use Rattle.path_core.specs.Values.{Carried, values}
 use Rattle.world_laws.specs.Actors.{Actor, is_over}
 use Rattle.world_laws.specs.Members.{HoldsOfKind}
@@ -27,7 +27,11 @@ use Rattle.whole_paths.specs.OpeningWaits.{IsOpening as opens}
 use Rattle.whole_paths.specs.SynAcks.{SynAckGoesOn, SynAcksBegin, SynAcksEnd, SynAcksGoOn}
 use Rattle.whole_paths.specs.SynAcks.{SynAckGoesOn as answered}
 use Rattle.whole_paths.specs.Syns.{SynGoesOn, SynsBegin, SynsEnd, SynsGoOn}
+use Rattle.whole_paths.specs.Syns.{IsToOpen}
+use Rattle.whole_paths.specs.Syns.{IsToOpen as to_open}
 use Rattle.whole_paths.specs.Syns.{SynGoesOn as heard}
+use Rattle.whole_paths.specs.AsFar.{stage}
+use Rattle.whole_paths.proofs.Reached.{EndsAreReached, each_is_reached}
 use Rattle.whole_paths.specs.Timers.{TimersAreNear}
 use Rattle.whole_paths.proofs.Counted.{what_holds_up_counts}
 use Rattle.whole_paths.proofs.RecordWaits.{clock_is, counts_so, here, path_is, with_both}
@@ -136,24 +140,32 @@ module _ (start : Start) (most : ℕ) (mild : IsMildStart start) where
       syn_acks : SynAcksBegin h.path
       syn_acks = subst (HoldsOfKind (λ app. Unit {0}) SynAcksBegin) h.here.is (each_syn_ack_is_answered.begin start v mild.plain.size mild.fit h.here.crew h.here.there)
 
+      -- before the handshake is done nothing is acknowledged
+      unacknowledged : (s : Side) → stage (end_at s h.path).tcp.state ≤ 2 → (end_at s h.path).tcp.send.una ≡ 0
+      unacknowledged s low = ((subst (HoldsOfKind (λ app. Unit {0}) EndsAreReached) h.here.is ((each_is_reached values start v).each 2 h.here.crew h.here.there)) s).opening low
+
+      low_of : (s : Side) → IsToOpen s h.path → stage (end_at s h.path).tcp.state ≤ 2
+      low_of s (to_open.asks own sent listens) = subst (λ t. stage (end_at t h.path).tcp.state ≤ 2) (sym own) (subst (λ state. stage state ≤ 2) (sym sent) (omega arith))
+      low_of s (to_open.answers own sent half) = subst (λ t. stage (end_at t h.path).tcp.state ≤ 2) (sym own) (subst (λ state. stage state ≤ 2) (sym half) (omega arith))
+
       way_of : (s : Side) → longest_way s h.path.link ≤ way
       way_of A = let low = h.near in omega (arith, low)
       way_of B = let low = h.near in omega (arith, low)
 
       waiting : IsOpening h.path → AwaitsOpening start (round_end values start v + (60000 + way)) v
-      waiting (opens.syn s at una) = record {
+      waiting (opens.syn s at) = record {
         path = h.path;
         here = h.here;
         by = h.path.clock + 60000 + longest_way s h.path.link;
         soon = let low = way_of s in let clock = near.clock in omega (arith, low, clock, until);
-        waits = syn s (syns silent s at una);
+        waits = syn s (syns silent s at (unacknowledged s (low_of s at)));
       }
-      waiting (opens.answer past half una) = record {
+      waiting (opens.answer past half) = record {
         path = h.path;
         here = h.here;
         by = h.path.clock + 60000 + longest_way B h.path.link + longest_way A h.path.link;
         soon = let low = h.near in let clock = near.clock in omega (arith, low, clock, until);
-        waits = answer (syn_acks silent past half una);
+        waits = answer (syn_acks silent past half (unacknowledged B (subst (λ state. stage state ≤ 2) (sym half) (omega arith))));
       }
 
       wait_begins : AHasFinished start v ⊎ AwaitsOpening start (round_end values start v + (60000 + way)) u

@@ -38,10 +38,10 @@ pub record AwaitsOpening (start : Start) (x : ℕ) (turns : List Turn) : Type 0 
   pub soon : by ≤ x
   pub waits : IsOpeningAwaited by path
 
--- a SYN isn't acknowledged: an end opens, or B is half-open and A past the handshake
+-- an end opens, or B is half-open and A past the handshake
 pub data IsOpening (p : PathState Carried) : Type 0 where
-  syn : (s : Side) → IsToOpen s p → (end_at s p).tcp.send.una ≡ 0 → IsOpening p
-  answer : 3 ≤ stage p.a.tcp.state → p.b.tcp.state ≡ SynReceived → p.b.tcp.send.una ≡ 0 → IsOpening p
+  syn : (s : Side) → IsToOpen s p → IsOpening p
+  answer : 3 ≤ stage p.a.tcp.state → p.b.tcp.state ≡ SynReceived → IsOpening p
 
 -- over such a path a segment goes for so long at most, there and back
 pub record OpensStill (start : Start) (way : ℕ) (turns : List Turn) : Type 0 where

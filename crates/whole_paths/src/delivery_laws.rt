@@ -154,7 +154,7 @@ pub fn senders_are_awaited()
 /// A law: while path 0 of a mild connection opens, and no end of it is dead, a SYN is awaited, or the answer to B's SYN/ACK that comes again,
 /// until something is counted (RFC 9293, section 3.5).
 ///
-/// As a round begins at whose beginning a SYN isn't acknowledged the wait begins (`each_syn_comes`, `each_syn_ack_is_answered`), for a minute and
+/// As a round is over with an end that opens, or B half-open and A past the handshake, the wait begins (`each_syn_comes`, `each_syn_ack_is_answered`), for a minute and
 /// the longest time there and back; it is never late. Where A's end has finished all of its stream is with the peer.
 pub fn openings_are_awaited()
     ensures { OpeningsAreAwaited }
