@@ -86,6 +86,7 @@ pub mod Saying
 pub mod Sent
 pub mod SentByTurns
 pub mod Settling
+pub mod OpeningStates
 pub mod OpeningWaits
 pub mod SenderWaits
 pub mod ShutWaits

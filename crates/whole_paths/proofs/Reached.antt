@@ -202,7 +202,7 @@ arrival_window (means.Taken pos acknowledged) hint now c s =
     ap (λ (v : Receiving). v.window) (heard_recv acknowledged hint now c (after_established (after_hearing (after_payload pos hint c s)))) ∙ payload_window pos hint c s
 arrival_window _ hint now c s = refl
 
-stage_up : (now : ℕ) (s t : EndState) → SubflowStep now s t → stage s.state ≤ stage t.state
+pub stage_up : (now : ℕ) (s t : EndState) → SubflowStep now s t → stage s.state ≤ stage t.state
 stage_up now s t step = (steps_up now s t (more s t none step)).state
 
 step_so : (now : ℕ) (s t : EndState) → SubflowStep now s t → IsStep s t

@@ -33,6 +33,7 @@ ghost use Rattle.whole_paths.specs.Ends.{EndsAreSent};
 ghost use Rattle.whole_paths.specs.Exchanges.{EachRecordIsAcknowledged};
 ghost use Rattle.whole_paths.specs.Expiries.{WhatRunsOutGoesAgain};
 ghost use Rattle.whole_paths.specs.FirstPieces.{EachFirstPieceComes};
+ghost use Rattle.whole_paths.specs.OpeningStates.{EndsGoByTheHandshake};
 ghost use Rattle.whole_paths.specs.Flights.{WhatWaitsComes};
 ghost use Rattle.whole_paths.specs.Harms.{EachUsesALineOrComes, PlainDirectionsHandOnAtOnce};
 ghost use Rattle.whole_paths.specs.Hearing.{EachAcknowledgementCounts};
@@ -657,6 +658,13 @@ pub fn mappings_are_whole()
 pub fn copies_arrive_as_sent()
     ensures octets { Always octets (λ start w. CopiesArriveAsSent w) }
     ensures values { Always values (λ start w. CopiesArriveAsSent w) }
+{}
+
+/// A law: until its handshake is done A's end of a path waits for its tick, or sent its SYN, and B's listens, or is half-open, always (RFC
+/// 9293, section 3.3.2).
+pub fn ends_go_by_the_handshake()
+    ensures octets { EndsGoByTheHandshake octets }
+    ensures values { EndsGoByTheHandshake values }
 {}
 
 /// A law: the SYN of A on path 0 comes to B while that listens, and the SYN/ACK of B to A while A waits for it, whatever is lost: an end goes
