@@ -1,5 +1,5 @@
 -- The waits for SYNs and for the answer to the SYN/ACK go on, turn by turn, or what holds them up is counted.
-use Rattle.std.proofs.Common.{◌≡◌, sym, subst, ap, ◌∙◌, ◌⊎◌, ⊎_elim, inl, inr, ℕ, ◌+◌, ◌<◌, ◌≤◌, arith, true, List, [], ◌∷◌, ◌++◌}
+use Rattle.std.proofs.Common.{◌≡◌, refl, sym, subst, ap, ◌∙◌, ◌⊎◌, ⊎_elim, inl, inr, ℕ, ◌+◌, ◌<◌, ◌≤◌, arith, true, List, [], ◌∷◌, ◌++◌}
 use Rattle.sides.specs.declared.side.Side.{Side}
 use Rattle.sides.specs.declared.side.Side.TheVariants.{A, B}
 use Rattle.path_core.specs.State.{PathState, end_at}
@@ -23,6 +23,13 @@ use Rattle.whole_paths.specs.News.{Counts as counts}
 use Rattle.whole_paths.specs.OpenCourses.{HoldUpsCount, IsNow}
 use Rattle.whole_paths.specs.OpeningWaits.{AHasFinished, AliveOpens, AliveSteps, AwaitsOpening, IsAlive, IsAliveAfter, IsOpening, IsOpeningAwaited, OpeningGoesOn, OpeningsAreAwaited, OpensStill}
 use Rattle.whole_paths.specs.OpeningWaits.IsOpeningAwaited.{syn, answer}
+use Rattle.whole_paths.specs.OpeningWaits.{EndsOpenOrArePast, IsOpeningOrPast}
+use Rattle.whole_paths.specs.OpeningWaits.{IsOpeningOrPast as either_way}
+use Rattle.world_laws.specs.declared.member.Member.TheVariants.{App, Path}
+use Rattle.whole_paths.specs.OpeningStates.{GoByTheHandshake, IsOfA, IsOfB}
+use Rattle.whole_paths.specs.OpeningStates.{IsOfA as of_a}
+use Rattle.whole_paths.specs.OpeningStates.{IsOfB as of_b}
+use Rattle.whole_paths.proofs.OpeningStates.{ends_go_by_the_handshake}
 use Rattle.whole_paths.specs.OpeningWaits.{IsOpening as opens}
 use Rattle.whole_paths.specs.SynAcks.{SynAckGoesOn, SynAcksBegin, SynAcksEnd, SynAcksGoOn}
 use Rattle.whole_paths.specs.SynAcks.{SynAckGoesOn as answered}
@@ -181,3 +188,21 @@ openings_are_awaited start most mild = record {
   next = λ x v u step h. opens_on start most mild x v u step h;
   due = λ x v u step h late. none_late start most mild v u step x h late;
 }
+
+-- ---- which of them it is
+
+which : (p : PathState Carried) → IsOfA p.a.tcp.state → IsOfB p.b.tcp.state → IsOpeningOrPast p
+which p (of_a.waiting is) b = either_way.waiting is
+which p (of_a.sent is) (of_b.listening at) = either_way.opening (opens.syn A (to_open.asks refl is at))
+which p (of_a.sent is) (of_b.half_open at) = either_way.opening (opens.syn B (to_open.answers refl is at))
+which p (of_a.sent is) (of_b.past high) = either_way.torn B high (subst (λ state. stage state ≤ 1) (sym is) (omega arith))
+which p (of_a.past high) (of_b.listening at) = either_way.torn A high (subst (λ state. stage state ≤ 1) (sym at) (omega arith))
+which p (of_a.past high) (of_b.half_open at) = either_way.opening (opens.answer high at)
+which p (of_a.past high) (of_b.past higher) = either_way.past (elim [ A ↦ high | B ↦ higher ])
+
+member_which : (m : Actor Carried) → HoldsOfKind (λ app. Unit {0}) (λ (p : PathState Carried). GoByTheHandshake p) m → HoldsOfKind (λ app. Unit {0}) IsOpeningOrPast m
+member_which (App a) h = tt
+member_which (Path p) h = which p h.a h.b
+
+pub ends_open_or_are_past : EndsOpenOrArePast
+ends_open_or_are_past start turns actor c there = member_which c.member ((ends_go_by_the_handshake values start turns).each actor c there)

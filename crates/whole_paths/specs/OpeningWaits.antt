@@ -1,11 +1,14 @@
 -- What path 0 of a mild connection waits for until both of its ends are past the handshake, while none of them is dead.
-use Rattle.std.specs.Prelude.{ℕ, ◌+◌, ◌≡◌, ◌<◌, ◌≤◌, ◌⊎◌, false, List}
+use Rattle.std.specs.Prelude.{ℕ, ◌+◌, ◌≡◌, ◌<◌, ◌≤◌, ◌⊎◌, false, Some, List, slice_get}
 use Rattle.sides.specs.declared.side.Side.{Side}
 use Rattle.sides.specs.declared.side.Side.TheVariants.{A, B}
 use Rattle.subflow_tcp.specs.States.{is_dead}
-use Rattle.subflow_tcp.specs.declared.handshake.State.TheVariants.{SynReceived}
+use Rattle.subflow_tcp.specs.declared.handshake.State.TheVariants.{SynReceived, Waiting}
 use Rattle.path_core.specs.State.{PathState, end_at}
 use Rattle.path_core.specs.Values.{Carried, values}
+use Rattle.sides.specs.Side.{peer}
+use Rattle.world_laws.specs.Actors.{ActorCrew}
+use Rattle.world_laws.specs.Members.{HoldsOfKind}
 use Rattle.world_laws.specs.Openings.{Start}
 use Rattle.world_laws.specs.RoundDone.{reached}
 use Rattle.world_laws.specs.Worlds.{Turn}
@@ -42,6 +45,17 @@ pub record AwaitsOpening (start : Start) (x : ℕ) (turns : List Turn) : Type 0 
 pub data IsOpening (p : PathState Carried) : Type 0 where
   syn : (s : Side) → IsToOpen s p → IsOpening p
   answer : 3 ≤ stage p.a.tcp.state → p.b.tcp.state ≡ SynReceived → IsOpening p
+
+-- An end opens so, or both are past the handshake; or A's waits for its tick. Or one is past it whose peer hasn't its SYN.
+pub data IsOpeningOrPast (p : PathState Carried) : Type 0 where
+  opening : IsOpening p → IsOpeningOrPast p
+  past : ((s : Side) → 3 ≤ stage (end_at s p).tcp.state) → IsOpeningOrPast p
+  waiting : p.a.tcp.state ≡ Waiting → IsOpeningOrPast p
+  torn : (s : Side) → 3 ≤ stage (end_at s p).tcp.state → stage (end_at (peer s) p).tcp.state ≤ 1 → IsOpeningOrPast p
+
+-- on each path, at every moment
+abbrev pub EndsOpenOrArePast : Type 0
+EndsOpenOrArePast = (start : Start) (turns : List Turn) (actor : ℕ) (c : ActorCrew Carried) → slice_get (reached values start turns).crew actor ≡ Some c → HoldsOfKind (λ app. Unit {0}) IsOpeningOrPast c.member
 
 -- over such a path a segment goes for so long at most, there and back
 pub record OpensStill (start : Start) (way : ℕ) (turns : List Turn) : Type 0 where

@@ -21,7 +21,7 @@ ghost use Rattle.whole_paths.specs.OpenAsks.{OpenAsksAreInTime, OpenAsksGoOn, Op
 ghost use Rattle.whole_paths.specs.OnlyPaths.{long_patience};
 ghost use Rattle.whole_paths.specs.OverOctets.{FewLossesFinishAsOverValues, OctetsAreAsFarAsValues, OnePathEndsAsOverValues, BriefPathsDeliverAsOverValues, WholePathsDeliverAsOverValues};
 ghost use Rattle.whole_paths.specs.OpenCourses.{WhatHoldsUpCounts};
-ghost use Rattle.whole_paths.specs.OpeningWaits.{OpeningsAreAwaited};
+ghost use Rattle.whole_paths.specs.OpeningWaits.{EndsOpenOrArePast, OpeningsAreAwaited};
 ghost use Rattle.whole_paths.specs.Outstanding.{WhatIsOutstandingIsAwaited};
 ghost use Rattle.whole_paths.specs.Overruns.{NoEndOverruns};
 ghost use Rattle.whole_paths.specs.RecordWaits.{NoRoundCounts, RecordsAreAwaitedAlways};
@@ -156,8 +156,11 @@ pub fn senders_are_awaited()
 ///
 /// As a round is over with an end that opens, or B half-open and A past the handshake, the wait begins (`each_syn_comes`, `each_syn_ack_is_answered`), for a minute and
 /// the longest time there and back; it is never late. Where A's end has finished all of its stream is with the peer.
+/// At each moment an end of a path opens so, or both are past the handshake, or A's waits for its tick, or one is past it whose peer hasn't its
+/// SYN (`which`).
 pub fn openings_are_awaited()
-    ensures { OpeningsAreAwaited }
+    ensures waits { OpeningsAreAwaited }
+    ensures which { EndsOpenOrArePast }
 {}
 
 /// A law: what an open end of the only path of a mild connection asks for, the Data ACK of its DATA_FIN or of a piece (`each_ask_is_answered`),
