@@ -112,7 +112,7 @@ module _ (start : Start) (plan : PathPlan) (one : start.paths ≡ plan ∷ []) (
       by_answer (goes.on then_waits) = goes_by then_waits
       by_answer (goes.sends more_sent) = inl (so_counted (counts.sent_more s more_sent))
       by_answer (goes.held_up held) = inl (here start mild turns turn before after (λ m n. HoldUps m n)
-          (what_holds_up_counts start turns turn before.here.crew after.here.crew before.here.there after.here.there) before.is_open after.is_open before.few s held)
+          (what_holds_up_counts start turns turn before.here.crew after.here.crew before.here.there after.here.there) before.is_open.living after.is_open.living before.few s held)
         where
           HoldUps : Actor Carried → Actor Carried → Type 0
           HoldUps m n = HoldUpsCount Rises m n

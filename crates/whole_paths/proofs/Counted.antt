@@ -15,7 +15,8 @@ use Rattle.link_model.specs.Steps.{after_send, arrivals, fate_by, first_arrival,
 use Rattle.stream_lanes.specs.Words.{Every}
 use Rattle.path_core.specs.Handover.{handed}
 use Rattle.path_core.specs.Octets.{made}
-use Rattle.path_core.specs.State.{PathState}
+use Rattle.subflow_tcp.specs.States.{is_dead}
+use Rattle.path_core.specs.State.{PathState, end_at}
 use Rattle.path_core.specs.Values.{Carried, values}
 use Rattle.world_laws.specs.declared.member.Member.TheVariants.{App, Path}
 use Rattle.world_laws.specs.Actors.{Actor, ActorCrew}
@@ -32,7 +33,6 @@ use Rattle.whole_paths.specs.Harms.{as_it_arrives, loses}
 use Rattle.whole_paths.specs.News.{ActorCounts, news, one_if}
 use Rattle.whole_paths.specs.News.{Counts as counts}
 use Rattle.whole_paths.specs.OpenCourses.{HoldUpsCount, WhatHoldsUpCounts}
-use Rattle.whole_paths.specs.Straying.{IsOpen}
 use Rattle.whole_paths.proofs.Arrivals.{sender_of}
 use Rattle.whole_paths.proofs.Courses.{harmed_append}
 use Rattle.whole_paths.proofs.Due.{Counted, LinkIs, LinkMember, each_link}
@@ -134,8 +134,8 @@ module _ (start : Start) (turns : List Turn) (turn : Turn) where
     pub by_counts : ActorCounts c.member d.member → Rises
     by_counts is = by_news (each_news_counts values start turns (turn ∷ []) 2 c d was now is)
 
-    path_counts : (p q : PathState Carried) → c.member ≡ Path p → d.member ≡ Path q → LinkIs p.link → IsOpen p → IsOpen q → ((s : Side) → segments_sent s p.link < 2 ^ 64 - 1) → (s : Side) → IsHeldUp s p q → Rises
-    path_counts p q from to link open_p open_q few s h = by h
+    path_counts : (p q : PathState Carried) → c.member ≡ Path p → d.member ≡ Path q → LinkIs p.link → ((s : Side) → is_dead (end_at s p).tcp.state ≡ false) → ((s : Side) → is_dead (end_at s q).tcp.state ≡ false) → ((s : Side) → segments_sent s p.link < 2 ^ 64 - 1) → (s : Side) → IsHeldUp s p q → Rises
+    path_counts p q from to link living_p living_q few s h = by h
       where
         counts_so : ActorCounts (Path p) (Path q) → Rises
         counts_so is = by_counts (subst (λ m. ActorCounts m d.member) (sym from) (subst (λ n. ActorCounts (Path p) n) (sym to) is))
@@ -150,12 +150,12 @@ module _ (start : Start) (turns : List Turn) (turn : Turn) where
         by (held.harmed less) = counts_so (counts.harm less)
         by (held.lost t x taken gone) =
             by_harm c d was now (subst (λ m. 0 < harms_between m d.member) (sym from) (subst (λ n. 0 < harms_between (Path p) n) (sym to) (one_harmed t p q (lost_so t x taken gone))))
-        by (held.gone t (inl dead)) = absurd (true≢false (sym dead ∙ open_p.living t))
-        by (held.gone t (inr dead)) = absurd (true≢false (sym dead ∙ open_q.living t))
-        by (held.dies line next is dead) = absurd (true≢false (sym dead ∙ open_q.living A))
+        by (held.gone t (inl dead)) = absurd (true≢false (sym dead ∙ living_p t))
+        by (held.gone t (inr dead)) = absurd (true≢false (sym dead ∙ living_q t))
+        by (held.dies line next is dead) = absurd (true≢false (sym dead ∙ living_q A))
 
     held_counts : (m n : Actor Carried) → c.member ≡ m → d.member ≡ n → LinkMember m → HoldUpsCount Rises m n
-    held_counts (Path p) (Path q) from to link = λ open_p open_q few s h. path_counts p q from to link open_p open_q few s h
+    held_counts (Path p) (Path q) from to link = λ living_p living_q few s h. path_counts p q from to link living_p living_q few s h
     held_counts (Path p) (App b) from to link = tt
     held_counts (App a) n from to link = tt
 

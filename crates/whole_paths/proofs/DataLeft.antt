@@ -261,7 +261,7 @@ joined_up [] from nxt h = omega (arith, h)
 joined_up (r ∷ rs) from nxt h = let at = h.0 in let rest = joined_up rs (end_of r) nxt h.1 in omega (arith, at, rest)
 
 data_left : (start : Start) (p : PathState Carried) → Shown p → EndsAreReached p → EndsAreBegun p → IsFirstPath start p → FinIsLast p → HasDataLeft p
-data_left start p shown reached begun first last open_p s behind r others is = by r.kind refl
+data_left start p shown reached begun first last s past living behind r others is = by r.kind refl
   where
     there : slice_get (end_at s p).tcp.send.records 0 ≡ Some r
     there = ap (λ (rs : List Record). slice_get rs 0) is
@@ -270,7 +270,7 @@ data_left start p shown reached begun first last open_p s behind r others is = b
     low = first_reached (end_at s p).tcp r others (reached s) is
 
     some : 1 ≤ (end_at s p).tcp.send.una
-    some = (begun s).past (open_p.past s) (living_low (end_at s p).tcp.state (open_p.living s))
+    some = (begun s).past past (living_low (end_at s p).tcp.state living)
 
     within : end_of r ≤ (end_at s p).tcp.send.nxt
     within = joined_up others (end_of r) (end_at s p).tcp.send.nxt (subst (λ rs. Line (end_at s p).tcp.send.una (end_at s p).tcp.send.nxt (map span_of rs)) is (reached s).lined.line).2

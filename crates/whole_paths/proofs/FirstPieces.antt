@@ -1,5 +1,5 @@
 -- A copy of A's first piece comes to B's end, which takes it and hears both keys.
-use Rattle.std.proofs.Common.{◌≡◌, refl, sym, subst, ap, ◌∙◌, ◌⊎◌, inl, inr, ⊎_elim, ℕ, ◌-◌, ◌^◌, ◌<◌, ◌≤◌, arith, Bool, true, false, true≢false, if◌then◌else◌, Option, Some, None, IfSome, List, [], ◌∷◌, ◌++◌}
+use Rattle.std.proofs.Common.{◌≡◌, refl, sym, subst, ap, ◌∙◌, inl, inr, ⊎_elim, ℕ, ◌-◌, ◌^◌, ◌<◌, ◌≤◌, arith, Bool, true, false, true≢false, if◌then◌else◌, Option, Some, None, IfSome, List, [], ◌∷◌, ◌++◌}
 use Rattle.std.specs.List.{slice_get}
 use Rattle.std.proofs.lemmas.Bool.{both_ways, cases_lt}
 use Rattle.sides.specs.declared.side.Side.{Side}
@@ -116,7 +116,7 @@ module _ (c : Profile) (r : Record) (e : PathEnd) (kind : r.kind ≡ Data) (at :
 -- ---- one turn of a path
 
 module _ (p q : PathState Carried) (known : Known p) (faithful : IsFaithful p) (few : (t : Side) → segments_sent t p.link < 2 ^ 64 - 1) (far : IsActorAsFar (Path p) (Path q)) (frames : Frames p q)
-    (maps : EndsGoByMappings p) (keyed : (2 ≤ stage q.a.tcp.state → is_dead q.a.tcp.state ≡ false → (is_some q.a.modes.peer_key ≡ true) ⊎ (treats_answer q.agenda ≡ true))) (steps : List Note) (turn : Confirming values steps p q)
+    (maps : EndsGoByMappings p) (steps : List Note) (turn : Confirming values steps p q)
     (unbroken : IsUnbroken q) (later_maps : EndsGoByMappings q) (own_key : was_told tells_other_key steps ≡ false) where
   numbered : (f : Flight Carried) → IsUnderWay f p → f.number < 2 ^ 64 - 1
   numbered f there = let low = under_way (λ g. g.number ≤ segments_sent (peer g.to) p.link) f p there known.link.low in let most = few (peer f.to) in omega (arith, low, most)
@@ -180,10 +180,7 @@ module _ (p q : PathState Carried) (known : Known p) (faithful : IsFaithful p) (
 
           by_life : q.a.modes.clear ≡ false → q.b.modes.clear ≡ false → q.b.tcp.recv.edge ≡ 1 → (b : Bool) → is_dead q.a.tcp.state ≡ b → Goes
           by_life c d edge_q true is = goes.held_up A (held.gone A (inr is))
-          by_life c d edge_q false is = ⊎_elim
-              (λ has. goes.on (comes r kind at up_a c has d up_b edge_q w (subst (λ c. IsSentSo (ShowsBothKeys c r) w) (sym frames.profile) w_so)))
-              (λ treats. goes.answered treats)
-              (keyed up_a is)
+          by_life c d edge_q false is = goes.on (comes r kind at up_a c (far.a.keyed key) d up_b edge_q w (subst (λ c. IsSentSo (ShowsBothKeys c r) w) (sym frames.profile) w_so))
 
       -- a copy comes
       module _ (f : Flight Carried) (there : IsUnderWay f p) (copy : IsCopyOf values A r p f) (sent : ShowsBothKeys p.profile r copy.sender copy.stripped copy.altered)
@@ -278,14 +275,14 @@ module _ (p q : PathState Carried) (known : Known p) (faithful : IsFaithful p) (
 
 -- ---- the world
 
-turn_goes : (m n : Actor Carried) → (steps : List Note) → OfPaths Known m → ((Was : PathEnd → Bool → Bool → Type 0) → SentGoOn Was values m n) → FramesStay m n → OfPaths EndsGoByMappings m → OfPaths HasKeys n → PathsConfirm values steps m n → IsActorAsFar m n
+turn_goes : (m n : Actor Carried) → (steps : List Note) → OfPaths Known m → ((Was : PathEnd → Bool → Bool → Type 0) → SentGoOn Was values m n) → FramesStay m n → OfPaths EndsGoByMappings m → PathsConfirm values steps m n → IsActorAsFar m n
     → OfPaths IsNeverBroken n → OfPaths EndsGoByMappings n → was_told tells_other_key steps ≡ false → FirstPiecesGoOn m n
-turn_goes (App a) (App b) steps known sent frames maps keyed confirms far breaks later_maps own_key = tt
-turn_goes (Path p) (Path q) steps known sent frames maps keyed confirms far breaks later_maps own_key = λ faithful few x h.
+turn_goes (App a) (App b) steps known sent frames maps confirms far breaks later_maps own_key = tt
+turn_goes (Path p) (Path q) steps known sent frames maps confirms far breaks later_maps own_key = λ faithful few x h.
     let first : is_joined q.profile ≡ false = ap is_joined frames.profile ∙ faithful.joined in
-    piece_goes p q known faithful few far frames maps (keyed first).a steps confirms (breaks first) later_maps own_key x (λ r. sent (ShowsBothKeys p.profile r)) h
-turn_goes (App a) (Path q) steps known sent frames maps keyed confirms far breaks later_maps own_key = absurd confirms
-turn_goes (Path p) (App b) steps known sent frames maps keyed confirms far breaks later_maps own_key = absurd confirms
+    piece_goes p q known faithful few far frames maps steps confirms (breaks first) later_maps own_key x (λ r. sent (ShowsBothKeys p.profile r)) h
+turn_goes (App a) (Path q) steps known sent frames maps confirms far breaks later_maps own_key = absurd confirms
+turn_goes (Path p) (App b) steps known sent frames maps confirms far breaks later_maps own_key = absurd confirms
 
 pieces_by_turns : (start : Start) (turns : List Turn) → IsMildStart start → let w = reached values start turns in (turn : Turn) (actor : ℕ) (c : ActorCrew Carried) → slice_get w.crew actor ≡ Some c
     → (d : ActorCrew Carried) × (slice_get (after_turn values turn w).crew actor ≡ Some d) × FirstPiecesGoOn c.member d.member
@@ -302,7 +299,6 @@ pieces_by_turns start turns mild turn actor c at =
           (λ Was. same_actor (λ x. SentGoOn Was values c.member x.member) v actor d told.1 (sent_go_on Was values w (nothing_is_overdue values start turns) turn actor c at))
           (same_actor (λ x. FramesStay c.member x.member) v actor d told.1 (frames_stay values w turn actor c at))
           ((mapping_is_kept start turns mild).each actor c at)
-          ((keys_are_known start more mild).each actor d there)
           told.2
           (same_actor (λ x. IsActorAsFar c.member x.member) v actor d told.1 (let found = (goes_on_so values w (turn ∷ [])).crew actor c at in (found.0, found.1, found.2.member)))
           ((never_breaks start more mild).each actor d there)

@@ -41,6 +41,7 @@ use Rattle.whole_paths.specs.AsFar.{IsSubflowAsFar, IsStreamAsFar, IsEndAsFar, I
 use Rattle.whole_paths.specs.EndSteps.{EndStep, PathStep}
 use Rattle.whole_paths.proofs.Books.{side_stays, side_then, side_up}
 use Rattle.whole_paths.proofs.Duties.{passed_steps, answered_steps}
+use Rattle.whole_paths.proofs.KeysStay.{KeysStay, takes_keyed, next_keyed}
 use Rattle.whole_paths.proofs.Subflows.{steps_up, stream_up, stream_stays, stream_then}
 use Rattle.whole_paths.proofs.Subflows as subflow
 use Rattle.whole_paths.proofs.Turns.{turn_each}
@@ -59,13 +60,14 @@ up_then : (e f g : PathEnd) → EndUp e f → EndUp f g → EndUp e g
 up_then e f g x y = record { subflow = subflow.goes_on e.tcp f.tcp g.tcp x.subflow y.subflow; stream = stream_then e.sending f.sending g.sending x.stream y.stream }
 
 end_stays : (e : PathEnd) → IsEndAsFar e e
-end_stays e = record { subflow = subflow.stays e.tcp; stream = stream_stays e.sending; clear = λ h. h }
+end_stays e = record { subflow = subflow.stays e.tcp; stream = stream_stays e.sending; clear = λ h. h; keyed = λ h. h }
 
 end_then : (e f g : PathEnd) → IsEndAsFar e f → IsEndAsFar f g → IsEndAsFar e g
 end_then e f g x y = record {
   subflow = subflow.goes_on e.tcp f.tcp g.tcp x.subflow y.subflow;
   stream = stream_then e.sending f.sending g.sending x.stream y.stream;
   clear = λ h. y.clear (x.clear h);
+  keyed = λ h. y.keyed (x.keyed h);
 }
 
 fewer : (xs : List LineLeft) → length (tail_of xs) ≤ length xs
@@ -154,17 +156,17 @@ module _ {C : Type 0} where
 
   -- ---- a path
 
-  path_up : (p q : PathState C) → EndsUp p q → Clears p q → Frame p q → IsPathAsFar p q
-  path_up p q ends clear frame = record {
-    a = record { subflow = ends.a.subflow; stream = ends.a.stream; clear = clear.a.0 };
-    b = record { subflow = ends.b.subflow; stream = ends.b.stream; clear = clear.b.0 };
+  path_up : (p q : PathState C) → EndsUp p q → Clears p q → KeysStay p q → Frame p q → IsPathAsFar p q
+  path_up p q ends clear keys frame = record {
+    a = record { subflow = ends.a.subflow; stream = ends.a.stream; clear = clear.a.0; keyed = keys.a };
+    b = record { subflow = ends.b.subflow; stream = ends.b.stream; clear = clear.b.0; keyed = keys.b };
     until = frame.until;
     lines = frame.lines;
   }
 
   pub takes_up : (k : Codec C) (r : Reply) (p : PathState C) → IsPathAsFar p (takes k r p)
   takes_up k r p =
-      path_up p (takes k r p) (ends_take k r p) (takes_clear k r p) (takes_lasts (λ p q. Frame p q) frames_last k r p (λ d. answered_frame k d r p))
+      path_up p (takes k r p) (ends_take k r p) (takes_clear k r p) (takes_keyed k r p) (takes_lasts (λ p q. Frame p q) frames_last k r p (λ d. answered_frame k d r p))
 
   -- as a turn begins no line is taken
   pub begun_lines : (p : PathState C) → length (begins_turn p).lines ≤ length p.lines
@@ -174,7 +176,7 @@ module _ {C : Type 0} where
   next_up p =
       let q : PathState C = record p { clock = p.until; until = p.until + 100 } in
       let begun : Frame q (next_round p) = begins_lasts (λ p q. Frame p q) frames_last q in
-      path_up p (next_round p) (ends_begin p) (next_clear p) (record { until = (let later = begun.until in omega (arith, later)); lines = begun.lines })
+      path_up p (next_round p) (ends_begin p) (next_clear p) (next_keyed p) (record { until = (let later = begun.until in omega (arith, later)); lines = begun.lines })
 
   -- ---- actors
 

@@ -43,6 +43,7 @@ pub mod InRounds
 pub mod InTime
 pub mod Keeping
 pub mod Keyed
+pub mod KeysStay
 pub mod Knowing
 pub mod KnownEnds
 pub mod KnownModes
@@ -85,6 +86,9 @@ pub mod Saying
 pub mod Sent
 pub mod SentByTurns
 pub mod Settling
+pub mod OpeningStates
+pub mod OpeningWaits
+pub mod SenderWaits
 pub mod ShutWaits
 pub mod Standing
 pub mod Staying

@@ -80,7 +80,7 @@ fin_acked_up phase.FinWait1 = omega arith
 fin_acked_up phase.Closing = omega arith
 fin_acked_up state = le_refl (stage state)
 
-established_up : (state : State) → 2 ≤ stage state → 3 ≤ stage (after_handshake state)
+pub established_up : (state : State) → 2 ≤ stage state → 3 ≤ stage (after_handshake state)
 established_up phase.SynReceived high = le_refl 3
 established_up phase.Waiting high = absurd (omega (arith, high))
 established_up phase.Listen high = absurd (omega (arith, high))

@@ -43,6 +43,7 @@ use Rattle.whole_paths.specs.EndSteps.SubflowStep.{arrives, holds, owes, keeps, 
 use Rattle.whole_paths.specs.EndSteps.SubflowSteps.{none, more}
 use Rattle.whole_paths.proofs.Duties.{passed_steps, answered_steps}
 use Rattle.whole_paths.proofs.Passing.{past_stage}
+use Rattle.whole_paths.proofs.Opening.{established_up, heard_state}
 use Rattle.whole_paths.proofs.Subflows.{steps_up, ack_up}
 
 -- ---- records
@@ -117,9 +118,9 @@ spans_fin now (r ∷ rs) = (elim (is_fin r.kind) as (λ b. span_of (if b then re
 
 -- ---- what a step makes of them
 
--- SND.UNA stays, or both SYNs came
+-- SND.UNA stays, or the handshake is done
 abbrev Calm : EndState → EndState → Type 0
-Calm s t = (2 ≤ stage t.state) ⊎ (t.send.una ≡ s.send.una)
+Calm s t = (3 ≤ stage t.state) ⊎ (t.send.una ≡ s.send.una)
 
 record IsStep (s t : EndState) : Type 0 where
   lined : IsLined s.send → IsLined t.send
@@ -171,7 +172,11 @@ arrival_lined _ hint now c s h = h
 arrival_calm : (m : Meaning) (hint : Hint) (now : ℕ) (c : Copy) (s : EndState) → MeansIs c s m → stage s.state ≤ stage (after_arrival m hint now c s).state → Calm s (after_arrival m hint now c s)
 arrival_calm (means.Accepts pos) hint now c s fits up = inl (let far = (ack_up pos now (record (after_hearing (after_payload 1 hint c s)) { state = phase.Established })).state in omega (arith, far))
 arrival_calm means.Kills hint now c s fits up = inl (omega arith)
-arrival_calm (means.Taken pos acknowledged) hint now c s fits up = inl (let past = past_stage s.state fits.0 in omega (arith, past, up))
+arrival_calm (means.Taken pos n) hint now c s fits up =
+    let ready : EndState = after_established (after_hearing (after_payload pos hint c s)) in
+    let high : 3 ≤ stage ready.state = established_up s.state (past_stage s.state fits.0) in
+    let far = (ack_up n now ready).state in
+    inl (subst (λ state. 3 ≤ stage state) (sym (heard_state n hint now c ready)) (omega (arith, high, far)))
 arrival_calm _ hint now c s fits up = inr refl
 
 payload_window : (pos : ℕ) (hint : Hint) (c : Copy) (s : EndState) → (after_payload pos hint c s).recv.window ≡ s.recv.window
@@ -197,7 +202,7 @@ arrival_window (means.Taken pos acknowledged) hint now c s =
     ap (λ (v : Receiving). v.window) (heard_recv acknowledged hint now c (after_established (after_hearing (after_payload pos hint c s)))) ∙ payload_window pos hint c s
 arrival_window _ hint now c s = refl
 
-stage_up : (now : ℕ) (s t : EndState) → SubflowStep now s t → stage s.state ≤ stage t.state
+pub stage_up : (now : ℕ) (s t : EndState) → SubflowStep now s t → stage s.state ≤ stage t.state
 stage_up now s t step = (steps_up now s t (more s t none step)).state
 
 step_so : (now : ℕ) (s t : EndState) → SubflowStep now s t → IsStep s t
@@ -227,15 +232,15 @@ step_so now s t (joins window is) = still s t refl (payload_window 1 (unkept Non
 
 pub record IsReached (s : EndState) : Type 0 where
   pub lined : IsLined s.send
-  -- before both SYNs came nothing is acknowledged
-  opening : stage s.state ≤ 1 → s.send.una ≡ 0
+  -- before the handshake is done nothing is acknowledged
+  pub opening : stage s.state ≤ 2 → s.send.una ≡ 0
   -- the window has 2^20 positions
   pub window : s.recv.window ≡ 1048576
 
 step_reached : (now : ℕ) (s t : EndState) → SubflowStep now s t → IsReached s → IsReached t
 step_reached now s t step h = record { lined = (step_so now s t step).lined h.lined; opening = λ low. by low (step_so now s t step).calm; window = (step_so now s t step).window ∙ h.window }
   where
-    by : stage t.state ≤ 1 → Calm s t → t.send.una ≡ 0
+    by : stage t.state ≤ 2 → Calm s t → t.send.una ≡ 0
     by low (inl past) = absurd (omega (arith, low, past))
     by low (inr same) = same ∙ h.opening (let up = stage_up now s t step in omega (arith, up, low))
 

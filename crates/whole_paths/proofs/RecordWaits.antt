@@ -38,10 +38,10 @@ use Rattle.whole_paths.specs.Kept.{EndsKeepWhatWaits}
 use Rattle.whole_paths.specs.Mild.{IsMildStart}
 use Rattle.whole_paths.specs.News.{ActorCounts, one_if}
 use Rattle.whole_paths.specs.News.{Counts as counts}
-use Rattle.whole_paths.specs.OpenCourses.{HoldUpsCount, IsOpenAfter, IsOpenNow}
+use Rattle.whole_paths.specs.OpenCourses.{HoldUpsCount, IsNow}
 use Rattle.whole_paths.specs.ReadModes.{ReadsMappings}
-use Rattle.whole_paths.specs.RecordWaits.{AwaitsARecord, HasARecord, IsRecordAwaited, RecordsAreAwaitedAlways}
-use Rattle.whole_paths.specs.Straying.{HardlyStrays, IsHardlyAstray, IsOpen}
+use Rattle.whole_paths.specs.RecordWaits.{AwaitsARecord, HasARecord, IsRecordAwaited, RecordsAreAwaitedAlways, RecordsAreAwaited}
+use Rattle.whole_paths.specs.Straying.{HardlyStraysFrom, IsHardlyAstray, IsOpen, IsOpenFrom}
 use Rattle.whole_paths.specs.Straying.{IsHardlyAstray as hardly}
 use Rattle.whole_paths.specs.Timers.{TimersAreNear}
 use Rattle.whole_paths.specs.Waits.{IsNews}
@@ -57,7 +57,7 @@ use Rattle.whole_paths.proofs.InTime.{nil_so}
 use Rattle.whole_paths.proofs.OpenCourses.{IsFirstPath, each_first}
 use Rattle.whole_paths.proofs.ReadModes.{ends_read_mappings}
 use Rattle.whole_paths.proofs.RoundBegins.{next_rests, no_round_counts}
-use Rattle.whole_paths.proofs.Straying.{open_ends_hardly_stray}
+use Rattle.whole_paths.proofs.Straying.{open_from, senders_hardly_stray}
 use Rattle.whole_paths.proofs.Timing.{timers_run_out}
 use Rattle.whole_paths.proofs.WholeMappings.{mappings_are_whole}
 use Rattle.whole_paths.specs.Came.{HasCome}
@@ -110,8 +110,8 @@ module _ (start : Start) (mild : IsMildStart start) (turns : List Turn) (turn : 
   pub last : reached values start (turns ++ turn ∷ []) ≡ v
   last = run_append values turns (turn ∷ []) (opened_world start)
 
-  -- what the laws of one turn say of path 0, between two moments at which it is open
-  module _ (before : IsOpenNow w) (after : IsOpenNow v) where
+  -- what the laws of one turn say of path 0, between two moments
+  module _ {Holds : PathState Carried → Type 0} (before : IsNow Holds w) (after : IsNow Holds v) where
     abbrev p : PathState Carried
     p = before.path
 
@@ -158,7 +158,8 @@ module _ (start : Start) (mild : IsMildStart start) (turns : List Turn) (turn : 
     pub nxt_up : (s : Side) → (end_at s p).tcp.send.nxt ≤ (end_at s q).tcp.send.nxt
     nxt_up = elim [ A ↦ far.a.subflow.pushed | B ↦ far.b.subflow.pushed ]
 
-    module _ (x : ℕ) (h : IsRecordAwaited x p) where
+    -- where it is open from the side that sends
+    module _ (x : ℕ) (h : IsRecordAwaited x p) (from_p : IsOpenFrom h.side p) (from_q : IsOpenFrom h.side q) where
       abbrev s : Side
       s = h.side
 
@@ -166,7 +167,7 @@ module _ (start : Start) (mild : IsMildStart start) (turns : List Turn) (turn : 
       r = h.awaited
 
       abbrev Next : Type 0
-      Next = Rises ⊎ IsRecordAwaited x q
+      Next = Rises ⊎ ((z : IsRecordAwaited x q) × (z.side ≡ s))
 
       abbrev Ahead : PathState Carried → Type 0
       Ahead z = ((end_at s z).tcp.send.finished ≡ false) ⊎ ((end_at (peer s) z).tcp.recv.edge < end_of r)
@@ -205,7 +206,7 @@ module _ (start : Start) (mild : IsMildStart start) (turns : List Turn) (turn : 
 
       goes_by : IsExchanged s r x q → Next
       goes_by exchange = if_ahead (λ ahead. if_first (λ first. if_left (λ left. if_room (λ room.
-          inr (record { side = s; awaited = r; is_data = h.is_data; first = first; left = left; within = within; ahead = ahead; room = room; exchange = exchange })))))
+          inr (record { side = s; awaited = r; is_data = h.is_data; first = first; left = left; within = within; ahead = ahead; room = room; exchange = exchange }, refl)))))
 
       -- each mapping at RCV.NXT is whole with the record
       whole : NoneIsPartial p
@@ -225,14 +226,14 @@ module _ (start : Start) (mild : IsMildStart start) (turns : List Turn) (turn : 
       by_exchange : ExchangeGoesOn s r x p q → Next
       by_exchange (goes.on exchange) = goes_by exchange
       by_exchange (goes.held_up held) = inl (here (λ m n. HoldUps m n)
-          (what_holds_up_counts start turns turn before.here.crew after.here.crew before.here.there after.here.there) before.is_open after.is_open before.few s held)
+          (what_holds_up_counts start turns turn before.here.crew after.here.crew before.here.there after.here.there) from_p.living from_q.living before.few s held)
         where
           HoldUps : Actor Carried → Actor Carried → Type 0
           HoldUps m n = HoldUpsCount Rises m n
-      by_exchange (goes.astray astray) = strays (here HardlyStrays
-          (open_ends_hardly_stray start turns turn mild 2 before.here.crew after.here.crew before.here.there after.here.there) before.is_open after.is_open s r astray)
+      by_exchange (goes.astray astray) = strays (here HardlyStraysFrom
+          (senders_hardly_stray start turns turn mild 2 before.here.crew after.here.crew before.here.there after.here.there) s from_p from_q r astray)
 
-      goes_on : Next
+      pub goes_on : Next
       goes_on = by_exchange ((with_both ExchangesGoOn (each_record_is_acknowledged.goes_on start turns mild.plain.size mild.fit turn 2 before.here.crew before.here.there))
           before.faithful s r x h.is_data before.few h.exchange)
 
@@ -244,34 +245,48 @@ same_path m p q a b = cc
 pub path_is : (w : WorldState Carried) (p q : PathState Carried) → IsPathAt 0 w p → IsPathAt 0 w q → p ≡ q
 path_is w p q here there = same_path there.crew.member p q (ap (λ (c : ActorCrew Carried). c.member) (same_Some there.crew here.crew (sym there.there ∙ here.there)) ∙ here.is) there.is
 
-module _ (start : Start) (most : ℕ) (mild : IsMildStart start) where
+-- what holds of path 0 at each moment, by which it is open from these sides
+module _ (start : Start) (most : ℕ) (mild : IsMildStart start) (Holds : PathState Carried → Type 0) (Of : Side → Type 0)
+    (from : (v : List Turn) (p : PathState Carried) → IsPathAt 0 (reached values start v) p → Holds p → (s : Side) → Of s → IsOpenFrom s p) where
+  abbrev Now : List Turn → Type 0
+  Now turns = IsNow Holds (reached values start turns)
+
+  -- a record of such a side
+  pub record Awaits (x : ℕ) (turns : List Turn) : Type 0 where
+    pub path : PathState Carried
+    pub here : IsPathAt 0 (reached values start turns) path
+    pub waits : IsRecordAwaited x path
+    pub of : Of waits.side
+
   -- at the same path
-  awaited_at : (x : ℕ) (u : WorldState Carried) (a b : PathState Carried) → IsPathAt 0 u a → IsPathAt 0 u b → IsRecordAwaited x a → IsRecordAwaited x b
-  awaited_at x u a b at there h = subst (IsRecordAwaited x) (path_is u a b at there) h
+  awaited_at : (x : ℕ) (u : WorldState Carried) (a b : PathState Carried) → IsPathAt 0 u a → IsPathAt 0 u b → (h : IsRecordAwaited x a) → Of h.side → (z : IsRecordAwaited x b) × Of z.side
+  awaited_at x u a b at there h of = subst (λ c. (z : IsRecordAwaited x c) × Of z.side) (path_is u a b at there) (h, of)
 
-  turn_on : (x : ℕ) (v : List Turn) (turn : Turn) → IsOpenAfter start v → IsOpenAfter start (v ++ turn ∷ []) → AwaitsARecord start x v
-      → (counted values start v < counted values start (v ++ turn ∷ [])) ⊎ AwaitsARecord start x (v ++ turn ∷ [])
+  turn_on : (x : ℕ) (v : List Turn) (turn : Turn) → Now v → Now (v ++ turn ∷ []) → Awaits x v
+      → (counted values start v < counted values start (v ++ turn ∷ [])) ⊎ Awaits x (v ++ turn ∷ [])
   turn_on x v turn before after h =
-      let then_open : IsOpenNow (after_turn values turn (reached values start v)) = subst IsOpenNow (run_append values v (turn ∷ []) (opened_world start)) after in
+      let same = run_append values v (turn ∷ []) (opened_world start) in
+      let then_open : IsNow Holds (after_turn values turn (reached values start v)) = subst (λ (y : WorldState Carried). IsNow Holds y) same after in
+      let there : IsPathAt 0 (reached values start (v ++ turn ∷ [])) then_open.path = subst (λ (y : WorldState Carried). IsPathAt 0 y then_open.path) (sym same) then_open.here in
       ⊎_elim (λ rises. inl rises)
-      (λ waits. inr (record {
-        path = then_open.path;
-        here = subst (λ (y : WorldState Carried). IsPathAt 0 y then_open.path) (sym (run_append values v (turn ∷ []) (opened_world start))) then_open.here;
-        waits = waits;
-      }))
-      (goes_on start mild v turn before then_open x (awaited_at x (reached values start v) h.path before.path h.here before.here h.waits))
+      (λ waits. inr (record { path = then_open.path; here = there; waits = waits.0; of = subst Of (sym waits.1) waiting.1 }))
+      (goes_on start mild v turn before then_open x waiting.0 (from v before.path before.here before.is_open waiting.0.side waiting.1)
+      (from (v ++ turn ∷ []) then_open.path there then_open.is_open waiting.0.side waiting.1))
+    where
+      waiting : (z : IsRecordAwaited x before.path) × Of z.side
+      waiting = awaited_at x (reached values start v) h.path before.path h.here before.here h.waits h.of
 
-  steps_on : (x : ℕ) (v u : List Turn) → TakesAStep values start (IsOpenAfter start) most v u → AwaitsARecord start x v → (counted values start v < counted values start u) ⊎ AwaitsARecord start x u
-  steps_on x v u step h = subst (λ t. (counted values start v < counted values start t) ⊎ AwaitsARecord start x t) (sym step.is)
-      (turn_on x v (Turn.Step step.actor) step.before (subst (IsOpenAfter start) step.is step.after) h)
+  pub steps_on : (x : ℕ) (v u : List Turn) → TakesAStep values start Now most v u → Awaits x v → (counted values start v < counted values start u) ⊎ Awaits x u
+  steps_on x v u step h = subst (λ t. (counted values start v < counted values start t) ⊎ Awaits x t) (sym step.is)
+      (turn_on x v (Turn.Step step.actor) step.before (subst Now step.is step.after) h)
 
-  opens_on : (x : ℕ) (v u : List Turn) → BeginsARound values start (IsOpenAfter start) most v u → AwaitsARecord start x v → (counted values start v < counted values start u) ⊎ AwaitsARecord start x u
-  opens_on x v u step h = subst (λ t. (counted values start v < counted values start t) ⊎ AwaitsARecord start x t) (sym step.is)
-      (turn_on x v Turn.Round step.before (subst (IsOpenAfter start) step.is step.after) h)
+  pub opens_on : (x : ℕ) (v u : List Turn) → BeginsARound values start Now most v u → Awaits x v → (counted values start v < counted values start u) ⊎ Awaits x u
+  opens_on x v u step h = subst (λ t. (counted values start v < counted values start t) ⊎ Awaits x t) (sym step.is)
+      (turn_on x v Turn.Round step.before (subst Now step.is step.after) h)
 
   -- ---- as a round begins
 
-  module _ (v u : List Turn) (step : BeginsARound values start (IsOpenAfter start) most v u) where
+  module _ (v u : List Turn) (step : BeginsARound values start Now most v u) where
     abbrev ended : WorldState Carried
     ended = reached values start v
 
@@ -279,7 +294,7 @@ module _ (start : Start) (most : ℕ) (mild : IsMildStart start) where
     goes_over = ap (λ (b : Bool). if b then record ended { crew = map (begins (greatest 0 ended.crew)) ended.crew } else ended) step.over
 
     -- the clock of path 0 is at the end of the round before
-    clock_is : (p : PathState Carried) → IsPathAt 0 (reached values start u) p → p.clock ≡ round_end values start v
+    pub clock_is : (p : PathState Carried) → IsPathAt 0 (reached values start u) p → p.clock ≡ round_end values start v
     clock_is p here =
         let found = in_map (begins (greatest 0 ended.crew)) ended.crew 2 here.crew (subst (λ (y : WorldState Carried). slice_get y.crew 2 ≡ Some here.crew) (there_is ∙ goes_over) here.there) in
         by found.0.member found.0 found.1 refl (ap (λ (c : ActorCrew Carried). c.member) found.2 ∙ here.is)
@@ -293,10 +308,10 @@ module _ (start : Start) (most : ℕ) (mild : IsMildStart start) where
             ap (λ (x : PathState Carried). x.clock) (sym same) ∙ (next_rests before).clock ∙ subst (EndsAt (round_end values start v)) is ((rounds_end_on_time values start v).each 2 c at)
         by (App a) c at is next = absurd (let made = subst (λ (m : Actor Carried). member_next m ≡ Path p) is next in cc)
 
-    none_late : (x : ℕ) → AwaitsARecord start x v → x < round_end values start v → counted values start v < counted values start u
+    pub none_late : (x : ℕ) → Awaits x v → x < round_end values start v → counted values start v < counted values start u
     none_late x h late = ⊎_elim (λ rises. rises) (λ waits. absurd (past waits)) (opens_on x v u step h)
       where
-        past : AwaitsARecord start x u → ⊥
+        past : Awaits x u → ⊥
         past waits =
             let ends : ExchangesEnd waits.path = subst (HoldsOfKind (λ app. Unit {0}) ExchangesEnd) waits.here.is ((each_record_is_acknowledged.in_time start u).end 2 waits.here.crew waits.here.there) in
             let clock = clock_is waits.path waits.here in
@@ -305,7 +320,7 @@ module _ (start : Start) (most : ℕ) (mild : IsMildStart start) where
 
     -- where an end of path 0 sent no FIN
     module _ (way : ℕ) (path : PathState Carried) (here : IsPathAt 0 ended path) (side : Side) (unsent : (end_at side path).tcp.send.finished ≡ false)
-        (short : longest_way side path.link + longest_way (peer side) path.link ≤ way) where
+        (short : longest_way side path.link + longest_way (peer side) path.link ≤ way) (of : Of side) where
       near : TimersAreNear path
       near = subst (HoldsOfKind (λ app. Unit {0}) TimersAreNear) here.is ((timers_run_out values start v).each 2 here.crew here.there)
 
@@ -318,8 +333,8 @@ module _ (start : Start) (most : ℕ) (mild : IsMildStart start) where
       begun : ExchangesBegin path
       begun = subst (HoldsOfKind (λ app. Unit {0}) ExchangesBegin) here.is ((each_record_is_acknowledged.in_time start v).begin 2 here.crew here.there)
 
-      opened : IsOpen path
-      opened = subst IsOpen (path_is ended step.before.path path step.before.here here) step.before.is_open
+      opened : IsOpenFrom side path
+      opened = from v path here (subst Holds (path_is ended step.before.path path step.before.here here) step.before.is_open) side of
 
       is_left : HasDataLeft path
       is_left = subst (HoldsOfKind (λ app. Unit {0}) HasDataLeft) here.is (what_is_left_is_data start v mild.plain.size mild.fit here.crew here.there)
@@ -336,12 +351,12 @@ module _ (start : Start) (most : ℕ) (mild : IsMildStart start) where
       -- with the first record of a side
       side_begins : (t : Side) (r : Record) (others : List Record) → (end_at t path).tcp.send.records ≡ r ∷ others → IsData r (end_at t path)
           → ((end_at t path).tcp.send.finished ≡ false) ⊎ ((end_at (peer t) path).tcp.recv.edge < end_of r)
-          → (end_at (peer t) path).tcp.send.nxt ≤ (end_at t path).tcp.recv.edge + 1048576 → longest_way t path.link + longest_way (peer t) path.link ≤ way
-          → AwaitsARecord start (round_end values start v + (60000 + way)) u
-      side_begins t r others is data_is ahead room low = ⊎_elim
+          → (end_at (peer t) path).tcp.send.nxt ≤ (end_at t path).tcp.recv.edge + 1048576 → longest_way t path.link + longest_way (peer t) path.link ≤ way → Of t
+          → Awaits (round_end values start v + (60000 + way)) u
+      side_begins t r others is data_is ahead room low of_t = ⊎_elim
           (λ rises. absurd (let same = ap (counted values start) step.is ∙ no_round_counts start v step.over in omega (arith, rises, same)))
           (λ waits. waits)
-          (opens_on (round_end values start v + (60000 + way)) v u step (record { path = path; here = here; waits = awaited }))
+          (opens_on (round_end values start v + (60000 + way)) v u step (record { path = path; here = here; waits = awaited; of = of_t }))
         where
           awaited : IsRecordAwaited (round_end values start v + (60000 + way)) path
           awaited = record {
@@ -367,33 +382,61 @@ module _ (start : Start) (most : ℕ) (mild : IsMildStart start) where
       nxt_same = ap (λ x. (end_at x path).tcp.send.nxt) (sender_of side)
 
       -- the peer filled the window, and its FIN stands behind: its own first record is waited for
-      other_begins : (end_at side path).tcp.recv.edge + 1048576 < (end_at other path).tcp.send.nxt → (rs : List Record) → (end_at other path).tcp.send.records ≡ rs
-          → AwaitsARecord start (round_end values start v + (60000 + way)) u
-      other_begins past [] is = absurd (let none = none_left (end_at other path).tcp (ends other) is in let low = came.una other (opened.living other) in omega (arith, past, none, low, edge_same))
-      other_begins past (r ∷ others) is =
+      other_begins : (end_at side path).tcp.recv.edge + 1048576 < (end_at other path).tcp.send.nxt → Of other → (rs : List Record) → (end_at other path).tcp.send.records ≡ rs
+          → Awaits (round_end values start v + (60000 + way)) u
+      other_begins past of_other [] is = absurd (let none = none_left (end_at other path).tcp (ends other) is in let low = came.una other (opened.living other) in omega (arith, past, none, low, edge_same))
+      other_begins past of_other (r ∷ others) is =
           let low = came.una other (opened.living other) in
-          let data_is = is_left opened other (inr (omega (arith, past, low, edge_same))) r others is in
+          let data_is = is_left other (opened.past other) (opened.living other) (inr (omega (arith, past, low, edge_same))) r others is in
           let most_sent = few other in let one = one_most (end_at other path).tcp.send.finished in
           let left = data_is.left in
           let own = few side in let none = ap one_if unsent in let came_here = came.una side (opened.living side) in
           let way_same = ap (λ x. longest_way x path.link) (sender_of side) in let low_way = short in
-          side_begins other r others is data_is (inr (omega (arith, past, most_sent, one, left, edge_same))) (omega (arith, own, none, came_here, nxt_same)) (omega (arith, low_way, way_same))
+          side_begins other r others is data_is (inr (omega (arith, past, most_sent, one, left, edge_same))) (omega (arith, own, none, came_here, nxt_same)) (omega (arith, low_way, way_same)) of_other
 
-      room_or : AwaitsARecord start (round_end values start v + (60000 + way)) u ⊎ ((end_at other path).tcp.send.nxt ≤ (end_at side path).tcp.recv.edge + 1048576)
-      room_or = ⊎_elim (λ past. inl (other_begins past (end_at other path).tcp.send.records refl)) (λ room. inr room) (cases_lt ((end_at side path).tcp.recv.edge + 1048576) (end_at other path).tcp.send.nxt)
+      pub room_or : Of other → Awaits (round_end values start v + (60000 + way)) u ⊎ ((end_at other path).tcp.send.nxt ≤ (end_at side path).tcp.recv.edge + 1048576)
+      room_or of_other = ⊎_elim (λ past. inl (other_begins past of_other (end_at other path).tcp.send.records refl)) (λ room. inr room) (cases_lt ((end_at side path).tcp.recv.edge + 1048576) (end_at other path).tcp.send.nxt)
 
-    wait_begins : (way : ℕ) → HasARecord start way v → AwaitsARecord start (round_end values start v + (60000 + way)) u
-    wait_begins way h = ⊎_elim
+    -- where the end's own window has room for what the peer sent
+    pub begins_with_room : (way : ℕ) (h : HasARecord start way v) → Of h.side → (end_at (peer h.side) h.path).tcp.send.nxt ≤ (end_at h.side h.path).tcp.recv.edge + 1048576 → Awaits (round_end values start v + (60000 + way)) u
+    begins_with_room way h of room =
+        let open_h : IsOpenFrom h.side h.path = opened way h.path h.here h.side h.unfinished h.near of in
+        side_begins way h.path h.here h.side h.unfinished h.near of h.side h.first h.others h.records
+        (is_left way h.path h.here h.side h.unfinished h.near of h.side (open_h.past h.side) (open_h.living h.side) (inl h.unfinished) h.first h.others h.records) (inl h.unfinished) room h.near of
+
+    pub wait_begins : (way : ℕ) (h : HasARecord start way v) → Of h.side → Of (peer h.side) → Awaits (round_end values start v + (60000 + way)) u
+    wait_begins way h of of_other = ⊎_elim
         (λ waits. waits)
-        (λ room. side_begins way h.path h.here h.side h.unfinished h.near h.side h.first h.others h.records
-        (is_left way h.path h.here h.side h.unfinished h.near (opened way h.path h.here h.side h.unfinished h.near) h.side (inl h.unfinished) h.first h.others h.records) (inl h.unfinished) room h.near)
-        (room_or way h.path h.here h.side h.unfinished h.near)
+        (λ room. begins_with_room way h of room)
+        (room_or way h.path h.here h.side h.unfinished h.near of of_other)
+
+-- ---- a path that is open
+
+module _ (start : Start) (most : ℕ) (mild : IsMildStart start) where
+  abbrev Each : Side → Type 0
+  Each s = Unit {0}
+
+  from_both : (v : List Turn) (p : PathState Carried) → IsPathAt 0 (reached values start v) p → IsOpen p → (s : Side) → Each s → IsOpenFrom s p
+  from_both v p here open_p s of = open_from start v mild p here open_p s
+
+  abbrev AwaitsOne : ℕ → List Turn → Type 0
+  AwaitsOne x turns = Awaits start most mild IsOpen Each from_both x turns
+
+  plainly : (x : ℕ) (turns : List Turn) → AwaitsOne x turns → AwaitsARecord start x turns
+  plainly x turns h = record { path = h.path; here = h.here; waits = h.waits }
+
+  as_one : (x : ℕ) (turns : List Turn) → AwaitsARecord start x turns → AwaitsOne x turns
+  as_one x turns h = record { path = h.path; here = h.here; waits = h.waits; of = tt }
+
+  pub open_records : RecordsAreAwaited start most
+  open_records = record {
+    begins = λ way v u step h. plainly (round_end values start v + (60000 + way)) u (wait_begins start most mild IsOpen Each from_both v u step way h tt tt);
+    room = λ way v u step h. ⊎_elim (λ waits. inl (plainly (round_end values start v + (60000 + way)) u waits)) (λ room. inr room)
+        (room_or start most mild IsOpen Each from_both v u step way h.path h.here h.side h.unfinished h.near tt tt);
+    on = λ x v u step h. ⊎_elim (λ rises. inl rises) (λ waits. inr (plainly x u waits)) (steps_on start most mild IsOpen Each from_both x v u step (as_one x v h));
+    next = λ x v u step h. ⊎_elim (λ rises. inl rises) (λ waits. inr (plainly x u waits)) (opens_on start most mild IsOpen Each from_both x v u step (as_one x v h));
+    due = λ x v u step h late. none_late start most mild IsOpen Each from_both v u step x (as_one x v h) late;
+  }
 
 pub records_are_awaited_always : RecordsAreAwaitedAlways
-records_are_awaited_always start most mild = record {
-  begins = λ way v u step h. wait_begins start most mild v u step way h;
-  room = λ way v u step h. room_or start most mild v u step way h.path h.here h.side h.unfinished h.near;
-  on = λ x v u step h. steps_on start most mild x v u step h;
-  next = λ x v u step h. opens_on start most mild x v u step h;
-  due = λ x v u step h late. none_late start most mild v u step x h late;
-}
+records_are_awaited_always start most mild = open_records start most mild

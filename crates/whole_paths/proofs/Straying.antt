@@ -1,5 +1,5 @@
 -- Where both ends of path 0 are open, nearly nothing leads an exchange of a mild connection astray.
-use Rattle.std.proofs.Common.{◌≡◌, refl, sym, subst, ap, ◌∙◌, inl, inr, ⊎_elim, arith, ◌≤◌, Bool, true, false, true≢false, not, ◌&&◌, ◌==◌, Some, None, is_some, [], ◌∷◌, ◌++◌}
+use Rattle.std.proofs.Common.{◌≡◌, refl, sym, subst, ap, ◌∙◌, inl, inr, ⊎_elim, arith, ℕ, ◌≤◌, Bool, true, false, true≢false, not, ◌&&◌, ◌==◌, Some, None, is_some, List, [], ◌∷◌, ◌++◌}
 use Rattle.std.specs.List.{list_any, slice_get}
 use Rattle.std.proofs.lemmas.Bool.{both_ways}
 use Rattle.std.proofs.lemmas.Option.{same_Some}
@@ -20,18 +20,19 @@ use Rattle.path_core.specs.Values.{Carried, values}
 use Rattle.world_laws.specs.declared.member.Member.TheVariants.{App, Path}
 use Rattle.world_laws.specs.Actors.{Actor, ActorCrew}
 use Rattle.world_laws.specs.Members.{HoldsOfKind}
-use Rattle.world_laws.specs.Openings.{opened_world}
-use Rattle.world_laws.specs.Worlds.{WorldState, after_turn, world_run}
+use Rattle.world_laws.specs.Openings.{Start, opened_world}
+use Rattle.whole_paths.specs.Finish.{IsPathAt}
+use Rattle.world_laws.specs.Worlds.{Turn, WorldState, after_turn, world_run}
 use Rattle.world_laws.proofs.Weaving.WholeRounds.{run_append}
 use Rattle.whole_paths.specs.AsFar.{IsActorAsFar, IsEndAsFar, IsPathAsFar, stage}
 use Rattle.whole_paths.specs.Brought.{IsToReset}
 use Rattle.whole_paths.specs.Brought.IsToReset.{broken, is_reset, stopped}
 use Rattle.whole_paths.specs.Exchanges.{IsAstray}
 use Rattle.whole_paths.specs.Exchanges.{IsAstray as stray}
-use Rattle.whole_paths.specs.Mild.{IsUnbroken, EndsGoByMappings, EndsHaveKeys, NeverBreaks, HasKeys, IsNeverBroken, KeysAreKnown, MappingIsKept, is_harsh}
+use Rattle.whole_paths.specs.Mild.{IsMildStart, IsUnbroken, EndsGoByMappings, EndsHaveKeys, NeverBreaks, HasKeys, IsNeverBroken, KeysAreKnown, MappingIsKept, is_harsh}
 use Rattle.whole_paths.specs.Owed.{IsToRefuse}
 use Rattle.whole_paths.specs.Owed.{IsToRefuse as refuse}
-use Rattle.whole_paths.specs.Straying.{HardlyStrays, IsHardlyAstray, IsOpen, IsOpenBetween, OpenEndsHardlyStray, WholePathsAreOpen}
+use Rattle.whole_paths.specs.Straying.{HardlyStrays, HardlyStraysFrom, IsHardlyAstray, IsOpen, IsOpenBetween, IsOpenFrom, OpenEndsHardlyStray, SendersHardlyStray, WholePathsAreOpen}
 use Rattle.whole_paths.specs.Straying.{IsHardlyAstray as hardly}
 use Rattle.whole_paths.proofs.Breaking.{never_breaks}
 use Rattle.whole_paths.proofs.Clearing.{Clears, MemberClears, each_clears, never_refuses, never_treats}
@@ -45,37 +46,34 @@ never_resets q unbroken t (broken reason is) = unbroken.broken t reason is
 never_resets q unbroken t (is_reset reason is) = unbroken.is_reset t reason is
 never_resets q unbroken t (stopped is) = unbroken.stopped t is
 
-module _ (p q : PathState Carried) (open_p : IsOpen p) (open_q : IsOpen q) (mapped_p : EndsGoByMappings p) (mapped_q : EndsGoByMappings q) (keys : EndsHaveKeys q) (breaks_p : IsUnbroken p) (breaks_so : IsUnbroken q)
-    (clears_p : (t : Side) → Clears t p.agenda (end_at t p)) (clears : (t : Side) → Clears t q.agenda (end_at t q)) where
-  has_key : (s t : Side) (r : Record) → (end_at t q).modes.peer_key ≡ None → IsHardlyAstray s r p q
-  has_key s A r none = ⊎_elim
-      (λ some. absurd (both_ways (is_some q.a.modes.peer_key) (ap is_some none) some))
-      (λ treats. absurd (never_treats q clears open_q.clear treats))
-      (keys.a (let past = open_q.past A in omega (arith, past)) (open_q.living A))
-  has_key s B r none = absurd (both_ways (is_some q.b.modes.peer_key) (ap is_some none) (keys.b (open_q.clear B)))
+module _ (p q : PathState Carried) (s : Side) (open_p : IsOpenFrom s p) (open_q : IsOpenFrom s q) (mapped_p : EndsGoByMappings p) (mapped_q : EndsGoByMappings q) (keys : EndsHaveKeys q) (breaks_p : IsUnbroken p) (breaks_so : IsUnbroken q)
+    (clears_p : (t : Side) → Clears t p.agenda (end_at t p)) where
+  has_key : (t : Side) (r : Record) → (end_at t q).modes.peer_key ≡ None → IsHardlyAstray s r p q
+  has_key A r none = absurd (both_ways (is_some q.a.modes.peer_key) (ap is_some none) open_q.keyed)
+  has_key B r none = absurd (both_ways (is_some q.b.modes.peer_key) (ap is_some none) (keys.b open_q.sure))
 
-  refused_so : (s : Side) (r : Record) → IsToRefuse (peer s) p.agenda → IsHardlyAstray s r p q
-  refused_so s r (refuse.refuses others is) = absurd (true≢false (sym (ap (λ ds. list_any is_harsh ds) is) ∙ breaks_p.duties))
-  refused_so s r (refuse.answers others is) = absurd (never_refuses p (peer s) clears_p (open_p.living (peer s)) others is)
+  refused_so : (r : Record) → IsToRefuse (peer s) p.agenda → IsHardlyAstray s r p q
+  refused_so r (refuse.refuses others is) = absurd (true≢false (sym (ap (λ ds. list_any is_harsh ds) is) ∙ breaks_p.duties))
+  refused_so r (refuse.answers others is) = absurd (never_refuses p (peer s) clears_p (open_p.living (peer s)) others is)
 
-  strays_so : (s : Side) (r : Record) → IsAstray s r p q → IsHardlyAstray s r p q
-  strays_so s r (stray.reset is) = absurd (never_resets q breaks_so (peer s) is)
-  strays_so s r (stray.resets is) = refused_so s r is
-  strays_so s r (stray.behind_fin is) = hardly.behind_fin is
-  strays_so s r (stray.unopened low) = absurd (let past = open_p.past (peer s) in omega (arith, past, low))
-  strays_so s r (stray.half_open low passed) = absurd (let past = open_p.past (peer s) in omega (arith, past, low))
-  strays_so s r (stray.unsure is) = absurd (both_ways (end_at (peer s) q).modes.clear is.clear (open_q.clear (peer s)))
-  strays_so s r (stray.unkeyed none) = has_key s (peer s) r none
-  strays_so s r (stray.plain t (inl is)) = absurd (both_ways (end_at t p).modes.identity (mapped_p t).identity is)
-  strays_so s r (stray.plain t (inr is)) = absurd (both_ways (end_at t q).modes.identity (mapped_q t).identity is)
-  strays_so s r (stray.infinite (inl is)) = absurd (both_ways (is_some (end_at s p).modes.own_infinite) (ap is_some (mapped_p s).own) is)
-  strays_so s r (stray.infinite (inr is)) = absurd (both_ways (is_some (end_at (peer s) p).modes.peer_infinite) (ap is_some ((mapped_p (peer s)).peer open_p.first)) is)
-  strays_so s r (stray.past_window far) = hardly.past_window far
-  strays_so s r (stray.fails (inl is)) = absurd (breaks_p.fails (peer s) is)
-  strays_so s r (stray.fails (inr is)) = absurd (both_ways (is_some (failing_mapping p.profile (end_at (peer s) p))) (ap is_some (mapped_p (peer s)).right) is)
-  strays_so s r (stray.untold sums reads mapped) = hardly.untold sums reads
-  strays_so s r (stray.partial is) = hardly.partial is
-  strays_so s r (stray.first_piece is) = absurd (both_ways _ (ap (λ b. is_side_a s && (not b && r.pos == 1)) (open_p.clear s) ∙ never (is_side_a s)) is)
+  strays_so : (r : Record) → IsAstray s r p q → IsHardlyAstray s r p q
+  strays_so r (stray.reset is) = absurd (never_resets q breaks_so (peer s) is)
+  strays_so r (stray.resets is) = refused_so r is
+  strays_so r (stray.behind_fin is) = hardly.behind_fin is
+  strays_so r (stray.unopened low) = absurd (let past = open_p.past (peer s) in omega (arith, past, low))
+  strays_so r (stray.half_open low passed) = absurd (let past = open_p.past (peer s) in omega (arith, past, low))
+  strays_so r (stray.unsure is) = absurd (both_ways q.b.modes.clear (subst (λ t. (end_at t q).modes.clear ≡ false) is.at_b is.clear) open_q.sure)
+  strays_so r (stray.unkeyed none) = has_key (peer s) r none
+  strays_so r (stray.plain t (inl is)) = absurd (both_ways (end_at t p).modes.identity (mapped_p t).identity is)
+  strays_so r (stray.plain t (inr is)) = absurd (both_ways (end_at t q).modes.identity (mapped_q t).identity is)
+  strays_so r (stray.infinite (inl is)) = absurd (both_ways (is_some (end_at s p).modes.own_infinite) (ap is_some (mapped_p s).own) is)
+  strays_so r (stray.infinite (inr is)) = absurd (both_ways (is_some (end_at (peer s) p).modes.peer_infinite) (ap is_some ((mapped_p (peer s)).peer open_p.first)) is)
+  strays_so r (stray.past_window far) = hardly.past_window far
+  strays_so r (stray.fails (inl is)) = absurd (breaks_p.fails (peer s) is)
+  strays_so r (stray.fails (inr is)) = absurd (both_ways (is_some (failing_mapping p.profile (end_at (peer s) p))) (ap is_some (mapped_p (peer s)).right) is)
+  strays_so r (stray.untold sums reads mapped) = hardly.untold sums reads
+  strays_so r (stray.partial is) = hardly.partial is
+  strays_so r (stray.first_piece is) = absurd (both_ways _ (ap (λ b. is_side_a s && (not b && r.pos == 1)) open_p.clear ∙ never (is_side_a s)) is)
     where
       never : (b : Bool) → (b && false) ≡ false
       never true = refl
@@ -84,20 +82,61 @@ module _ (p q : PathState Carried) (open_p : IsOpen p) (open_q : IsOpen q) (mapp
 abbrev OfPaths : (PathState Carried → Type 0) → Actor Carried → Type 0
 OfPaths P = HoldsOfKind (λ app. Unit {0}) P
 
-member_strays : (m n : Actor Carried) → OfPaths EndsGoByMappings m → OfPaths EndsGoByMappings n → OfPaths HasKeys n → OfPaths IsNeverBroken m → OfPaths IsNeverBroken n → MemberClears m → MemberClears n → HardlyStrays m n
-member_strays (Path p) (Path q) mapped_p mapped_q keys breaks_p breaks_so clears_p clears = λ open_p open_q s r is. strays_so p q open_p open_q mapped_p mapped_q (keys open_q.first) (breaks_p open_p.first) (breaks_so open_q.first) (clears_p open_p.first) (clears open_q.first) s r is
-member_strays (Path p) (App b) mapped_p mapped_q keys breaks_p breaks_so clears_p clears = tt
-member_strays (App a) n mapped_p mapped_q keys breaks_p breaks_so clears_p clears = tt
+member_from : (m n : Actor Carried) → OfPaths EndsGoByMappings m → OfPaths EndsGoByMappings n → OfPaths HasKeys n → OfPaths IsNeverBroken m → OfPaths IsNeverBroken n → MemberClears m → HardlyStraysFrom m n
+member_from (Path p) (Path q) mapped_p mapped_q keys breaks_p breaks_so clears_p = λ s open_p open_q r is. strays_so p q s open_p open_q mapped_p mapped_q (keys open_q.first) (breaks_p open_p.first) (breaks_so open_q.first) (clears_p open_p.first) r is
+member_from (Path p) (App b) mapped_p mapped_q keys breaks_p breaks_so clears_p = tt
+member_from (App a) n mapped_p mapped_q keys breaks_p breaks_so clears_p = tt
+
+module _ (start : Start) (turns : List Turn) (turn : Turn) (mild : IsMildStart start) where
+  abbrev v : WorldState Carried
+  v = after_turn values turn (world_run values turns (opened_world start))
+
+  same : world_run values (turns ++ turn ∷ []) (opened_world start) ≡ v
+  same = run_append values turns (turn ∷ []) (opened_world start)
+
+  keys_after : KeysAreKnown v
+  keys_after = subst KeysAreKnown same (keys_are_known start (turns ++ turn ∷ []) mild)
+
+  stray_from : (actor : ℕ) (c d : ActorCrew Carried) → slice_get (world_run values turns (opened_world start)).crew actor ≡ Some c → slice_get v.crew actor ≡ Some d → HardlyStraysFrom c.member d.member
+  stray_from actor c d was now =
+      let mapped : MappingIsKept v = subst MappingIsKept same (mapping_is_kept start (turns ++ turn ∷ []) mild) in
+      let breaks_so : NeverBreaks v = subst NeverBreaks same (never_breaks start (turns ++ turn ∷ []) mild) in
+      member_from c.member d.member ((mapping_is_kept start turns mild).each actor c was) (mapped.each actor d now) (keys_after.each actor d now) ((never_breaks start turns mild).each actor c was) (breaks_so.each actor d now) ((each_clears values start turns).each actor c was)
+
+pub senders_hardly_stray : SendersHardlyStray
+senders_hardly_stray start turns turn mild actor c d was now = stray_from start turns turn mild actor c d was now
+
+-- ---- where both ends may send a DSS
+
+-- A's end knows B's key
+a_knows : (p : PathState Carried) → EndsHaveKeys p → ((t : Side) → Clears t p.agenda (end_at t p)) → IsOpen p → is_some p.a.modes.peer_key ≡ true
+a_knows p keys clears open_p = ⊎_elim (λ some. some) (λ treats. absurd (never_treats p clears open_p.clear treats)) (keys.a (let past = open_p.past A in omega (arith, past)) (open_p.living A))
+
+from_open : (s : Side) (p : PathState Carried) → HasKeys p → MemberClears (Path p) → IsOpen p → IsOpenFrom s p
+from_open s p keys clears open_p = record {
+  first = open_p.first;
+  past = open_p.past;
+  living = open_p.living;
+  clear = open_p.clear s;
+  sure = open_p.clear B;
+  keyed = a_knows p (keys open_p.first) (clears open_p.first) open_p;
+}
+
+-- such a path is open from both
+pub open_from : (start : Start) (turns : List Turn) → IsMildStart start → (p : PathState Carried) → IsPathAt 0 (world_run values turns (opened_world start)) p → IsOpen p → (s : Side) → IsOpenFrom s p
+open_from start turns mild p here open_p s = from_open s p (subst (OfPaths HasKeys) here.is ((keys_are_known start turns mild).each 2 here.crew here.there))
+    (subst MemberClears here.is ((each_clears values start turns).each 2 here.crew here.there)) open_p
+
+member_strays : (m n : Actor Carried) → HardlyStraysFrom m n → OfPaths HasKeys m → OfPaths HasKeys n → MemberClears m → MemberClears n → HardlyStrays m n
+member_strays (Path p) (Path q) strays keys_p keys clears_p clears = λ open_p open_q s r is. strays s (from_open s p keys_p clears_p open_p) (from_open s q keys clears open_q) r is
+member_strays (Path p) (App b) strays keys_p keys clears_p clears = tt
+member_strays (App a) n strays keys_p keys clears_p clears = tt
 
 pub open_ends_hardly_stray : OpenEndsHardlyStray
 open_ends_hardly_stray start turns turn mild actor c d was now =
-    let v : WorldState Carried = after_turn values turn (world_run values turns (opened_world start)) in
-    let same : world_run values (turns ++ turn ∷ []) (opened_world start) ≡ v = run_append values turns (turn ∷ []) (opened_world start) in
-    let mapped : MappingIsKept v = subst MappingIsKept same (mapping_is_kept start (turns ++ turn ∷ []) mild) in
-    let keys : KeysAreKnown v = subst KeysAreKnown same (keys_are_known start (turns ++ turn ∷ []) mild) in
-    let breaks_so : NeverBreaks v = subst NeverBreaks same (never_breaks start (turns ++ turn ∷ []) mild) in
-    let clears = subst (λ (x : WorldState Carried). Every (λ (y : ActorCrew Carried). MemberClears y.member) x.crew) same (each_clears values start (turns ++ turn ∷ [])) in
-    member_strays c.member d.member ((mapping_is_kept start turns mild).each actor c was) (mapped.each actor d now) (keys.each actor d now) ((never_breaks start turns mild).each actor c was) (breaks_so.each actor d now) ((each_clears values start turns).each actor c was) (clears.each actor d now)
+    let clears = subst (λ (x : WorldState Carried). Every (λ (y : ActorCrew Carried). MemberClears y.member) x.crew) (same start turns turn mild) (each_clears values start (turns ++ turn ∷ [])) in
+    member_strays c.member d.member (stray_from start turns turn mild actor c d was now) ((keys_are_known start turns mild).each actor c was) ((keys_after start turns turn mild).each actor d now)
+    ((each_clears values start turns).each actor c was) (clears.each actor d now)
 
 -- ---- a path that is whole, and still is later
 

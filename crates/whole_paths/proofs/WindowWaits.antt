@@ -111,7 +111,7 @@ module _ (start : Start) (plan : PathPlan) (one : start.paths ≡ plan ∷ []) (
       by_turn halted steps awry (goes.record_waits r arrival low none first way) = inl (sends_counts s r none first)
       by_turn halted steps awry (goes.done none) = absurd (none (outstanding.shut halted.shut))
       by_turn halted steps awry (goes.held_up held) = inl (here start mild turns turn before after (λ m n. HoldUpsCount Rises m n)
-          (what_holds_up_counts start turns turn before.here.crew after.here.crew before.here.there after.here.there) before.is_open after.is_open before.few s held)
+          (what_holds_up_counts start turns turn before.here.crew after.here.crew before.here.there after.here.there) before.is_open.living after.is_open.living before.few s held)
       by_turn halted steps awry (goes.awry is) = strays (awry before.is_open after.is_open s is)
 
       -- the side halts still, or that counts

@@ -1,5 +1,5 @@
 -- How far a connection is, by what can't be lost again: one moment is as far as another one.
-use Rattle.std.specs.Prelude.{ℕ, ◌≡◌, ◌≤◌, true, Some, List, ◌++◌, length, slice_get}
+use Rattle.std.specs.Prelude.{ℕ, ◌≡◌, ◌≤◌, true, is_some, Some, List, ◌++◌, length, slice_get}
 use Rattle.octet_text.specs.Prefix.{IsPrefix}
 use Rattle.sides.specs.declared.side.Side.{Side}
 use Rattle.send_book.specs.Laws.{IsAckedAt}
@@ -56,6 +56,8 @@ pub record IsEndAsFar (e f : PathEnd) : Type 0 where
   pub stream : IsStreamAsFar e.sending f.sending
   -- the end may send a DSS
   pub clear : e.modes.clear ≡ true → f.modes.clear ≡ true
+  -- it knows its peer's key
+  pub keyed : is_some e.modes.peer_key ≡ true → is_some f.modes.peer_key ≡ true
 
 -- ---- a path
 

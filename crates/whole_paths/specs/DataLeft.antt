@@ -11,7 +11,8 @@ use Rattle.world_laws.specs.Openings.{Start}
 use Rattle.world_laws.specs.Promises.{HasRoom, NumbersFit}
 use Rattle.world_laws.specs.RoundDone.{reached}
 use Rattle.world_laws.specs.Worlds.{Turn}
-use Rattle.whole_paths.specs.Straying.{IsOpen}
+use Rattle.subflow_tcp.specs.States.{is_dead}
+use Rattle.whole_paths.specs.AsFar.{stage}
 use Rattle.path_core.specs.End.{PathEnd}
 
 -- a record is one of data, and SND.UNA lies before its end, and SND.NXT not
@@ -20,10 +21,10 @@ pub record IsData (r : Record) (e : PathEnd) : Type 0 where
   pub left : e.tcp.send.una < end_of r
   pub within : end_of r ≤ e.tcp.send.nxt
 
--- such a record is the first one of an open end that sent no FIN, or has more than the FIN to be acknowledged
+-- such a record is the first one of an end that is past the handshake and not dead, and sent no FIN, or has more than the FIN to be acknowledged
 abbrev pub HasDataLeft : PathState Carried → Type 0
-HasDataLeft p = IsOpen p → (s : Side) → ((end_at s p).tcp.send.finished ≡ false) ⊎ ((end_at s p).tcp.send.una + 1 < (end_at s p).tcp.send.nxt)
-    → (r : Record) (others : List Record)
+HasDataLeft p = (s : Side) → 3 ≤ stage (end_at s p).tcp.state → is_dead (end_at s p).tcp.state ≡ false → ((end_at s p).tcp.send.finished ≡ false)
+    ⊎ ((end_at s p).tcp.send.una + 1 < (end_at s p).tcp.send.nxt) → (r : Record) (others : List Record)
     → (end_at s p).tcp.send.records ≡ r ∷ others → IsData r (end_at s p)
 
 -- on path 0, at every moment

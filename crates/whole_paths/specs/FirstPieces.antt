@@ -25,7 +25,7 @@ use Rattle.whole_paths.specs.AsFar.{stage}
 use Rattle.whole_paths.specs.Exchanges.{IsFaithful, IsHeldUp}
 use Rattle.whole_paths.specs.Flights.{IsOnItsWay, IsSentSo}
 use Rattle.whole_paths.specs.Harms.{longest_way}
-use Rattle.whole_paths.specs.Mild.{IsMildStart, treats_answer}
+use Rattle.whole_paths.specs.Mild.{IsMildStart}
 use Rattle.whole_paths.specs.News.{Counts}
 use Rattle.whole_paths.specs.OpeningConfirmed.{IsConfirmed}
 
@@ -55,8 +55,6 @@ pub data FirstPieceGoesOn (x : ℕ) (p q : PathState Carried) : Type 0 where
   -- what counts came between, as that an end may send a DSS
   counts : Counts p q → FirstPieceGoesOn x p q
   held_up : (s : Side) → IsHeldUp s p q → FirstPieceGoesOn x p q
-  -- A's end treats a SYN/ACK
-  answered : treats_answer q.agenda ≡ true → FirstPieceGoesOn x p q
 
 -- as the path becomes this actor, with fewer than 2^64 - 1 segments sent from each side
 abbrev pub FirstPiecesGoOn : Actor Carried → Actor Carried → Type 0

@@ -65,6 +65,9 @@ pub mod ShutWaits
 pub mod Saying
 pub mod Sent
 pub mod SentByTurns
+pub mod OpeningStates
+pub mod OpeningWaits
+pub mod SenderWaits
 pub mod Shut
 pub mod StayingWhole
 pub mod Straying

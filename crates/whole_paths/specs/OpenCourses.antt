@@ -1,9 +1,10 @@
 -- The course of a mild connection between two moments at which path 0 is whole: its ends are open at each moment, and what holds up an exchange
 -- is counted.
-use Rattle.std.specs.Prelude.{ℕ, suc, ◌+◌, ◌-◌, ◌*◌, ◌^◌, ◌≡◌, ◌<◌, ◌≤◌, Some, List, [], ◌∷◌, ◌++◌, slice_get}
+use Rattle.std.specs.Prelude.{ℕ, suc, ◌+◌, ◌-◌, ◌*◌, ◌^◌, ◌≡◌, ◌<◌, ◌≤◌, false, Some, List, [], ◌∷◌, ◌++◌, slice_get}
 use Rattle.sides.specs.declared.side.Side.{Side}
 use Rattle.link_model.specs.Steps.{segments_sent}
-use Rattle.path_core.specs.State.{PathState}
+use Rattle.subflow_tcp.specs.States.{is_dead}
+use Rattle.path_core.specs.State.{PathState, end_at}
 use Rattle.path_core.specs.Values.{Carried, values}
 use Rattle.world_laws.specs.declared.member.Member.TheVariants.{Path}
 use Rattle.world_laws.specs.Actors.{Actor, ActorCrew}
@@ -20,14 +21,18 @@ use Rattle.whole_paths.specs.Straying.{IsOpen}
 
 -- ---- a moment
 
--- Both ends of path 0 are open. No line takes options away or alters payload, and the link took
+-- This holds of path 0. No line takes options away or alters payload, and the link took
 -- fewer than 2^64 - 1 segments from each side.
-pub record IsOpenNow (w : WorldState Carried) : Type 0 where
+pub record IsNow (Holds : PathState Carried → Type 0) (w : WorldState Carried) : Type 0 where
   pub path : PathState Carried
   pub here : IsPathAt 0 w path
-  pub is_open : IsOpen path
+  pub is_open : Holds path
   pub faithful : IsFaithful path
   pub few : (s : Side) → segments_sent s path.link < 2 ^ 64 - 1
+
+-- both ends of it are open
+abbrev pub IsOpenNow : WorldState Carried → Type 0
+IsOpenNow w = IsNow IsOpen w
 
 -- after these turns
 abbrev pub IsOpenAfter : Start → List Turn → Type 0
@@ -35,9 +40,9 @@ IsOpenAfter start turns = IsOpenNow (reached values start turns)
 
 -- ---- what holds an exchange up
 
--- as a path becomes this actor, and its ends stay open
+-- as a path becomes this actor, and none of its ends is dead before or after
 abbrev pub HoldUpsCount : Type 0 → Actor Carried → Actor Carried → Type 0
-HoldUpsCount Counted (Path p) (Path q) = IsOpen p → IsOpen q → ((s : Side) → segments_sent s p.link < 2 ^ 64 - 1) → (s : Side) → IsHeldUp s p q → Counted
+HoldUpsCount Counted (Path p) (Path q) = ((s : Side) → is_dead (end_at s p).tcp.state ≡ false) → ((s : Side) → is_dead (end_at s q).tcp.state ≡ false) → ((s : Side) → segments_sent s p.link < 2 ^ 64 - 1) → (s : Side) → IsHeldUp s p q → Counted
 HoldUpsCount Counted _ _ = Unit {0}
 
 -- by any turn

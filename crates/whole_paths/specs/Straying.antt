@@ -1,5 +1,5 @@
 -- What may come between in an exchange of a mild connection, where both ends of path 0 are open and may send a DSS.
-use Rattle.std.specs.Prelude.{ℕ, ◌+◌, ◌≡◌, ◌<◌, ◌≤◌, true, false, Some, List, ◌++◌, slice_get}
+use Rattle.std.specs.Prelude.{ℕ, ◌+◌, ◌≡◌, ◌<◌, ◌≤◌, true, false, is_some, Some, List, ◌++◌, slice_get}
 use Rattle.sides.specs.declared.side.Side.{Side}
 use Rattle.sides.specs.Side.{peer}
 use Rattle.fallback_state.specs.Modes.{reads_mappings}
@@ -26,6 +26,16 @@ pub record IsOpen (p : PathState Carried) : Type 0 where
   pub living : (s : Side) → is_dead (end_at s p).tcp.state ≡ false
   pub clear : (s : Side) → (end_at s p).modes.clear ≡ true
 
+-- Path 0, whose ends are past the handshake and aren't dead: this side's end may send a DSS, and so may B's, and A's knows B's key. So it is from
+-- B on before A may send one.
+pub record IsOpenFrom (s : Side) (p : PathState Carried) : Type 0 where
+  pub first : is_joined p.profile ≡ false
+  pub past : (t : Side) → 3 ≤ stage (end_at t p).tcp.state
+  pub living : (t : Side) → is_dead (end_at t p).tcp.state ≡ false
+  pub clear : (end_at s p).modes.clear ≡ true
+  pub sure : p.b.modes.clear ≡ true
+  pub keyed : is_some p.a.modes.peer_key ≡ true
+
 -- of all that leads an exchange astray this is left
 pub data IsHardlyAstray (s : Side) (r : Record) (p q : PathState Carried) : Type 0 where
   -- the peer is past the end's FIN
@@ -41,7 +51,16 @@ abbrev pub HardlyStrays : Actor Carried → Actor Carried → Type 0
 HardlyStrays (Path p) (Path q) = IsOpen p → IsOpen q → (s : Side) (r : Record) → IsAstray s r p q → IsHardlyAstray s r p q
 HardlyStrays _ _ = Unit {0}
 
+-- and is open from the side that sends
+abbrev pub HardlyStraysFrom : Actor Carried → Actor Carried → Type 0
+HardlyStraysFrom (Path p) (Path q) = (s : Side) → IsOpenFrom s p → IsOpenFrom s q → (r : Record) → IsAstray s r p q → IsHardlyAstray s r p q
+HardlyStraysFrom _ _ = Unit {0}
+
 -- by any turn of a mild connection
+abbrev pub SendersHardlyStray : Type 0
+SendersHardlyStray = (start : Start) (turns : List Turn) (turn : Turn) → IsMildStart start → let w = world_run values turns (opened_world start) in
+    (actor : ℕ) (c d : ActorCrew Carried) → slice_get w.crew actor ≡ Some c → slice_get (after_turn values turn w).crew actor ≡ Some d → HardlyStraysFrom c.member d.member
+
 abbrev pub OpenEndsHardlyStray : Type 0
 OpenEndsHardlyStray = (start : Start) (turns : List Turn) (turn : Turn) → IsMildStart start → let w = world_run values turns (opened_world start) in
     (actor : ℕ) (c d : ActorCrew Carried) → slice_get w.crew actor ≡ Some c → slice_get (after_turn values turn w).crew actor ≡ Some d

@@ -20,13 +20,15 @@ ghost use Rattle.whole_paths.specs.OpenAsks.{OpenAsksAreInTime, OpenAsksGoOn, Op
 ghost use Rattle.whole_paths.specs.OnlyPaths.{long_patience};
 ghost use Rattle.whole_paths.specs.OverOctets.{FewLossesFinishAsOverValues, OctetsAreAsFarAsValues, OnePathEndsAsOverValues, BriefPathsDeliverAsOverValues, WholePathsDeliverAsOverValues};
 ghost use Rattle.whole_paths.specs.OpenCourses.{WhatHoldsUpCounts};
+ghost use Rattle.whole_paths.specs.OpeningWaits.{EndsOpenOrArePast, OpeningsAreAwaited};
 ghost use Rattle.whole_paths.specs.Outstanding.{WhatIsOutstandingIsAwaited};
 ghost use Rattle.whole_paths.specs.Overruns.{NoEndOverruns};
 ghost use Rattle.whole_paths.specs.RecordWaits.{NoRoundCounts, RecordsAreAwaitedAlways};
+ghost use Rattle.whole_paths.specs.SenderWaits.{SendersAreAwaited};
 ghost use Rattle.whole_paths.specs.ShutWaits.{ShutWindowsOpenInTime};
 ghost use Rattle.whole_paths.specs.ShutWindows.{ShutWindowsHaveRoom};
 ghost use Rattle.whole_paths.specs.StayingWhole.{WholePathsStayWhole};
-ghost use Rattle.whole_paths.specs.Straying.{OpenEndsHardlyStray, WholePathsAreOpen};
+ghost use Rattle.whole_paths.specs.Straying.{OpenEndsHardlyStray, SendersHardlyStray, WholePathsAreOpen};
 ghost use Rattle.whole_paths.specs.Unstopped.{MildPathsAreNeverStopped};
 ghost use Rattle.whole_paths.specs.WindowWaits.{WindowsAreAwaitedAlways};
 
@@ -74,9 +76,11 @@ pub fn mild_paths_are_never_stopped()
 /// and aren't dead, before a turn and after it: a FIN that an end is past, or more sent than the window has room for. Neither end is to be
 /// reset or fell back, each knows its peer's key, neither treats the SYN/ACK, and none refuses a copy, or answers one by a reset.
 ///
-/// Such are both ends of path 0 by each turn between two moments at which it is whole (`between`).
+/// Such are both ends of path 0 by each turn between two moments at which it is whole (`between`). An exchange of B's goes astray by them
+/// alone as soon as B may send a DSS and A knows B's key, though A may send none yet (`senders`).
 pub fn open_ends_hardly_stray()
     ensures stray { OpenEndsHardlyStray }
+    ensures senders { SendersHardlyStray }
     ensures between { WholePathsAreOpen }
 {}
 
@@ -136,6 +140,26 @@ pub fn no_round_counts()
 /// end's window and sent its FIN behind, for the peer's first one, which didn't come.
 pub fn records_are_awaited_always()
     ensures { RecordsAreAwaitedAlways }
+{}
+
+/// A law: so does a wait for a record of one side where the other end may not send a DSS yet, once B may, and A knows B's key.
+///
+/// That is B's record while A waits for the first DSS (RFC 8684, section 3.1): both ends are past the handshake and aren't dead. The wait begins
+/// as in `records_are_awaited_always`, where the end's own window has room for all that its peer sent.
+pub fn senders_are_awaited()
+    ensures { SendersAreAwaited }
+{}
+
+/// A law: while path 0 of a mild connection opens, and no end of it is dead, a SYN is awaited, or the answer to B's SYN/ACK that comes again,
+/// until something is counted (RFC 9293, section 3.5).
+///
+/// As a round is over with an end that opens, or B half-open and A past the handshake, the wait begins (`each_syn_comes`, `each_syn_ack_is_answered`), for a minute and
+/// the longest time there and back; it is never late. Where A's end has finished all of its stream is with the peer.
+/// At each moment an end of a path opens so, or both are past the handshake, or A's waits for its tick, or one is past it whose peer hasn't its
+/// SYN (`which`).
+pub fn openings_are_awaited()
+    ensures waits { OpeningsAreAwaited }
+    ensures which { EndsOpenOrArePast }
 {}
 
 /// A law: what an open end of the only path of a mild connection asks for, the Data ACK of its DATA_FIN or of a piece (`each_ask_is_answered`),

@@ -33,6 +33,7 @@ ghost use Rattle.whole_paths.specs.Ends.{EndsAreSent};
 ghost use Rattle.whole_paths.specs.Exchanges.{EachRecordIsAcknowledged};
 ghost use Rattle.whole_paths.specs.Expiries.{WhatRunsOutGoesAgain};
 ghost use Rattle.whole_paths.specs.FirstPieces.{EachFirstPieceComes};
+ghost use Rattle.whole_paths.specs.OpeningStates.{EndsGoByTheHandshake};
 ghost use Rattle.whole_paths.specs.Flights.{WhatWaitsComes};
 ghost use Rattle.whole_paths.specs.Harms.{EachUsesALineOrComes, PlainDirectionsHandOnAtOnce};
 ghost use Rattle.whole_paths.specs.Hearing.{EachAcknowledgementCounts};
@@ -659,6 +660,13 @@ pub fn copies_arrive_as_sent()
     ensures values { Always values (λ start w. CopiesArriveAsSent w) }
 {}
 
+/// A law: until its handshake is done A's end of a path waits for its tick, or sent its SYN, and B's listens, or is half-open, always (RFC
+/// 9293, section 3.3.2).
+pub fn ends_go_by_the_handshake()
+    ensures octets { EndsGoByTheHandshake octets }
+    ensures values { EndsGoByTheHandshake values }
+{}
+
 /// A law: the SYN of A on path 0 comes to B while that listens, and the SYN/ACK of B to A while A waits for it, whatever is lost: an end goes
 /// further then (RFC 9293, section 3.5).
 ///
@@ -672,7 +680,7 @@ pub fn each_syn_comes()
 /// the SYN: B hears them in its turn, and may send a DSS by then (RFC 8684, section 3.1).
 ///
 /// Where a turn is over it comes within a minute and the longest time on its way (`begin`, `end`). By each turn of a mild connection that stays so,
-/// or something counts, or the exchange is held up, or a SYN/ACK is treated (`goes_on`).
+/// or something counts, or the exchange is held up (`goes_on`).
 pub fn each_first_piece_comes()
     ensures { EachFirstPieceComes }
 {}
