@@ -29,6 +29,7 @@ pub mod Due
 pub mod EndSteps
 pub mod Exchanges
 pub mod Expiries
+pub mod ExpiriesInARow
 pub mod Finish
 pub mod Flights
 pub mod GoingOn

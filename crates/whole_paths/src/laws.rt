@@ -32,6 +32,7 @@ ghost use Rattle.whole_paths.specs.Due.{CopiesArriveAsSent};
 ghost use Rattle.whole_paths.specs.Ends.{EndsAreSent};
 ghost use Rattle.whole_paths.specs.Exchanges.{EachRecordIsAcknowledged};
 ghost use Rattle.whole_paths.specs.Expiries.{WhatRunsOutGoesAgain};
+ghost use Rattle.whole_paths.specs.ExpiriesInARow.{ExpiriesAloneCount};
 ghost use Rattle.whole_paths.specs.FirstPieces.{EachFirstPieceComes};
 ghost use Rattle.whole_paths.specs.Flights.{WhatWaitsComes};
 ghost use Rattle.whole_paths.specs.Harms.{EachUsesALineOrComes, PlainDirectionsHandOnAtOnce};
@@ -169,6 +170,15 @@ pub fn who_waits_has_a_timer()
 pub fn no_timer_is_put_off()
     ensures octets { NoTimerIsPutOff octets }
     ensures values { NoTimerIsPutOff values }
+{}
+
+/// A law: nothing but an expiry makes the expiries of an end in a row more, and each makes them one more (RFC 6298, section 5).
+///
+/// By any turn an end has no more of them than before, or its timer ran out, which was what came next on the path, for the fifth time at
+/// most, and there is one more.
+pub fn expiries_alone_count()
+    ensures octets { ExpiriesAloneCount octets }
+    ensures values { ExpiriesAloneCount values }
 {}
 
 /// A law: a timer that runs goes on to the same tick, whatever it runs for, until nothing of its end is outstanding (RFC 6298, section 5,
