@@ -55,6 +55,11 @@ module _ {C : Type 0} where
         → IsPathAt 0 w p → IsPathAt 0 v q → Comes s w → Comes s v ⊎ ((1 ≤ harmed k 0 (turn ∷ []) w) ⊎ (in_a_row (end_at s q) ≡ 0))
     pub due : (w : WorldState C) → Holds w → (s : Side) (p : PathState C) → IsPathAt 0 w p → Comes s w → (tick : ℕ) → RunsOut s tick p → ⊥
 
+-- at each moment of a run this holds
+abbrev pub HoldsAlong : {C : Type 0} → Codec C → (WorldState C → Type 0) → List Turn → WorldState C → Type 0
+HoldsAlong k Holds [] w = Holds w
+HoldsAlong k Holds (turn ∷ turns) w = Holds w × HoldsAlong k Holds turns (after_turn k turn w)
+
 -- ---- what is promised of few losses
 
 module _ {C : Type 0} (k : Codec C) where
