@@ -31,6 +31,7 @@ pub mod Due
 pub mod Duties
 pub mod Exchanges
 pub mod ExpiriesInARow
+pub mod Deaths
 pub mod FewLosses
 pub mod Finished
 pub mod FinishedThere

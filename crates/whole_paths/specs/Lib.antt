@@ -30,6 +30,7 @@ pub mod EndSteps
 pub mod Exchanges
 pub mod Expiries
 pub mod ExpiriesInARow
+pub mod Deaths
 pub mod Finish
 pub mod Flights
 pub mod GoingOn
