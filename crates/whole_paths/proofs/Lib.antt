@@ -30,6 +30,9 @@ pub mod Delivery
 pub mod Due
 pub mod Duties
 pub mod Exchanges
+pub mod ExpiriesInARow
+pub mod Deaths
+pub mod FewLosses
 pub mod Finished
 pub mod FinishedThere
 pub mod Flying

@@ -29,6 +29,8 @@ pub mod Due
 pub mod EndSteps
 pub mod Exchanges
 pub mod Expiries
+pub mod ExpiriesInARow
+pub mod Deaths
 pub mod Finish
 pub mod Flights
 pub mod GoingOn

@@ -28,10 +28,12 @@ ghost use Rattle.whole_paths.specs.DataAcksExchanged.{EachAskIsAnswered};
 ghost use Rattle.whole_paths.specs.DataAcksHeard.{EachDataAckCounts, EachDataAckIsSaid};
 ghost use Rattle.whole_paths.specs.DataAcksNow.{OnlyPathsAreUpToDate};
 ghost use Rattle.whole_paths.specs.DataAcksOwed.{WhatIsOwedHasADataAck};
+ghost use Rattle.whole_paths.specs.Deaths.{EndsDieOfTheirCauses};
 ghost use Rattle.whole_paths.specs.Due.{CopiesArriveAsSent};
 ghost use Rattle.whole_paths.specs.Ends.{EndsAreSent};
 ghost use Rattle.whole_paths.specs.Exchanges.{EachRecordIsAcknowledged};
 ghost use Rattle.whole_paths.specs.Expiries.{WhatRunsOutGoesAgain};
+ghost use Rattle.whole_paths.specs.ExpiriesInARow.{ExpiriesAloneCount};
 ghost use Rattle.whole_paths.specs.FirstPieces.{EachFirstPieceComes};
 ghost use Rattle.whole_paths.specs.OpeningStates.{EndsGoByTheHandshake};
 ghost use Rattle.whole_paths.specs.Flights.{WhatWaitsComes};
@@ -170,6 +172,24 @@ pub fn who_waits_has_a_timer()
 pub fn no_timer_is_put_off()
     ensures octets { NoTimerIsPutOff octets }
     ensures values { NoTimerIsPutOff values }
+{}
+
+/// A law: nothing but an expiry makes the expiries of an end in a row more, and each makes them one more (RFC 6298, section 5).
+///
+/// By any turn an end has no more of them than before, or its timer ran out, which was what came next on the path, for the fifth time at
+/// most, and there is one more.
+pub fn expiries_alone_count()
+    ensures octets { ExpiriesAloneCount octets }
+    ensures values { ExpiriesAloneCount values }
+{}
+
+/// A law: an end dies by the sixth expiry in a row, by the line by which its path dies, by a reset that counts (RFC 9293, section
+/// 3.10.7.4), as it may not join, or by a duty that resets it; by nothing else.
+///
+/// By any turn an end that is dead afterwards was dead before, or one of these came next on its path.
+pub fn ends_die_of_their_causes()
+    ensures octets { EndsDieOfTheirCauses octets }
+    ensures values { EndsDieOfTheirCauses values }
 {}
 
 /// A law: a timer that runs goes on to the same tick, whatever it runs for, until nothing of its end is outstanding (RFC 6298, section 5,
