@@ -69,6 +69,7 @@ pub mod MappedCopies
 pub mod Mapping
 pub mod Mild
 pub mod Moving
+pub mod PaidRounds
 pub mod Passing
 pub mod Paying
 pub mod Pieces
