@@ -54,6 +54,7 @@ pub mod OnlyPaths
 pub mod Outstanding
 pub mod OverOctets
 pub mod Owed
+pub mod PaidCourses
 pub mod PaidRounds
 pub mod Passed
 pub mod Probes
