@@ -128,8 +128,8 @@ module _ {C : Type 0} (k : Codec C) where
 
       -- ---- where waits are paid
 
-      module _ (most_paid longest : ℕ) (Pays : ℕ → List Turn → Type 0) (x : PaidExchanges k start Holds most most_paid longest Over Pays Waits) where
-        pays_its_way : PaysItsWay system Pays most_paid longest
+      module _ (most_paid : ℕ) (Pays : ℕ → List Turn → Type 0) (x : PaidExchanges k start Holds most most_paid Over Pays Waits) where
+        pays_its_way : PaysItsWay system Pays most_paid
         pays_its_way = record {
           sound_on = λ v u sound step. step.few;
           sound_next = λ v u sound step. step.few;
@@ -147,11 +147,11 @@ module _ {C : Type 0} (k : Codec C) where
         }
 
         paid_so : (before more : List Turn) → Pays 0 before → AreLawful k more (at before) → HoldAlong before more → harmed_so_far k start (before ++ more) ≤ most
-            → most_paid + (longest + 100) < 100 * rounds_in more → Over (before ++ more)
+            → most_paid < 100 * rounds_in more → Over (before ++ more)
         paid_so before more none lawful hold low enough =
             let course : Course system before (0 + rounds_in more) (before ++ more) = course_on before before more 0 stays lawful hold low in
             let fewer = harmed_append 0 before more (opened_world start) in
-            what_is_paid_comes system Pays most_paid longest pays_its_way before (omega (arith, fewer, low)) none (rounds_in more) (before ++ more)
+            what_is_paid_comes system Pays most_paid pays_its_way before (omega (arith, fewer, low)) none (rounds_in more) (before ++ more)
             (subst (λ m. Course system before m (before ++ more)) (omega arith) course) enough
 
     -- after rounds enough it is over
@@ -159,7 +159,7 @@ module _ {C : Type 0} (k : Codec C) where
     exchanges_end Holds most within Over Waits x few before more = ends_so Holds most Over Waits within x few before more
 
     pub paid_exchanges_end : (Holds : List Turn → Type 0) (most : ℕ) → PaidExchangesEnd k start Holds most
-    paid_exchanges_end Holds most most_paid longest Over Pays Waits x before more = paid_so Holds most Over Waits most_paid longest Pays x before more
+    paid_exchanges_end Holds most most_paid Over Pays Waits x before more = paid_so Holds most Over Waits most_paid Pays x before more
 
 -- ---- where a round ends
 
