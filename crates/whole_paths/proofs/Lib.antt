@@ -86,6 +86,7 @@ pub mod Saying
 pub mod Sent
 pub mod SentByTurns
 pub mod Settling
+pub mod SharpCourses
 pub mod ShutWaits
 pub mod Standing
 pub mod Staying

@@ -27,9 +27,7 @@ use Rattle.world_laws.proofs.Worlds.Opened.{opened_actors}
 use Rattle.world_laws.proofs.Writes.Steps.{begins_lasts}
 use Rattle.whole_paths.specs.Finish.{harmed, rounds_in}
 use Rattle.whole_paths.specs.Harms.{longest_way}
-use Rattle.whole_paths.specs.News.{most_news}
 use Rattle.whole_paths.specs.OnePathScripts.{AnEndDiedEarly, EndsAsItBegins, MildScriptsBeginWithOnePath, OnlyWaysStay, WaysStay, rounds_within, way_by, way_there_and_back}
-use Rattle.whole_paths.specs.Rounds.{ticks_for}
 use Rattle.whole_paths.proofs.Copies.{LinkStays, links_last}
 use Rattle.whole_paths.proofs.Flying.{takes_frames}
 use Rattle.whole_paths.proofs.Mild.{mild_scripts_start_mildly}

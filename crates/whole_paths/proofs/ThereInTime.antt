@@ -1,5 +1,5 @@
 -- Where exchanges go on, all of both streams comes in time, or an end died early; and then both files are delivered.
-use Rattle.std.proofs.Common.{◌≡◌, refl, sym, subst, ap, ◌∙◌, ⊎_elim, inl, inr, ◌⊎◌, ℕ, suc, ◌+◌, ◌-◌, ◌*◌, ◌^◌, ◌<◌, ◌≤◌, arith, true, true≢false, List, [], ◌∷◌, ◌++◌, length, length-append, append_assoc}
+use Rattle.std.proofs.Common.{◌≡◌, refl, sym, subst, ap, ◌∙◌, ⊎_elim, inl, inr, ◌⊎◌, ℕ, ◌+◌, ◌-◌, ◌*◌, ◌^◌, ◌<◌, ◌≤◌, arith, true, true≢false, List, [], ◌∷◌, ◌++◌, length, length-append, append_assoc}
 use Rattle.std.proofs.lemmas.Bool.{cases_lt}
 use Rattle.std.proofs.lemmas.Option.{same_Some}
 use Rattle.sides.specs.declared.side.Side.TheVariants.{A, B}
@@ -20,10 +20,8 @@ use Rattle.whole_paths.specs.AsFar.{IsActorAsFar, stage}
 use Rattle.whole_paths.specs.Courses.{Exchanges}
 use Rattle.whole_paths.specs.Delivery.{AllIsThere}
 use Rattle.whole_paths.specs.Finish.{AnEndDied, IsWhole, Patience, BriefPathsDeliver, harmed, opened, rounds_in}
-use Rattle.whole_paths.specs.News.{most_news}
 use Rattle.whole_paths.specs.OnePathScripts.{AllIsThereWithin, AnEndDiedEarly, BeginsWithOnePath, BriefPathsEnd, for_all_news, WhatIsThereInTimeIsDelivered}
 use Rattle.whole_paths.specs.OpenCourses.{IsOpenAfter}
-use Rattle.whole_paths.specs.Rounds.{ticks_for}
 use Rattle.whole_paths.specs.SentByTurns.{SentAtMost}
 use Rattle.whole_paths.proofs.Courses.{harmed_append}
 use Rattle.whole_paths.proofs.Delivery.{what_is_there_is_delivered}

@@ -63,6 +63,7 @@ pub mod Received
 pub mod Room
 pub mod Rounds
 pub mod Running
+pub mod SharpCourses
 pub mod ShutWaits
 pub mod Saying
 pub mod Sent
