@@ -83,6 +83,7 @@ pub mod Rounds
 pub mod Room
 pub mod Running
 pub mod Saying
+pub mod SegmentsRead
 pub mod Sent
 pub mod SentByTurns
 pub mod Settling

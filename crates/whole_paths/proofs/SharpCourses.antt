@@ -15,11 +15,12 @@ use Rattle.whole_paths.specs.OnePathScripts.{AllIsThereWithin, BeginsWithOnePath
 use Rattle.whole_paths.specs.OpenCourses.{IsOpenAfter}
 use Rattle.whole_paths.specs.PaidCourses.{PaidExchanges}
 use Rattle.whole_paths.specs.SentByTurns.{SentAtMost}
-use Rattle.whole_paths.specs.SharpCourses.{IsPaid, SharpExchanges, SharpExchangesEnd, most_units, price, price_by, sharp_allowance, top}
+use Rattle.whole_paths.specs.SharpCourses.{IsPaid, SharpExchanges, SharpExchangesEnd, most_units, price, price_by, sharp_allowance, top, units_after}
 use Rattle.whole_paths.proofs.Delivery.{what_is_there_stays}
 use Rattle.whole_paths.proofs.OnePathScripts.{ends_as_it_begins}
 use Rattle.whole_paths.proofs.OpenCourses.{open_paid_exchanges_end}
 use Rattle.whole_paths.proofs.OverOctets.{ends_as_it_begins_in_octets}
+use Rattle.whole_paths.proofs.SegmentsRead.{few_units, units_up}
 use Rattle.whole_paths.proofs.SentByTurns.{each_turn_sends_one_at_most}
 use Rattle.whole_paths.proofs.ThereInTime.{what_is_there_in_time_is_delivered}
 
@@ -37,9 +38,9 @@ module _ (start : Start) (plan : PathPlan) (most : ℕ) (Mended : ℕ → List T
   paid = record {
     over_on = λ v u step over. subst Over (sym step.is) (lasts v (Turn.Step step.actor) over);
     over_next = λ v u step over. subst Over (sym step.is) (lasts v Turn.Round over);
-    pays_on = λ n v u step h. record { harms = h.harms; mended = x.mended_on h.harms v u step h.mended; enough = (let low = h.enough in let more = x.units_on v u step in omega (arith, low, more)) };
-    pays_next = λ n v u step h. record { harms = h.harms; mended = x.mended_next h.harms v u step h.mended; enough = (let low = h.enough in let more = x.units_next v u step in omega (arith, low, more)) };
-    few = λ n v harms h. (let low = h.enough in let units = x.few_units v in let mended = x.few_mended h.harms v h.mended in omega (arith, low, units, mended, harms));
+    pays_on = λ n v u step h. record { harms = h.harms; mended = x.mended_on h.harms v u step h.mended; enough = (let low = h.enough in let more = subst (λ t. units_after start plan most Mended Waits v ≤ units_after start plan most Mended Waits t) (sym step.is) (units_up start plan v (Turn.Step step.actor ∷ [])) in omega (arith, low, more)) };
+    pays_next = λ n v u step h. record { harms = h.harms; mended = x.mended_next h.harms v u step h.mended; enough = (let low = h.enough in let more = subst (λ t. units_after start plan most Mended Waits v ≤ units_after start plan most Mended Waits t) (sym step.is) (units_up start plan v (Turn.Round ∷ [])) in omega (arith, low, more)) };
+    few = λ n v harms h. (let low = h.enough in let units = few_units start plan (reached values start v) in let mended = x.few_mended h.harms v h.mended in omega (arith, low, units, mended, harms));
     waits_on = x.waits_on;
     waits_next = x.waits_next;
     due = x.due;

@@ -72,12 +72,9 @@ module _ (start : Start) (plan : PathPlan) (most : ℕ) (Mended : ℕ → List T
   abbrev pub GoesOnAs : ℕ → ℕ → List Turn → Type 0
   GoesOnAs n x u = IsPaid n u ⊎ AWaitGoesOn (course_of values start (IsOpenAfter start) most (λ turns. AllIsThere (reached values start turns)) Waits) top n x u
 
-  -- Units only grow, and harms stay mended, of which there are no more than there were. A wait goes on, is put off, or is paid; no round begins past one that
+  -- Harms stay mended, and no more are than there were. A wait goes on, is put off, or is paid; no round begins past one that
   -- isn't paid; and as a round begins, all of both streams is there, or a wait begins.
   pub record SharpExchanges : Type 0 where
-    pub units_on : (v u : List Turn) → Stepping v u → units_after v ≤ units_after u
-    pub units_next : (v u : List Turn) → Beginning v u → units_after v ≤ units_after u
-    pub few_units : (v : List Turn) → units_after v ≤ most_units start plan
     pub mended_on : (m : ℕ) (v u : List Turn) → Stepping v u → Mended m v → Mended m u
     pub mended_next : (m : ℕ) (v u : List Turn) → Beginning v u → Mended m v → Mended m u
     pub few_mended : (m : ℕ) (v : List Turn) → Mended m v → m ≤ harmed_so_far values start v
