@@ -98,6 +98,7 @@ pub mod Thirds
 pub mod ThereInTime
 pub mod Timing
 pub mod Treating
+pub mod Unharmed
 pub mod Unmapped
 pub mod Turns
 pub mod Unbroken

@@ -72,6 +72,7 @@ pub mod Shut
 pub mod StayingWhole
 pub mod Straying
 pub mod Timers
+pub mod Unharmed
 pub mod Unstopped
 pub mod Waits
 pub mod WindowWaits
