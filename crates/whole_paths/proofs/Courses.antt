@@ -19,10 +19,13 @@ use Rattle.whole_paths.specs.Courses.{harmed_so_far, counted, round_end, TakesAS
 use Rattle.whole_paths.specs.Finish.{harmed, rounds_in}
 use Rattle.whole_paths.specs.InTime.{ComesFrom}
 use Rattle.whole_paths.specs.News.{news, most_news}
+use Rattle.whole_paths.specs.PaidCourses.{PaidExchanges, PaidExchangesEnd}
+use Rattle.whole_paths.specs.PaidRounds.{PaysItsWay}
 use Rattle.whole_paths.specs.Rounds.{Course, Drives, System, ticks_for}
 use Rattle.whole_paths.specs.Rounds.Course.{stays, steps, opens}
 use Rattle.whole_paths.proofs.InTime.{nil_so, nothing_is_overdue}
 use Rattle.whole_paths.proofs.News.{news_never_falls}
+use Rattle.whole_paths.proofs.PaidRounds.{what_is_paid_comes}
 use Rattle.whole_paths.proofs.Rounds.{what_is_awaited_comes}
 
 module _ {C : Type 0} (k : Codec C) where
@@ -55,27 +58,9 @@ module _ {C : Type 0} (k : Codec C) where
         let up : news start (at turns) ≤ news start (at (turns ++ more)) = subst (λ (w : WorldState C). news start (at turns) ≤ news start w) (sym (run_append k turns more (opened_world start))) (news_never_falls k start turns more) in
         let harms = harmed_append 0 turns more (opened_world start) in omega (arith, up, harms)
 
-    module _ (Holds : List Turn → Type 0) (most within : ℕ) (Over : List Turn → Type 0) (Waits : ℕ → ℕ → List Turn → Type 0) (x : Exchanges k start Holds most within Over Waits)
-        (few : (turns : List Turn) → news start (at turns) ≤ most_news start) where
+    module _ (Holds : List Turn → Type 0) (most : ℕ) (Over : List Turn → Type 0) (Waits : ℕ → ℕ → List Turn → Type 0) where
       abbrev system : System
       system = course_of k start Holds most Over Waits
-
-      drives : Drives system (most_news start + most) within
-      drives = record {
-        sound_on = λ v u sound step. step.few;
-        sound_next = λ v u sound step. step.few;
-        until_on = λ v u sound step. subst (λ t. round_end k start t ≡ round_end k start v) (sym step.is) (round_step v step.actor);
-        until_next = λ v u sound step. subst (λ t. round_end k start t ≡ round_end k start v + 100) (sym step.is) (round_next v step.over);
-        news_on = λ v u sound step. subst (λ t. counted k start v ≤ counted k start t) (sym step.is) (counted_up v (Turn.Step step.actor ∷ []));
-        news_next = λ v u sound step. subst (λ t. counted k start v ≤ counted k start t) (sym step.is) (counted_up v (Turn.Round ∷ []));
-        over_on = λ v u sound step. x.over_on v u step;
-        over_next = λ v u sound step. x.over_next v u step;
-        few = λ v sound. (let low = few v in omega (arith, low, sound));
-        waits_on = λ n t v u sound step. x.waits_on n t v u step;
-        waits_next = λ n t v u sound step. x.waits_next n t v u step;
-        due = λ n t v u sound step. x.due n t v u step;
-        begins = λ v u sound step. x.begins v u step;
-      }
 
       abbrev HoldAlong : List Turn → List Turn → Type 0
       HoldAlong before more = (ts us : List Turn) → ts ++ us ≡ more → Holds (before ++ ts)
@@ -113,17 +98,68 @@ module _ {C : Type 0} (k : Codec C) where
           (subst (λ m. Course system first m (now ++ more)) (omega arith)
           (course_on first now more (suc n) (opens n before now course step) (subst (AreLawful k more) (sym (run_append k before (Turn.Round ∷ []) (opened_world start))) lawful.1) then_hold low_now))
 
-      ends_so : (before more : List Turn) → AreLawful k more (at before) → HoldAlong before more → harmed_so_far k start (before ++ more) ≤ most
-          → ticks_for within (suc (most_news start + most)) < 100 * rounds_in more → Over (before ++ more)
-      ends_so before more lawful hold low enough =
-          let course : Course system before (0 + rounds_in more) (before ++ more) = course_on before before more 0 stays lawful hold low in
-          let fewer = harmed_append 0 before more (opened_world start) in
-          what_is_awaited_comes system (most_news start + most) within (100 * (round_of k start before).number) drives before (omega (arith, fewer, low)) (omega arith) (rounds_in more) (before ++ more)
-          (subst (λ m. Course system before m (before ++ more)) (omega arith) course) enough
+      -- ---- where news pay
+
+      module _ (within : ℕ) (x : Exchanges k start Holds most within Over Waits) (few : (turns : List Turn) → news start (at turns) ≤ most_news start) where
+        drives : Drives system (most_news start + most) within
+        drives = record {
+          sound_on = λ v u sound step. step.few;
+          sound_next = λ v u sound step. step.few;
+          until_on = λ v u sound step. subst (λ t. round_end k start t ≡ round_end k start v) (sym step.is) (round_step v step.actor);
+          until_next = λ v u sound step. subst (λ t. round_end k start t ≡ round_end k start v + 100) (sym step.is) (round_next v step.over);
+          news_on = λ v u sound step. subst (λ t. counted k start v ≤ counted k start t) (sym step.is) (counted_up v (Turn.Step step.actor ∷ []));
+          news_next = λ v u sound step. subst (λ t. counted k start v ≤ counted k start t) (sym step.is) (counted_up v (Turn.Round ∷ []));
+          over_on = λ v u sound step. x.over_on v u step;
+          over_next = λ v u sound step. x.over_next v u step;
+          few = λ v sound. (let low = few v in omega (arith, low, sound));
+          waits_on = λ n t v u sound step. x.waits_on n t v u step;
+          waits_next = λ n t v u sound step. x.waits_next n t v u step;
+          due = λ n t v u sound step. x.due n t v u step;
+          begins = λ v u sound step. x.begins v u step;
+        }
+
+        ends_so : (before more : List Turn) → AreLawful k more (at before) → HoldAlong before more → harmed_so_far k start (before ++ more) ≤ most
+            → ticks_for within (suc (most_news start + most)) < 100 * rounds_in more → Over (before ++ more)
+        ends_so before more lawful hold low enough =
+            let course : Course system before (0 + rounds_in more) (before ++ more) = course_on before before more 0 stays lawful hold low in
+            let fewer = harmed_append 0 before more (opened_world start) in
+            what_is_awaited_comes system (most_news start + most) within (100 * (round_of k start before).number) drives before (omega (arith, fewer, low)) (omega arith) (rounds_in more) (before ++ more)
+            (subst (λ m. Course system before m (before ++ more)) (omega arith) course) enough
+
+      -- ---- where waits are paid
+
+      module _ (most_paid : ℕ) (Pays : ℕ → List Turn → Type 0) (x : PaidExchanges k start Holds most most_paid Over Pays Waits) where
+        pays_its_way : PaysItsWay system Pays most_paid
+        pays_its_way = record {
+          sound_on = λ v u sound step. step.few;
+          sound_next = λ v u sound step. step.few;
+          until_on = λ v u sound step. subst (λ t. round_end k start t ≡ round_end k start v) (sym step.is) (round_step v step.actor);
+          until_next = λ v u sound step. subst (λ t. round_end k start t ≡ round_end k start v + 100) (sym step.is) (round_next v step.over);
+          pays_on = λ n v u sound step. x.pays_on n v u step;
+          pays_next = λ n v u sound step. x.pays_next n v u step;
+          over_on = λ v u sound step. x.over_on v u step;
+          over_next = λ v u sound step. x.over_next v u step;
+          few = λ n v sound paid. x.few n v sound paid;
+          waits_on = λ n t v u sound step. x.waits_on n t v u step;
+          waits_next = λ n t v u sound step. x.waits_next n t v u step;
+          due = λ n t v u sound step. x.due n t v u step;
+          begins = λ n v u sound step. x.begins n v u step;
+        }
+
+        paid_so : (before more : List Turn) → Pays 0 before → AreLawful k more (at before) → HoldAlong before more → harmed_so_far k start (before ++ more) ≤ most
+            → most_paid < 100 * rounds_in more → Over (before ++ more)
+        paid_so before more none lawful hold low enough =
+            let course : Course system before (0 + rounds_in more) (before ++ more) = course_on before before more 0 stays lawful hold low in
+            let fewer = harmed_append 0 before more (opened_world start) in
+            what_is_paid_comes system Pays most_paid pays_its_way before (omega (arith, fewer, low)) none (rounds_in more) (before ++ more)
+            (subst (λ m. Course system before m (before ++ more)) (omega arith) course) enough
 
     -- after rounds enough it is over
     pub exchanges_end : ExchangesEnd k start
-    exchanges_end Holds most within Over Waits x few before more = ends_so Holds most within Over Waits x few before more
+    exchanges_end Holds most within Over Waits x few before more = ends_so Holds most Over Waits within x few before more
+
+    pub paid_exchanges_end : (Holds : List Turn → Type 0) (most : ℕ) → PaidExchangesEnd k start Holds most
+    paid_exchanges_end Holds most most_paid Over Pays Waits x before more = paid_so Holds most Over Waits most_paid Pays x before more
 
 -- ---- where a round ends
 

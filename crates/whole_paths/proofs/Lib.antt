@@ -73,6 +73,7 @@ pub mod MappedCopies
 pub mod Mapping
 pub mod Mild
 pub mod Moving
+pub mod PaidRounds
 pub mod Passing
 pub mod Paying
 pub mod Pieces
@@ -86,12 +87,14 @@ pub mod Rounds
 pub mod Room
 pub mod Running
 pub mod Saying
+pub mod SegmentsRead
 pub mod Sent
 pub mod SentByTurns
 pub mod Settling
 pub mod OpeningStates
 pub mod OpeningWaits
 pub mod SenderWaits
+pub mod SharpCourses
 pub mod ShutWaits
 pub mod Standing
 pub mod Staying
@@ -102,6 +105,7 @@ pub mod Thirds
 pub mod ThereInTime
 pub mod Timing
 pub mod Treating
+pub mod Unharmed
 pub mod Unmapped
 pub mod Turns
 pub mod Unbroken

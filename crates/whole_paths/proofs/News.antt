@@ -58,11 +58,11 @@ use Rattle.whole_paths.proofs.Turns.{turns_each}
 pub one_most : (b : Bool) → one_if b ≤ 1
 one_most = elim [ true ↦ omega arith | false ↦ omega arith ]
 
-one_up : (a b : Bool) → (a ≡ true → b ≡ true) → one_if a ≤ one_if b
+pub one_up : (a b : Bool) → (a ≡ true → b ≡ true) → one_if a ≤ one_if b
 one_up true b on = subst (λ x. 1 ≤ one_if x) (sym (on refl)) (omega arith)
 one_up false b on = omega arith
 
-known_up : (o p : Option ℕ) → ((place : ℕ) → o ≡ Some place → p ≡ Some place) → one_if (is_some o) ≤ one_if (is_some p)
+pub known_up : (o p : Option ℕ) → ((place : ℕ) → o ≡ Some place → p ≡ Some place) → one_if (is_some o) ≤ one_if (is_some p)
 known_up None p on = omega arith
 known_up (Some place) p on = subst (λ x. 1 ≤ one_if (is_some x)) (sym (on place refl)) (omega arith)
 

@@ -5,7 +5,7 @@ use Rattle.path_core.specs.Octets.{octets}
 use Rattle.path_core.specs.Values.{values}
 use Rattle.world_laws.specs.Openings.{PathPlan, Start}
 use Rattle.whole_paths.specs.Finish.{BriefPathsDeliver}
-use Rattle.whole_paths.specs.OnePathScripts.{BeginsWithOnePath, EndsWithin, BriefPathsEnd, way_there_and_back}
+use Rattle.whole_paths.specs.OnePathScripts.{BeginsWithOnePath, EndsWithin, BriefPathsEnd, for_all_news, way_there_and_back}
 use Rattle.whole_paths.specs.OnlyPaths.{long_patience, news_within}
 use Rattle.whole_paths.specs.WholeCourses.{IsAwaited, WaysAreShort}
 use Rattle.whole_paths.specs.WindowWaits.{AwaitsAWindow}
@@ -19,8 +19,8 @@ ways_short : (start : Start) (plan : PathPlan) → BeginsWithOnePath start plan 
 ways_short start plan begins turns p here = let is = only_ways_stay values start turns plan begins.one p here A in omega (arith, is)
 
 -- of a start
-only_paths_end : EndsWithin news_within
-only_paths_end = what_is_there_in_time_is_delivered news_within (exchanges_bring_all news_within
+only_paths_end : EndsWithin (for_all_news news_within)
+only_paths_end = what_is_there_in_time_is_delivered (for_all_news news_within) (exchanges_bring_all news_within
     (λ start most n x turns. IsAwaited start (60000 + way_there_and_back start.paths start.lines) (λ n x turns. AwaitsAWindow start x turns) n x turns)
     (λ start plan most begins. (
     let way = way_there_and_back start.paths start.lines in
@@ -29,10 +29,10 @@ only_paths_end = what_is_there_in_time_is_delivered news_within (exchanges_bring
     (shut_windows_open_in_time start plan most way begins.one begins.mild (omega (arith, least))))))
 
 pub paths_end : BriefPathsEnd values long_patience
-paths_end = ends_as_it_begins news_within only_paths_end
+paths_end = ends_as_it_begins (for_all_news news_within) only_paths_end
 
 pub paths_end_in_octets : BriefPathsEnd octets long_patience
-paths_end_in_octets = ends_as_it_begins_in_octets news_within only_paths_end
+paths_end_in_octets = ends_as_it_begins_in_octets (for_all_news news_within) only_paths_end
 
 pub whole_paths_deliver : BriefPathsDeliver values long_patience
 whole_paths_deliver = whole_paths_didnt_die values long_patience paths_end

@@ -309,9 +309,9 @@ module _ (script : Script) (path : PathLine) (file_a file_b : List ℕ) (turns :
   ended_on (inr early) = inr (early_on early)
 
 pub ends_as_it_begins_in_octets : EndsAsItBegins octets
-ends_as_it_begins_in_octets within ends script path file_a file_b before more mild also lawful first many =
+ends_as_it_begins_in_octets bound ends script path file_a file_b before more mild also lawful first many =
     let whole = as_far script path file_a file_b mild (before ++ Turn.Round ∷ more) in
     let begun = as_far script path file_a file_b mild (before ++ Turn.Round ∷ []) in
     ended_on script path file_a file_b (before ++ Turn.Round ∷ more) mild
-    (ends_as_it_begins within ends script path file_a file_b before more mild also (whole.lawful.0 lawful) ((begun.whole 0).0 first)
-    (subst (λ n. rounds_within within script path file_a file_b n ≤ rounds_in more) (whole.harms 0) many))
+    (ends_as_it_begins bound ends script path file_a file_b before more mild also (whole.lawful.0 lawful) ((begun.whole 0).0 first)
+    (subst (λ n. rounds_within bound script path file_a file_b n ≤ rounds_in more) (whole.harms 0) many))

@@ -1,8 +1,10 @@
--- News come in time, so that it is over before there is more of it than there can be.
-use Rattle.std.proofs.Common.{◌≡◌, refl, ◌∙◌, ℕ, zero, suc, ◌+◌, ◌*◌, ◌<◌, ◌≤◌, ◌⊎◌, inl, inr, ⊎_elim, subst, sym, arith}
+-- News come in time, so that it is over before there is more of it than there can be: each piece of news pays for its wait, and for a round more.
+use Rattle.std.proofs.Common.{◌≡◌, sym, subst, ℕ, zero, suc, ◌+◌, ◌<◌, ◌≤◌, ◌⊎◌, inl, inr, ⊎_elim, arith}
 use Rattle.std.proofs.lemmas.Bool.{cases_lt}
+use Rattle.whole_paths.specs.PaidRounds.{AWaitBegins, AWaitGoesOn, PaysItsWay}
 use Rattle.whole_paths.specs.Rounds.{System, Course, Drives, ticks_for, WhatIsAwaitedComes}
 use Rattle.whole_paths.specs.Rounds.Course.{stays, steps, opens}
+use Rattle.whole_paths.proofs.PaidRounds.{what_is_paid_comes}
 
 ticks_up : (within n m : ℕ) → n ≤ m → ticks_for within n ≤ ticks_for within m
 ticks_up within n zero below = let none : n ≡ 0 = omega (arith, below) in subst (λ x. ticks_for within x ≤ ticks_for within 0) (sym none) (omega arith)
@@ -12,110 +14,77 @@ ticks_up within n (suc m) below = ⊎_elim
     (cases_lt n (suc m))
 
 module _ (s : System) (most within base : ℕ) (d : Drives s most within) where
-  -- how much news there was; and the next comes by a tick that isn't far from the first round's beginning
-  record Awaited (v : s.State) : Type 0 where
+  -- so much was counted, and once there is more so many ticks are paid
+  record Awaits (n x : ℕ) (v : s.State) : Type 0 where
     count : ℕ
-    tick : ℕ
     since : count ≤ s.news v
-    waits : (count < s.news v) ⊎ s.Waits count tick v
-    in_time : tick ≤ base + ticks_for within (suc count)
-    now : s.until v ≤ base + ticks_for within (suc count) + 100
+    price : n ≤ ticks_for within (suc count)
+    waits : s.Waits count x v
 
-  -- where it is after so many rounds
-  data Where (n : ℕ) (v : s.State) : Type 0 where
-    first : n ≡ 0 → Where n v
-    over : s.Over v → Where n v
-    goes : Awaited v → Where n v
+  abbrev paying : System
+  paying = record {
+    State = s.State;
+    Steps = s.Steps;
+    Opens = s.Opens;
+    Sound = s.Sound;
+    until = s.until;
+    news = s.news;
+    Over = s.Over;
+    Waits = Awaits;
+  }
 
-  record Stands (n : ℕ) (v : s.State) : Type 0 where
-    sound : s.Sound v
-    until : s.until v ≡ base + (100 * n + 100)
-    where_is : Where n v
+  abbrev Pays : ℕ → s.State → Type 0
+  Pays n v = n ≤ ticks_for within (s.news v)
 
-  -- ---- a step
+  pays : (n x : ℕ) (v u : s.State) (a : Awaits n x v) → a.count < s.news u → Pays n u
+  pays n x v u a more = let price = a.price in let up = ticks_up within (suc a.count) (s.news u) more in omega (arith, price, up)
 
-  awaited_on : (v u : s.State) → s.Sound v → s.Steps v u → Awaited v → Awaited u
-  awaited_on v u sound step a =
-      let up = d.news_on v u sound step in
-      let until = d.until_on v u sound step in
-      record {
-        count = a.count;
-        tick = a.tick;
-        since = omega (arith, a.since, up);
-        waits = ⊎_elim (λ more. inl (omega (arith, more, up))) (λ waits. d.waits_on a.count a.tick v u sound step a.since waits) a.waits;
-        in_time = a.in_time;
-        now = omega (arith, a.now, until);
-      }
+  abbrev top : ℕ
+  top = ticks_for within (suc most)
 
-  step_stands : (n : ℕ) (v u : s.State) → Stands n v → s.Steps v u → Stands n u
-  step_stands n v u h step = record { sound = d.sound_on v u h.sound step; until = d.until_on v u h.sound step ∙ h.until; where_is = by h.where_is }
-    where
-      by : Where n v → Where n u
-      by (first none) = first none
-      by (over is) = over (d.over_on v u h.sound step is)
-      by (goes a) = goes (awaited_on v u h.sound step a)
+  goes : (n x : ℕ) (v u : s.State) → s.news v ≤ s.news u → s.news u ≤ most → (a : Awaits n x v) → (a.count < s.news u) ⊎ s.Waits a.count x u → Pays n u ⊎ AWaitGoesOn paying top n x u
+  goes n x v u up low a (inl more) = inl (pays n x v u a more)
+  goes n x v u up low a (inr still) =
+      let since = a.since in
+      let price = a.price in
+      let high = ticks_up within (suc a.count) (suc most) (omega (arith, since, up, low)) in
+      inr (record {
+        put_off = 0;
+        payable = omega (arith, price, high);
+        waits = subst (λ m. Awaits m (x + 0) u) (omega arith) (subst (λ y. Awaits n y u) (omega arith) (record { count = a.count; since = omega (arith, since, up); price = price; waits = still }));
+      })
 
-  -- ---- a round begins
+  begun : (n : ℕ) (v u : s.State) → s.news u ≤ most → Pays n u → s.Over u ⊎ s.Waits (s.news u) (s.until v + within) u → s.Over u ⊎ AWaitBegins paying top n v u
+  begun n v u low paid (inl is) = inl is
+  begun n v u low paid (inr waits) = inr (record {
+    within = within;
+    payable = (let up = ticks_up within (s.news u) most low in omega (arith, paid, up));
+    waits = record { count = s.news u; since = omega arith; price = omega (arith, paid); waits = waits };
+  })
 
-  module _ (n : ℕ) (v u : s.State) (h : Stands n v) (opening : s.Opens v u) where
-    later : s.news v ≤ s.news u
-    later = d.news_next v u h.sound opening
+  pays_its_way : PaysItsWay paying Pays top
+  pays_its_way = record {
+    sound_on = d.sound_on;
+    sound_next = d.sound_next;
+    until_on = d.until_on;
+    until_next = d.until_next;
+    pays_on = λ n v u sound step paid. let up = ticks_up within (s.news v) (s.news u) (d.news_on v u sound step) in omega (arith, paid, up);
+    pays_next = λ n v u sound opening paid. let up = ticks_up within (s.news v) (s.news u) (d.news_next v u sound opening) in omega (arith, paid, up);
+    over_on = d.over_on;
+    over_next = d.over_next;
+    few = λ n v sound paid. let up = ticks_up within (s.news v) most (d.few v sound) in omega (arith, paid, up);
+    waits_on = λ n x v u sound step a. goes n x v u (d.news_on v u sound step) (d.few u (d.sound_on v u sound step)) a (d.waits_on a.count x v u sound step a.since a.waits);
+    waits_next = λ n x v u sound opening a. goes n x v u (d.news_next v u sound opening) (d.few u (d.sound_next v u sound opening)) a (d.waits_next a.count x v u sound opening a.since a.waits);
+    due = λ n x v u sound opening a past. pays n x v u a (d.due a.count x v u sound opening a.since a.waits past);
+    begins = λ n v u sound opening paid. begun n v u (d.few u (d.sound_next v u sound opening)) paid (d.begins v u sound opening);
+  }
 
-    until : s.until u ≡ s.until v + 100
-    until = d.until_next v u h.sound opening
-
-    anew : s.until v ≤ base + ticks_for within (s.news u) + 100 → Where (suc n) u
-    anew soon = ⊎_elim (λ is. over is)
-        (λ waits. goes (record {
-          count = s.news u;
-          tick = s.until v + within;
-          since = omega arith;
-          waits = inr waits;
-          in_time = omega (arith, soon);
-          now = omega (arith, soon, until);
-        }))
-        (d.begins v u h.sound opening)
-
-    after_news : (a : Awaited v) → a.count < s.news u → Where (suc n) u
-    after_news a more =
-        let up = ticks_up within (suc a.count) (s.news u) more in anew (let now = a.now in omega (arith, up, now))
-
-    opened_by : Where n v → Where (suc n) u
-    opened_by (first none) = anew (let is = h.until in omega (arith, is, none))
-    opened_by (over is) = over (d.over_next v u h.sound opening is)
-    opened_by (goes a) = ⊎_elim (λ more. after_news a (omega (arith, more, later))) by a.waits
-      where
-        by : s.Waits a.count a.tick v → Where (suc n) u
-        by waits = ⊎_elim
-            (λ past. after_news a (d.due a.count a.tick v u h.sound opening a.since waits past))
-            (λ still. goes (record {
-              count = a.count;
-              tick = a.tick;
-              since = omega (arith, a.since, later);
-              waits = d.waits_next a.count a.tick v u h.sound opening a.since waits;
-              in_time = a.in_time;
-              now = (let low = a.in_time in omega (arith, still, low, until));
-            }))
-            (cases_lt a.tick (s.until v))
-
-    open_stands : Stands (suc n) u
-    open_stands = record { sound = d.sound_next v u h.sound opening; until = omega (arith, h.until, until); where_is = opened_by h.where_is }
-
-  course_stands : (w : s.State) → s.Sound w → s.until w ≡ base + 100 → (n : ℕ) (u : s.State) → Course s w n u → Stands n u
-  course_stands w sound is n u stays = record { sound = sound; until = omega (arith, is); where_is = first refl }
-  course_stands w sound is n u (steps m v x course step) = step_stands n v u (course_stands w sound is n v course) step
-  course_stands w sound is n u (opens m v x course opening) = open_stands m v u (course_stands w sound is m v course) opening
-
-  ended : (n : ℕ) (u : s.State) → Stands n u → ticks_for within (suc most) < 100 * n → s.Over u
-  ended n u h enough = by h.where_is
-    where
-      by : Where n u → s.Over u
-      by (first none) = absurd (omega (arith, none, enough))
-      by (over is) = is
-      by (goes a) =
-          let low = d.few u h.sound in
-          let since = a.since in let up = ticks_up within (suc a.count) (suc most) (omega (arith, since, low)) in
-          absurd (let now = a.now in let is = h.until in omega (arith, up, now, is, enough))
+  -- its rounds are those of what pays
+  course_pays : (w : s.State) (n : ℕ) (u : s.State) → Course s w n u → Course paying w n u
+  course_pays w n u stays = stays
+  course_pays w n u (steps m v x course step) = steps m v x (course_pays w m v course) step
+  course_pays w n u (opens m v x course opening) = opens m v x (course_pays w m v course) opening
 
 pub what_is_awaited_comes : WhatIsAwaitedComes
-what_is_awaited_comes s most within base d w sound is n u course enough = ended s most within base d n u (course_stands s most within base d w sound is n u course) enough
+what_is_awaited_comes s most within base d w sound is n u course enough =
+    what_is_paid_comes (paying s most within base d) (Pays s most within base d) (ticks_for within (suc most)) (pays_its_way s most within base d) w sound (omega arith) n u (course_pays s most within base d w n u course) enough

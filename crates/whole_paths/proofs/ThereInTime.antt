@@ -1,5 +1,5 @@
 -- Where exchanges go on, all of both streams comes in time, or an end died early; and then both files are delivered.
-use Rattle.std.proofs.Common.{◌≡◌, refl, sym, subst, ap, ◌∙◌, ⊎_elim, inl, inr, ◌⊎◌, ℕ, suc, ◌+◌, ◌-◌, ◌*◌, ◌^◌, ◌<◌, ◌≤◌, arith, true, true≢false, List, [], ◌∷◌, ◌++◌, length, length-append, append_assoc}
+use Rattle.std.proofs.Common.{◌≡◌, refl, sym, subst, ap, ◌∙◌, ⊎_elim, inl, inr, ◌⊎◌, ℕ, ◌+◌, ◌-◌, ◌*◌, ◌^◌, ◌<◌, ◌≤◌, arith, true, true≢false, List, [], ◌∷◌, ◌++◌, length, length-append, append_assoc}
 use Rattle.std.proofs.lemmas.Bool.{cases_lt}
 use Rattle.std.proofs.lemmas.Option.{same_Some}
 use Rattle.sides.specs.declared.side.Side.TheVariants.{A, B}
@@ -20,10 +20,8 @@ use Rattle.whole_paths.specs.AsFar.{IsActorAsFar, stage}
 use Rattle.whole_paths.specs.Courses.{Exchanges}
 use Rattle.whole_paths.specs.Delivery.{AllIsThere}
 use Rattle.whole_paths.specs.Finish.{AnEndDied, IsWhole, Patience, BriefPathsDeliver, harmed, opened, rounds_in}
-use Rattle.whole_paths.specs.News.{most_news}
-use Rattle.whole_paths.specs.OnePathScripts.{AllIsThereWithin, AnEndDiedEarly, BeginsWithOnePath, BriefPathsEnd, WhatIsThereInTimeIsDelivered}
+use Rattle.whole_paths.specs.OnePathScripts.{AllIsThereWithin, AnEndDiedEarly, BeginsWithOnePath, BriefPathsEnd, for_all_news, WhatIsThereInTimeIsDelivered}
 use Rattle.whole_paths.specs.OpenCourses.{IsOpenAfter}
-use Rattle.whole_paths.specs.Rounds.{ticks_for}
 use Rattle.whole_paths.specs.SentByTurns.{SentAtMost}
 use Rattle.whole_paths.proofs.Courses.{harmed_append}
 use Rattle.whole_paths.proofs.Delivery.{what_is_there_is_delivered}
@@ -99,7 +97,7 @@ all_there_or w = ⊎_elim
     (there_or A w)
 
 pub what_is_there_in_time_is_delivered : WhatIsThereInTimeIsDelivered
-what_is_there_in_time_is_delivered within comes start plan before more most begins lawful few whole low many =
+what_is_there_in_time_is_delivered bound comes start plan before more most begins lawful few whole low many =
     subst Ends (sym parts.is)
     (by parts.first parts.rest (subst (λ ts. AreLawful values ts (reached values start before)) parts.is lawful) (subst (λ ts. length (before ++ ts) < 2 ^ 64 - 1) parts.is few)
     (subst (λ ts. harmed values 0 (before ++ ts) (opened_world start) ≤ most) parts.is low) parts.last (let all = parts.all in omega (arith, many, all)))
@@ -111,7 +109,7 @@ what_is_there_in_time_is_delivered within comes start plan before more most begi
     parts = last_rounds 3 more (omega (arith, many))
 
     by : (first rest : List Turn) → AreLawful values (first ++ rest) (reached values start before) → length (before ++ (first ++ rest)) < 2 ^ 64 - 1
-        → harmed values 0 (before ++ (first ++ rest)) (opened_world start) ≤ most → rounds_in rest ≡ 3 → ticks_for (within start) (suc (most_news start + most)) < 100 * rounds_in first → Ends (first ++ rest)
+        → harmed values 0 (before ++ (first ++ rest)) (opened_world start) ≤ most → rounds_in rest ≡ 3 → bound start most < 100 * rounds_in first → Ends (first ++ rest)
     by first rest going short fewer three enough = ⊎_elim delivered ended (all_there_or (reached values start (before ++ first)))
       where
         same : (before ++ first) ++ rest ≡ before ++ (first ++ rest)
@@ -143,7 +141,7 @@ what_is_there_in_time_is_delivered within comes start plan before more most begi
 pub exchanges_bring_all : (within : Start → ℕ) (Waits : Start → ℕ → ℕ → ℕ → List Turn → Type 0)
     → ((start : Start) (plan : PathPlan) (most : ℕ) → BeginsWithOnePath start plan
     → Exchanges values start (IsOpenAfter start) most (within start) (λ turns. AllIsThere (reached values start turns)) (Waits start most))
-    → AllIsThereWithin within
+    → AllIsThereWithin (for_all_news within)
 exchanges_bring_all within Waits exchanges start plan before more most begins lawful few whole last low many =
     open_exchanges_end start most (within start) (λ turns. AllIsThere (reached values start turns)) (Waits start most) begins.mild (exchanges start plan most begins)
     before more lawful whole last

@@ -56,6 +56,8 @@ pub mod OnlyPaths
 pub mod Outstanding
 pub mod OverOctets
 pub mod Owed
+pub mod PaidCourses
+pub mod PaidRounds
 pub mod Passed
 pub mod Probes
 pub mod Reasons
@@ -63,6 +65,7 @@ pub mod Received
 pub mod Room
 pub mod Rounds
 pub mod Running
+pub mod SharpCourses
 pub mod ShutWaits
 pub mod Saying
 pub mod Sent
@@ -74,6 +77,7 @@ pub mod Shut
 pub mod StayingWhole
 pub mod Straying
 pub mod Timers
+pub mod Unharmed
 pub mod Unstopped
 pub mod Waits
 pub mod WindowWaits

@@ -62,13 +62,20 @@ OnlyWaysStay {C} k = (start : Start) (turns : List Turn) (plan : PathPlan) → s
 
 -- ---- what is said of a connection by how it begins
 
--- In fewer than 2^64 - 1 turns: where path 0 is whole, and still is after rounds enough for all news that there can be and
--- each segment that is harmed, if each comes within so many ticks, all of both streams is with the peers.
-abbrev pub AllIsThereWithin : (Start → ℕ) → Type 0
-AllIsThereWithin within = (start : Start) (plan : PathPlan) (before more : List Turn) (most : ℕ) → BeginsWithOnePath start plan
+-- how many ticks are enough, by how a connection begins, and how many segments of path 0 are harmed
+abbrev pub Allowance : Type 0
+Allowance = Start → ℕ → ℕ
+
+-- those for all news that there can be and for each segment that is harmed, if each comes within so many ticks
+abbrev pub for_all_news : (Start → ℕ) → Allowance
+for_all_news within start harms = ticks_for (within start) (suc (most_news start + harms))
+
+-- In fewer than 2^64 - 1 turns: where path 0 is whole, and still is after rounds enough, all of both streams is with the peers.
+abbrev pub AllIsThereWithin : Allowance → Type 0
+AllIsThereWithin enough = (start : Start) (plan : PathPlan) (before more : List Turn) (most : ℕ) → BeginsWithOnePath start plan
     → AreLawful values more (reached values start before) → length (before ++ more) < 2 ^ 64 - 1 → IsWhole 0 (reached values start before)
     → IsWhole 0 (reached values start (before ++ more)) → harmed values 0 (before ++ more) (opened_world start) ≤ most
-    → ticks_for (within start) (suc (most_news start + most)) < 100 * rounds_in more → AllIsThere (reached values start (before ++ more))
+    → enough start most < 100 * rounds_in more → AllIsThere (reached values start (before ++ more))
 
 -- after some of these turns an end of path 0 was dead, and not all of both streams was with the peers
 pub record AnEndDiedEarly {C : Type 0} (k : Codec C) (start : Start) (turns : List Turn) : Type 0 where
@@ -79,22 +86,21 @@ pub record AnEndDiedEarly {C : Type 0} (k : Codec C) (start : Start) (turns : Li
   pub missing : AllIsThere (reached k start first) → ⊥
 
 -- three rounds later both files are delivered; or an end died early
-abbrev pub EndsWithin : (Start → ℕ) → Type 0
-EndsWithin within = (start : Start) (plan : PathPlan) (before more : List Turn) (most : ℕ) → BeginsWithOnePath start plan
+abbrev pub EndsWithin : Allowance → Type 0
+EndsWithin enough = (start : Start) (plan : PathPlan) (before more : List Turn) (most : ℕ) → BeginsWithOnePath start plan
     → AreLawful values more (reached values start before) → length (before ++ more) < 2 ^ 64 - 1 → IsWhole 0 (reached values start before)
     → harmed values 0 (before ++ more) (opened_world start) ≤ most
-    → ticks_for (within start) (suc (most_news start + most)) + 300 < 100 * rounds_in more
+    → enough start most + 300 < 100 * rounds_in more
     → (outcome_of (reached values start (before ++ more)).crew ≡ Delivered) ⊎ AnEndDiedEarly values start (before ++ more)
 
 abbrev pub WhatIsThereInTimeIsDelivered : Type 0
-WhatIsThereInTimeIsDelivered = (within : Start → ℕ) → AllIsThereWithin within → EndsWithin within
+WhatIsThereInTimeIsDelivered = (enough : Allowance) → AllIsThereWithin enough → EndsWithin enough
 
 -- ---- what is said of mild scripts of one path
 
 -- so many rounds are enough
-abbrev pub rounds_within : (Start → ℕ) → Patience
-rounds_within within script path file_a file_b harms =
-    let start = start_of script file_a file_b in ticks_for (within start) (suc (most_news start + harms)) / 100 + 4
+abbrev pub rounds_within : Allowance → Patience
+rounds_within enough script path file_a file_b harms = enough (start_of script file_a file_b) harms / 100 + 4
 
 module _ {C : Type 0} (k : Codec C) where
   -- Once the path is whole at the end of a round, both files are delivered when so many more have ended; or an end died early.
@@ -106,4 +112,4 @@ module _ {C : Type 0} (k : Codec C) where
 
   -- what is said of each start holds of such scripts
   abbrev pub EndsAsItBegins : Type 0
-  EndsAsItBegins = (within : Start → ℕ) → EndsWithin within → BriefPathsEnd (rounds_within within)
+  EndsAsItBegins = (enough : Allowance) → EndsWithin enough → BriefPathsEnd (rounds_within enough)
