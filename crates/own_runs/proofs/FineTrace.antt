@@ -104,8 +104,8 @@ module _ (start : Start) (path : ℕ) (plan : PathPlan) where
 
 module _ (start : Start) where
   -- what a segment maps
-  abbrev Offers : Side → PlainSegment → Type 0
-  Offers s sg = AllFine (file_len start) s sg.options
+  abbrev Offers : ℕ → Side → PlainSegment → Type 0
+  Offers path s sg = AllFine (file_len start) s sg.options
 
   file_few : NumbersFit start → (s : Side) → file_len start s < 2 ^ 31
   file_few fit A = let short = fit.short_a in omega (arith, short)
@@ -132,7 +132,7 @@ module _ (start : Start) where
 pub no_whole_run_breaks : (r : Rule) → is_of_ends r ≡ true → NoWholeRunBreaks r
 no_whole_run_breaks r is start turns plain whole fit room side at judged read connection s stream there =
     let trace = trace_of turns (opened_world start) in
-    let spoken = trace_spoken (Offers start) start turns plain.size fit (λ more. world_offers start more plain whole fit) in
+    let spoken = trace_spoken (Offers start) start turns plain.size fit (λ more later is. world_offers start more plain whole fit) in
     let packets = map packet_for trace in
     let few = fit.paths in
     let all = traces_are side (length start.paths) trace (omega (arith, few)) (all_on (Offers start) start trace spoken) room in

@@ -17,11 +17,16 @@ mod Telling
 mod OwnPositions
 mod OwnOptions
 mod KeptOptions
+mod Openers
 mod OwnPackets
 mod OwnUntold
 mod FinePositions
+mod MapPositions
+mod SentGrows
+mod Reached
 mod FineMoments
 mod FineKept
+mod MapKept
 mod OwnTrace
 mod Kept
 mod FineTrace

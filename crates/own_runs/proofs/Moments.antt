@@ -1,5 +1,5 @@
 -- What each segment of a trace says, whatever its script does.
-use Rattle.std.proofs.Common.{◌≡◌, refl, sym, ap, ◌∙◌, subst, ℕ, suc, ◌+◌, ◌≤◌, ◌<◌, ◌^◌, true, false, Option, Some, None, option_map, List, [], ◌∷◌, length, length-append, arith}
+use Rattle.std.proofs.Common.{◌≡◌, refl, sym, ap, ◌∙◌, subst, ℕ, suc, ◌+◌, ◌≤◌, ◌<◌, ◌^◌, true, false, Option, Some, None, option_map, List, [], ◌∷◌, ◌++◌, length, length-append, arith}
 use Rattle.std.specs.Option.{IfSome}
 use Rattle.std.specs.List.{slice_get}
 use Rattle.std.proofs.lemmas.Option.{slice_get_within}
@@ -283,10 +283,10 @@ world_speaks start turns size fit =
 
 -- ---- the segments of a trace
 
-module _ (Q : Side → PlainSegment → Type 0) where
+module _ (Q : ℕ → Side → PlainSegment → Type 0) where
   -- what else holds of what is sent next
   abbrev pub PathAlso : {C : Type 0} → PathState C → Type 0
-  PathAlso p = IfSome (first_sends p.agenda p) (λ t. Q t.from (segment_sent p t))
+  PathAlso p = IfSome (first_sends p.agenda p) (λ t. Q (path_of p) t.from (segment_sent p t))
 
   abbrev pub MemberAlso : {C : Type 0} → Actor C → Type 0
   MemberAlso (App a) = Unit {0}
@@ -303,7 +303,7 @@ module _ (Q : Side → PlainSegment → Type 0) where
     pub end : PathEnd
     pub octets : x.octets ≡ made (path_begins start x.path plan).profile.spelling x.from segment
     pub spoken : Spoken start x.path (path_begins start x.path plan).profile x.from end segment
-    pub also : Q x.from segment
+    pub also : Q x.path x.from segment
 
   module _ (start : Start) where
     path_sends : (p : PathState (List ℕ)) → PathSpeaks start p → PathAlso p → IfSome (sent_by p) (IsSpoken start)
@@ -315,7 +315,7 @@ module _ (Q : Side → PlainSegment → Type 0) where
         is : p.profile ≡ (path_begins start (path_of p) s.1).profile
         is = s.4 ∙ ap (λ (n : ℕ). (path_begins start n s.1).profile) (sym s.3)
 
-        one : (t : ToSend) → Spoken start s.0 p.profile t.from (end_at t.from p) (segment_sent p t) → Q t.from (segment_sent p t)
+        one : (t : ToSend) → Spoken start s.0 p.profile t.from (end_at t.from p) (segment_sent p t) → Q (path_of p) t.from (segment_sent p t)
             → IsSpoken start (sent_as p (departing_as p t))
         one t said more = record {
           plan = s.1;
@@ -328,7 +328,7 @@ module _ (Q : Side → PlainSegment → Type 0) where
           also = more;
         }
 
-        by : (o : Option ToSend) → IfSome o (λ t. Spoken start s.0 p.profile t.from (end_at t.from p) (segment_sent p t)) → IfSome o (λ t. Q t.from (segment_sent p t))
+        by : (o : Option ToSend) → IfSome o (λ t. Spoken start s.0 p.profile t.from (end_at t.from p) (segment_sent p t)) → IfSome o (λ t. Q (path_of p) t.from (segment_sent p t))
             → IfSome (option_map (sent_as p) (option_map (departing_as p) o)) (IsSpoken start)
         by None said more = tt
         by (Some t) said more = one t said more
@@ -353,18 +353,19 @@ module _ (Q : Side → PlainSegment → Type 0) where
     turn_spoken Turn.Round w s also = Every-nil (IsSpoken start)
 
     run_spoken : (turns : List Turn) (w : WorldState (List ℕ)) → ((more : List Turn) → WorldSpeaks start (world_run octets more w))
-        → ((more : List Turn) → WorldAlso (world_run octets more w)) → Every (IsSpoken start) (trace_of turns w)
+        → ((more later : List Turn) → more ++ later ≡ turns → WorldAlso (world_run octets more w)) → Every (IsSpoken start) (trace_of turns w)
     run_spoken [] w s also = Every-nil (IsSpoken start)
     run_spoken (turn ∷ turns) w s also =
-        Every-append (turn_spoken turn w (s []) (also [])) (run_spoken turns (after_turn octets turn w) (λ more. s (turn ∷ more)) (λ more. also (turn ∷ more)))
+        Every-append (turn_spoken turn w (s []) (also [] (turn ∷ turns) refl))
+        (run_spoken turns (after_turn octets turn w) (λ more. s (turn ∷ more)) (λ more later is. also (turn ∷ more) later (ap (λ (ts : List Turn). turn ∷ ts) is)))
 
-    pub trace_spoken : (turns : List Turn) → HasRoom start → NumbersFit start → ((more : List Turn) → WorldAlso (world_run octets more (opened_world start)))
-        → Every (IsSpoken start) (trace_of turns (opened_world start))
+    pub trace_spoken : (turns : List Turn) → HasRoom start → NumbersFit start
+        → ((more later : List Turn) → more ++ later ≡ turns → WorldAlso (world_run octets more (opened_world start))) → Every (IsSpoken start) (trace_of turns (opened_world start))
     trace_spoken turns size fit also = run_spoken turns (opened_world start) (λ more. world_speaks start more size fit) also
 
 -- nothing else
-abbrev pub Nothing : Side → PlainSegment → Type 0
-Nothing s sg = Unit {0}
+abbrev pub Nothing : ℕ → Side → PlainSegment → Type 0
+Nothing path s sg = Unit {0}
 
 pub also_nothing : (w : WorldState (List ℕ)) → WorldAlso Nothing w
 also_nothing w i c at = by c.member

@@ -283,7 +283,7 @@ payload_is : (spelling : Spelling) (from : Side) (sg : PlainSegment) → (spelle
 unfolding spelled
 payload_is spelling from sg = refl
 
-module _ (Q : Side → PlainSegment → Type 0) (start : Start) (x : Sent) (s : IsSpoken Q start x) (short : length x.octets ≤ 65515) where
+module _ (Q : ℕ → Side → PlainSegment → Type 0) (start : Start) (x : Sent) (s : IsSpoken Q start x) (short : length x.octets ≤ 65515) where
   abbrev pub plan : PathPlan
   plan = s.plan
 
