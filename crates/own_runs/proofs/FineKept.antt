@@ -104,7 +104,7 @@ module _ (d : Drawn) (limit : Side → ℕ) (few : (s : Side) → limit s < 2 ^ 
 
     first_so : (s : Side) (keys : Keys) (options : List OptionValue) → KeysOwn d keys → All (OffersWell (first_number (own_key d s)) (limit s)) options
         → IfSome (first_of s keys) (λ first. All (OffersWell first (limit s)) options)
-    first_so s keys options k all = by (key_of s keys) (key_is d is_of_ends refl s keys k)
+    first_so s keys options k all = by (key_of s keys) (key_is d is_of_ends s keys k)
       where
         by : (o : Option ℕ) → IfSome o (λ key. key ≡ own_key d s) → IfSome (option_map first_number o) (λ first. All (OffersWell first (limit s)) options)
         by None is = tt
@@ -138,14 +138,14 @@ module _ (d : Drawn) (limit : Side → ℕ) (few : (s : Side) → limit s < 2 ^ 
           → Leaves own.path (judged_opened (opened_facts at packet seen index flow opened own.from) (map Readable own.values) keys left)
       opened_so opened e =
           let facts = opened_facts at packet seen index flow opened own.from in
-          let it : IsOf d is_of_ends refl own.path facts = record {
+          let it : IsOf d is_of_ends own.path facts = record {
             opening = f.opening;
             nonce = subst (λ (o : Option Opened). IfSome o (NonceIs d own.path flow.opening)) e f.nonce;
             opener = opens_so d seen own flow f;
           } in
           let was = h.book own.from in
           let first : KeyedValue = record { options = []; keys = keys; stream = stream_at own.from left.book } in
-          let made = options_so d is_of_ends refl own.path facts it own.values first own.each
+          let made = options_so d is_of_ends own.path facts it own.values first own.each
           (record { keys = k; untold = was.untold; each = All-nil (ValueIs d own.path own.from) }) in
           let all = judged_options facts (map Readable own.values) first in
           let fields = fields_so (fields_keep own.from) facts (map Readable own.values) first (record { infinite = was.infinite; fin = was.fin; top = was.top }) in

@@ -10,6 +10,7 @@ mod Nonces
 mod Syns
 mod Speaking
 mod Offering
+mod Carrying
 mod Placing
 mod Moments
 mod OwnFlows

@@ -21,7 +21,7 @@ use Rattle.seen_connections.specs.Connections.{key_of}
 use Rattle.seen_connections.specs.SeenOptions.{Readable, SeenValue, seen_options}
 use Rattle.seen_streams.specs.Positions.{position_of}
 use Rattle.seen_streams.specs.State.{Found, LaneValue, StreamValue}
-use Rattle.rule_book.specs.Facts.{Facts, first_of, own_base, own_lane, with_own_lane}
+use Rattle.rule_book.specs.Facts.{Facts, first_of, own_base, own_lane}
 use Rattle.rule_book.specs.Judged.{Told, empty_book, judged_flow, judged_formed, judged_opened, judged_side, nothing_judged, opened_facts}
 use Rattle.rule_book.specs.Signals.{KeyedValue, judged_options, told_formless}
 use Rattle.rule_book.specs.State.{BookValue, LanesValue, stream_at, with_stream}
@@ -30,7 +30,7 @@ use Rattle.capture_verdict.specs.Judging.{judged_packets}
 use Rattle.judge_laws.specs.GoesOn.{broke, stream_in}
 use Rattle.judge_laws.proofs.Folds.{TellingKeeps, options_so as fields_so}
 use Rattle.own_runs.proofs.FinePositions.{TellsNoFail}
-use Rattle.own_runs.proofs.MapPositions.{Fine, LaneFine, OffersWell, StreamFine, at_so, is_mapping}
+use Rattle.own_runs.proofs.MapPositions.{LaneFine, OffersWell, StreamFine, at_so, is_mapping}
 use Rattle.own_runs.proofs.KeptOptions.{kept_so}
 use Rattle.own_runs.proofs.Own.{Drawn, IsOwn, ValueIs, own_key}
 use Rattle.own_runs.proofs.OwnFlows.{FlowOn, KeysOwn, NonceIs}
@@ -132,7 +132,7 @@ module _ (d : Drawn) (limit : Side → ℕ) (few : (s : Side) → limit s < 2 ^ 
 
     first_so : (s : Side) (keys : Keys) (options : List OptionValue) (place : ℕ → ℕ) (position : ℕ) → KeysOwn d keys
         → All (OffersWell (first_number (own_key d s)) (limit s) place position) options → IfSome (first_of s keys) (λ first. All (OffersWell first (limit s) place position) options)
-    first_so s keys options place position k all = by (key_of s keys) (key_is d is_mapping refl s keys k)
+    first_so s keys options place position k all = by (key_of s keys) (key_is d is_mapping s keys k)
       where
         by : (o : Option ℕ) → IfSome o (λ key. key ≡ own_key d s) → IfSome (option_map first_number o) (λ first. All (OffersWell first (limit s) place position) options)
         by None is = tt
@@ -183,14 +183,14 @@ module _ (d : Drawn) (limit : Side → ℕ) (few : (s : Side) → limit s < 2 ^ 
           → Leaves own.path (judged_opened (opened_facts at packet seen index flow opened own.from) (map Readable own.values) keys left)
       opened_so opened e =
           let facts = opened_facts at packet seen index flow opened own.from in
-          let it : IsOf d is_mapping refl own.path facts = record {
+          let it : IsOf d is_mapping own.path facts = record {
             opening = f.opening;
             nonce = subst (λ (o : Option Opened). IfSome o (NonceIs d own.path flow.opening)) e f.nonce;
             opener = opens_so d seen own flow f;
           } in
           let was = h.book own.from in
           let first : KeyedValue = record { options = []; keys = keys; stream = stream_at own.from left.book } in
-          let made = options_so d is_mapping refl own.path facts it own.values first own.each
+          let made = options_so d is_mapping own.path facts it own.values first own.each
           (record { keys = k; untold = was.untold; each = All-nil (ValueIs d own.path own.from) }) in
           let all = judged_options facts (map Readable own.values) first in
           let fields = fields_so (fields_keep own.from) facts (map Readable own.values) first (record { infinite = was.infinite; fin = was.fin; top = was.top }) in

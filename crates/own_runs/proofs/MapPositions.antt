@@ -1,21 +1,16 @@
 -- Mappings that give each position its place: what a side's stream and lane are where each of its mappings is such, and ends within the stream.
 -- Then none of them breaks `mapping`.
 use Rattle.std.proofs.Common.{◌≡◌, refl, sym, ap, ◌∙◌, subst, ℕ, ℤ, zero, suc, ◌⊎◌, inl, inr, nat_le, ◌&&◌, ◌+◌, ◌-◌, ◌%◌, ◌^◌, ◌<◌, ◌≤◌, ◌==◌, nat_lt, max, pos, Bool, true, false, if◌then◌else◌, Option, Some, None, Result, Ok, Err, List, [], ◌∷◌, arith}
-use Rattle.std.specs.Prelude.{All, IfSome, int_lt, is_some, option_and_then, ◌-ℤ◌, ◌||◌, ◌++◌}
+use Rattle.std.specs.Prelude.{All, IfSome, int_lt, is_some, option_and_then, ◌||◌, ◌++◌}
 use Rattle.std.specs.Int.{from_bool}
 use Rattle.std.specs.Option.{option_or}
-use Rattle.std.proofs.lemmas.Int.{ints}
 use Rattle.std.proofs.lemmas.Bool.{eq-eqb, le-ltb, leb-true, lt-ltb, ltb-true, ne_eqb}
 use Rattle.std.proofs.lemmas.List.Elements.{All-head, All-tail}
 use Rattle.sides.specs.Side.{peer}
-use Rattle.seq_units.specs.Number.{IsNear, below, position_near}
-use Rattle.seq_units.proofs.ReadBack.{position_near-number_of_32, position_near-number_of_64}
-use Rattle.mptcp_options.specs.declared.dss.DataNumber.{DataNumber}
-use Rattle.mptcp_options.specs.declared.dss.DataNumber.TheVariants.{Low, Whole}
 use Rattle.mptcp_options.specs.Value.{OptionValue, Dss, Fail}
 use Rattle.judge_rules.specs.declared.acks.ToldPlace.{ToldPlace}
 use Rattle.judge_rules.specs.declared.finding.Finding.{Finding}
-use Rattle.judge_rules.specs.declared.finding.Finding.TheVariants.{BeyondFin, MappedBeyond, NoMapping, NoPosition, OtherFin, OtherPlace}
+use Rattle.judge_rules.specs.declared.finding.Finding.TheVariants.{BeyondFin, MappedBeyond, NoPosition, OtherFin, OtherPlace}
 use Rattle.judge_rules.specs.declared.finding.Rule.{Rule}
 use Rattle.judge_rules.specs.declared.finding.Rule.TheVariants as rule
 use Rattle.judge_rules.specs.declared.mappings.Line.{Line}

@@ -37,6 +37,7 @@ is_option rule.Form = true
 is_option rule.Keys = true
 is_option rule.JoinHmac = true
 is_option rule.AddressHmac = true
+is_option rule.FastCloseKey = true
 is_option rule.Within = true
 is_option _ = false
 

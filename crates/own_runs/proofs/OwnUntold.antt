@@ -161,13 +161,13 @@ module _ (d : Drawn) where
           → Leaves (judged_opened (opened_facts at packet seen index flow opened own.from) (map Readable own.values) keys left)
       opened_so opened e =
           let facts = opened_facts at packet seen index flow opened own.from in
-          let it : IsOf d is_option refl own.path facts = record {
+          let it : IsOf d is_option own.path facts = record {
             opening = f.opening;
             nonce = subst (λ (o : Option Opened). IfSome o (NonceIs d own.path flow.opening)) e f.nonce;
             opener = opens_so d seen own flow f;
           } in
           let first : KeyedValue = record { options = []; keys = keys; stream = stream_at own.from left.book } in
-          let made = options_so d is_option refl own.path facts it own.values first own.each (record { keys = k; untold = h own.from; each = All-nil (ValueIs d own.path own.from) }) in
+          let made = options_so d is_option own.path facts it own.values first own.each (record { keys = k; untold = h own.from; each = All-nil (ValueIs d own.path own.from) }) in
           let all = judged_options facts (map Readable own.values) first in
           record {
             keys = made.keys;

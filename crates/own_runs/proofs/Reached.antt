@@ -1,5 +1,5 @@
 -- What a run's lanes have at any moment they have at its end.
-use Rattle.std.proofs.Common.{◌≡◌, refl, sym, ap, ◌∙◌, subst, ℕ, List, [], ◌∷◌, ◌++◌, length}
+use Rattle.std.proofs.Common.{◌≡◌, refl, sym, ◌∙◌, subst, List, [], ◌∷◌, ◌++◌, length}
 use Rattle.path_core.specs.Values.{Carried, values}
 use Rattle.stream_lanes.proofs.Duos.{any_held}
 use Rattle.stream_lanes.specs.Duo.{Duo, after_events}

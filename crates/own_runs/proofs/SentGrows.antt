@@ -1,5 +1,5 @@
 -- What a lane's record has stays in it, whatever happens.
-use Rattle.std.proofs.Common.{◌≡◌, refl, sym, ap, ◌∙◌, subst, ℕ, zero, suc, ◌⊎◌, inl, inr, ⊎_elim, Bool, true, false, if◌then◌else◌, Option, Some, None, List, [], ◌∷◌, ◌++◌, append_assoc, append-nil}
+use Rattle.std.proofs.Common.{◌≡◌, refl, sym, ap, ◌∙◌, subst, ℕ, ⊎_elim, Bool, true, false, if◌then◌else◌, Option, Some, None, List, [], ◌∷◌, ◌++◌, append_assoc, append-nil}
 use Rattle.std.specs.List.{slice_get}
 use Rattle.std.proofs.Math.ListN.{set}
 use Rattle.judge_laws.proofs.Books.{set_either}
@@ -12,7 +12,7 @@ use Rattle.reassembly_book.specs.declared.call.ReassemblyReply.TheVariants.{Ack,
 use Rattle.send_book.specs.declared.call.SendReply.{SendReply}
 use Rattle.stream_lanes.specs.Duo.{Duo, Event, after_event, after_events, flags_ab, flags_ba}
 use Rattle.stream_lanes.specs.Lane.{Lane, Cell, Ask}
-use Rattle.stream_lanes.specs.Moves.{Flags, Move, moved, takes_grant, takes_ack, takes_placed, takes_fin, takes_ack_out, hears, hears_sub, sends_piece, sends_altered, sends_pair, sends_plain_pair, sends_fin_pair, keeps, learns, learns_mapping, hears_data_fin, hears_fin, places, takes_pair, places_pair, ends_pair}
+use Rattle.stream_lanes.specs.Moves.{Flags, Move, moved, takes_grant, takes_ack, takes_placed, takes_fin, takes_ack_out, hears, hears_sub, sends_piece, sends_altered, sends_pair, sends_fin_pair, keeps, learns, learns_mapping, hears_data_fin, hears_fin, places, takes_pair, places_pair, ends_pair}
 use Rattle.stream_lanes.specs.Streams.{Direction, StreamEvent, after, asks, asks_at, moves, goes_infinite}
 
 -- a record goes on
