@@ -14,6 +14,7 @@ mod Carrying
 mod Placing
 mod Moments
 mod OwnFlows
+mod TokenFlows
 mod Telling
 mod OwnPositions
 mod OwnOptions
