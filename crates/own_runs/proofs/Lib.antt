@@ -15,6 +15,7 @@ mod Placing
 mod Moments
 mod OwnFlows
 mod TokenFlows
+mod KnownKeys
 mod Telling
 mod OwnPositions
 mod OwnOptions
