@@ -69,7 +69,7 @@ module _ (v : View) (n place position len : ℕ) (out : Lane) (holds : LaneHolds
       subst (λ o. IfSome o (IsRight out.sent)) has.holds.there honest.mapping
 
   -- the cell of one of its places
-  cell_at : (j : ℕ) → j < m.len → (x : Cell) × ((slice_get out.sent (m.pos + j) ≡ Some x) × (x.place ≡ m.place + j))
+  pub cell_at : (j : ℕ) → j < m.len → (x : Cell) × ((slice_get out.sent (m.pos + j) ≡ Some x) × (x.place ≡ m.place + j))
   cell_at j below = let found = in_map (λ (x : Cell). x.place) out.sent (m.pos + j) (m.place + j) (right.places j below) in (found.0, (found.1, found.2))
 
   written_within : 1 ≤ len → place + len ≤ length v.written

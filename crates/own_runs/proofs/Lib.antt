@@ -33,3 +33,4 @@ mod MapKept
 mod OwnTrace
 mod Kept
 mod FineTrace
+mod MapPlaces
