@@ -144,18 +144,19 @@ module _ (start : Start) (turns : List Turn) (plain : IsPlain start) (whole : Is
     -- an end, by what it shows on its lanes
     module _ (s : Side) (e : PathEnd) (out back : Lane) (view : View) (shown : EndShows c s e out back) (hold : LaneHolds view n out) (tells : EndTells c s e)
         (unaltered : out.alters ≡ false) (upto : length view.written ≤ file_len start s) (ends : (k : ℕ) → view.end ≡ Some k → k ≡ file_len start s)
-        (identity : e.modes.identity ≡ false) where
+        (identity : e.modes.identity ≡ false) (Maps : Side → ℕ → ℕ → ℕ → Type 0)
+        (gives : (place position len : ℕ) → HasMapping out.datas place position len → Maps s place position len) where
       own_none : e.modes.own_infinite ≡ None
       own_none = (elim e.modes.own_infinite as (λ o. IfSome o (OwnIs out.pair out.pairs out.fins out.alters) → o ≡ None)
           [ None ↦ λ own. refl | Some mapping ↦ λ own. absurd (both_ways out.alters unaltered own.may) ]) shown.pairs.0
 
-      kind_so : (kind : RecordKind) (r : Record) → KindShows c s out.alters out.sent out.datas out.fins kind r → RecordKindTells c s kind r → RecordFine (file_len start) Anything c s kind r
+      kind_so : (kind : RecordKind) (r : Record) → KindShows c s out.alters out.sent out.datas out.fins kind r → RecordKindTells c s kind r → RecordFine (file_len start) Maps c s kind r
       kind_so Syn r is kept = tt
       kind_so Fin r is kept = tt
       kind_so Data r is kept = (
         kept.0,
         let within = written_within view n (place_numbered c s r.mapping.number) r.pos r.mapping.length out hold is.mapping kept.0 in omega (arith, within, upto),
-        tt,
+        gives (place_numbered c s r.mapping.number) r.pos r.mapping.length is.mapping,
       )
 
       unfailed : (o : Option ℕ) → IfSome o (λ _. out.alters ≡ true) → o ≡ None
@@ -169,7 +170,7 @@ module _ (start : Start) (turns : List Turn) (plain : IsPlain start) (whole : Is
           by None is = tt
           by (Some k) is = ends k is
 
-      end_so : EndFine (file_len start) Anything c s e
+      end_so : EndFine (file_len start) Maps c s e
       end_so = record {
         identity = identity;
         infinite = own_none;
@@ -191,11 +192,11 @@ module _ (start : Start) (turns : List Turn) (plain : IsPlain start) (whole : Is
     fine A =
         let hold = holds.ab.lanes.each n n there.ab (omega arith) there.ab_there in
         end_so A p.a there.ab there.ba _ there.shows.a hold told.a hold.link.alters_is (file_length start.file_a six.send_a.written writes_a.prefix)
-        (closed_so start.file_a six.send_a writes_a.whole) (upright A)
+        (closed_so start.file_a six.send_a writes_a.whole) (upright A) Anything (λ place position len has. tt)
     fine B =
         let hold = holds.ba.lanes.each n n there.ba (omega arith) there.ba_there in
         end_so B p.b there.ba there.ab _ there.shows.b hold told.b hold.link.alters_is (file_length start.file_b six.send_b.written writes_b.prefix)
-        (closed_so start.file_b six.send_b writes_b.whole) (upright B)
+        (closed_so start.file_b six.send_b writes_b.whole) (upright B) Anything (λ place position len has. tt)
 
     offers : PathOffers start p
     offers =
