@@ -47,7 +47,7 @@ module _ (d : Drawn) (limit : Side → ℕ) (few : (s : Side) → limit s < 2 ^ 
   abbrev BookFine : BookValue → Type 0
   BookFine book = (s : Side) → StreamFine (limit s) (few s) (stream_at s book)
 
-  pub record LanesFine (lanes : LanesValue) : Type 0 where
+  pub record LanesFine (path : ℕ) (lanes : LanesValue) : Type 0 where
     pub opener : lanes.opener.line ≡ None
     pub other : lanes.other.line ≡ None
 
@@ -65,17 +65,17 @@ module _ (d : Drawn) (limit : Side → ℕ) (few : (s : Side) → limit s < 2 ^ 
   gaps_fine gaps book h A = h A
   gaps_fine gaps book h B = h B
 
-  lane_fine : (facts : Facts) (lanes : LanesValue) → LanesFine lanes → (own_lane facts lanes).line ≡ None
-  lane_fine facts lanes h = by facts.is_opener
+  lane_fine : (facts : Facts) (path : ℕ) (lanes : LanesValue) → LanesFine path lanes → (own_lane facts lanes).line ≡ None
+  lane_fine facts path lanes h = by facts.is_opener
     where
       by : (b : Bool) → (if b then lanes.opener else lanes.other).line ≡ None
       by true = h.opener
       by false = h.other
 
-  lanes_fine : (facts : Facts) (lane : LaneValue) (lanes : LanesValue) → lane.line ≡ None → LanesFine lanes → LanesFine (with_own_lane facts lane lanes)
-  lanes_fine facts lane lanes new h = by facts.is_opener
+  lanes_fine : (facts : Facts) (path : ℕ) (lane : LaneValue) (lanes : LanesValue) → lane.line ≡ None → LanesFine path lanes → LanesFine path (with_own_lane facts lane lanes)
+  lanes_fine facts path lane lanes new h = by facts.is_opener
     where
-      by : (b : Bool) → LanesFine (if b then record lanes { opener = lane } else record lanes { other = lane })
+      by : (b : Bool) → LanesFine path (if b then record lanes { opener = lane } else record lanes { other = lane })
       by true = record { opener = new; other = h.other }
       by false = record { opener = h.opener; other = new }
 
@@ -91,8 +91,8 @@ module _ (d : Drawn) (limit : Side → ℕ) (few : (s : Side) → limit s < 2 ^ 
     counts = λ stream keys joins mappings sums data_acks h. record { infinite = h.infinite; fin = h.fin; top = h.top };
   }
 
-  abbrev Leaves : Told → Type 0
-  Leaves told = IsLeft d IsFine BookFine LanesFine told
+  abbrev Leaves : ℕ → Told → Type 0
+  Leaves path told = IsLeft d IsFine BookFine LanesFine path told
 
   module _ (at : Option Side) (packet : ℕ) (seen : Seen) (p : IsFine seen) where
     abbrev own : IsOwn d seen
@@ -100,11 +100,11 @@ module _ (d : Drawn) (limit : Side → ℕ) (few : (s : Side) → limit s < 2 ^ 
 
     record LeftFine (left : Left) : Type 0 where
       book : BookFine left.book
-      lanes : LanesFine left.lanes
+      lanes : LanesFine own.path left.lanes
 
     first_so : (s : Side) (keys : Keys) (options : List OptionValue) → KeysOwn d keys → All (OffersWell (first_number (own_key d s)) (limit s)) options
         → IfSome (first_of s keys) (λ first. All (OffersWell first (limit s)) options)
-    first_so s keys options k all = by (key_of s keys) (key_is d is_of_ends refl s keys k)
+    first_so s keys options k all = by (key_of s keys) (key_is d is_of_ends s keys k)
       where
         by : (o : Option ℕ) → IfSome o (λ key. key ≡ own_key d s) → IfSome (option_map first_number o) (λ first. All (OffersWell first (limit s)) options)
         by None is = tt
@@ -123,10 +123,10 @@ module _ (d : Drawn) (limit : Side → ℕ) (few : (s : Side) → limit s < 2 ^ 
             let gone = (gap_counted facts left).book in
             let it = judged_at facts position options keys (stream_at (peer facts.side) left.book) own_stream lane in
             let fine = at_so (limit facts.side) (few facts.side) facts position options keys (stream_at (peer facts.side) left.book) own_stream lane
-            (first_so facts.side keys options k all) calm (h.book facts.side, lane_fine facts left.lanes h.lanes) in
+            (first_so facts.side keys options k all) calm (h.book facts.side, lane_fine facts own.path left.lanes h.lanes) in
             record {
               book = with_fine facts.side it.stream gone fine.0 (gaps_fine gone.gaps left.book h.book);
-              lanes = lanes_fine facts it.lane left.lanes fine.1 h.lanes;
+              lanes = lanes_fine facts own.path it.lane left.lanes fine.1 h.lanes;
             }
 
         by : (b : Bool) (position : Option ℕ) → LeftFine (if b then left else judged_from facts position options keys left)
@@ -135,17 +135,17 @@ module _ (d : Drawn) (limit : Side → ℕ) (few : (s : Side) → limit s < 2 ^ 
 
     module _ (index : ℕ) (flow : Flow) (f : FlowOn d own.path flow) (keys : Keys) (k : KeysOwn d keys) (left : Left) (h : LeftFine left) where
       opened_so : (opened : Opened) → flow.opened ≡ Some opened
-          → Leaves (judged_opened (opened_facts at packet seen index flow opened own.from) (map Readable own.values) keys left)
+          → Leaves own.path (judged_opened (opened_facts at packet seen index flow opened own.from) (map Readable own.values) keys left)
       opened_so opened e =
           let facts = opened_facts at packet seen index flow opened own.from in
-          let it : IsOf d is_of_ends refl own.path facts = record {
+          let it : IsOf d is_of_ends own.path facts = record {
             opening = f.opening;
             nonce = subst (λ (o : Option Opened). IfSome o (NonceIs d own.path flow.opening)) e f.nonce;
             opener = opens_so d seen own flow f;
           } in
           let was = h.book own.from in
           let first : KeyedValue = record { options = []; keys = keys; stream = stream_at own.from left.book } in
-          let made = options_so d is_of_ends refl own.path facts it own.values first own.each
+          let made = options_so d is_of_ends own.path facts it own.values first own.each
           (record { keys = k; untold = was.untold; each = All-nil (ValueIs d own.path own.from) }) in
           let all = judged_options facts (map Readable own.values) first in
           let fields = fields_so (fields_keep own.from) facts (map Readable own.values) first (record { infinite = was.infinite; fin = was.fin; top = was.top }) in
@@ -159,16 +159,16 @@ module _ (d : Drawn) (limit : Side → ℕ) (few : (s : Side) → limit s < 2 ^ 
           record { keys = made.keys; book = behind.book; lanes = behind.lanes }
 
       formed_so : (opened : Option Opened) → flow.opened ≡ opened
-          → Leaves (judged_formed at packet seen index flow opened own.from (map Readable own.values) keys left)
+          → Leaves own.path (judged_formed at packet seen index flow opened own.from (map Readable own.values) keys left)
       formed_so None e = record { keys = k; book = h.book; lanes = h.lanes }
       formed_so (Some opened) e = opened_so opened e
 
     flow_so : (index : ℕ) (flow : Flow) (f : FlowOn d own.path flow) (belongs : Belongs) → belongs.opener ≡ A → (keys : Keys) (left : Left) → KeysOwn d keys
-        → LeftFine left → Leaves (judged_flow at packet seen index flow belongs keys left)
+        → LeftFine left → Leaves own.path (judged_flow at packet seen index flow belongs keys left)
     flow_so index flow f belongs is keys left k h =
         let formed = told_formless packet (map Readable own.values) (stream_at own.from left.book) in
-        subst (λ (s : Side). Leaves (judged_side at packet seen index flow s keys left)) (sym (sender_so d seen own flow f belongs is))
-        (subst (λ (options : List SeenValue). Leaves (judged_formed at packet seen index flow flow.opened own.from options keys
+        subst (λ (s : Side). Leaves own.path (judged_side at packet seen index flow s keys left)) (sym (sender_so d seen own flow f belongs is))
+        (subst (λ (options : List SeenValue). Leaves own.path (judged_formed at packet seen index flow flow.opened own.from options keys
         (record left { book = with_stream own.from (told_formless packet options (stream_at own.from left.book)) left.book }))) (sym options_are)
         (formed_so index flow f keys k (record left { book = with_stream own.from formed left.book })
         (record {
@@ -185,7 +185,7 @@ module _ (d : Drawn) (limit : Side → ℕ) (few : (s : Side) → limit s < 2 ^ 
   keep = record {
     own = λ seen p. p.own;
     new_book = new_fine;
-    new_lanes = record { opener = refl; other = refl };
+    new_lanes = λ path. record { opener = refl; other = refl };
     token = λ wrong book h.
         let s = wrong.belongs.opener in
         let was = h s in

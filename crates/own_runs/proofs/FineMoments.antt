@@ -50,7 +50,7 @@ use Rattle.world_laws.specs.Promises.{NumbersFit, IsPlain}
 use Rattle.world_laws.specs.Worlds.{WorldState, Turn, world_run}
 use Rattle.world_laws.specs.declared.member.Member.TheVariants.{App, Path}
 use Rattle.own_runs.proofs.Moments.{end_shown, first_same}
-use Rattle.own_runs.proofs.Offering.{AllFine, EndFine, RecordFine, first_fine_sent}
+use Rattle.own_runs.proofs.Offering.{AllFine, Anything, EndFine, RecordFine, first_fine_sent}
 use Rattle.own_runs.proofs.Speaking.{ToSend}
 
 -- the octets of a side's file
@@ -69,7 +69,7 @@ module _ (v : View) (n place position len : ℕ) (out : Lane) (holds : LaneHolds
       subst (λ o. IfSome o (IsRight out.sent)) has.holds.there honest.mapping
 
   -- the cell of one of its places
-  cell_at : (j : ℕ) → j < m.len → (x : Cell) × ((slice_get out.sent (m.pos + j) ≡ Some x) × (x.place ≡ m.place + j))
+  pub cell_at : (j : ℕ) → j < m.len → (x : Cell) × ((slice_get out.sent (m.pos + j) ≡ Some x) × (x.place ≡ m.place + j))
   cell_at j below = let found = in_map (λ (x : Cell). x.place) out.sent (m.pos + j) (m.place + j) (right.places j below) in (found.0, (found.1, found.2))
 
   written_within : 1 ≤ len → place + len ≤ length v.written
@@ -83,7 +83,7 @@ module _ (v : View) (n place position len : ℕ) (out : Lane) (holds : LaneHolds
 -- ---- a path at a moment
 
 abbrev pub PathOffers : {C : Type 0} → Start → PathState C → Type 0
-PathOffers start p = IfSome (first_sends p.agenda p) (λ t. AllFine (file_len start) t.from (segment_sent p t).options)
+PathOffers start p = IfSome (first_sends p.agenda p) (λ t. AllFine (file_len start) Anything t.from (segment_sent p t).options)
 
 abbrev pub MemberOffers : {C : Type 0} → Start → Actor C → Type 0
 MemberOffers start (App a) = Unit {0}
@@ -144,17 +144,19 @@ module _ (start : Start) (turns : List Turn) (plain : IsPlain start) (whole : Is
     -- an end, by what it shows on its lanes
     module _ (s : Side) (e : PathEnd) (out back : Lane) (view : View) (shown : EndShows c s e out back) (hold : LaneHolds view n out) (tells : EndTells c s e)
         (unaltered : out.alters ≡ false) (upto : length view.written ≤ file_len start s) (ends : (k : ℕ) → view.end ≡ Some k → k ≡ file_len start s)
-        (identity : e.modes.identity ≡ false) where
+        (identity : e.modes.identity ≡ false) (Maps : Side → ℕ → ℕ → ℕ → Type 0)
+        (gives : (place position len : ℕ) → HasMapping out.datas place position len → Maps s place position len) where
       own_none : e.modes.own_infinite ≡ None
       own_none = (elim e.modes.own_infinite as (λ o. IfSome o (OwnIs out.pair out.pairs out.fins out.alters) → o ≡ None)
           [ None ↦ λ own. refl | Some mapping ↦ λ own. absurd (both_ways out.alters unaltered own.may) ]) shown.pairs.0
 
-      kind_so : (kind : RecordKind) (r : Record) → KindShows c s out.alters out.sent out.datas out.fins kind r → RecordKindTells c s kind r → RecordFine (file_len start) c s kind r
+      kind_so : (kind : RecordKind) (r : Record) → KindShows c s out.alters out.sent out.datas out.fins kind r → RecordKindTells c s kind r → RecordFine (file_len start) Maps c s kind r
       kind_so Syn r is kept = tt
       kind_so Fin r is kept = tt
       kind_so Data r is kept = (
         kept.0,
         let within = written_within view n (place_numbered c s r.mapping.number) r.pos r.mapping.length out hold is.mapping kept.0 in omega (arith, within, upto),
+        gives (place_numbered c s r.mapping.number) r.pos r.mapping.length is.mapping,
       )
 
       unfailed : (o : Option ℕ) → IfSome o (λ _. out.alters ≡ true) → o ≡ None
@@ -168,7 +170,7 @@ module _ (start : Start) (turns : List Turn) (plain : IsPlain start) (whole : Is
           by None is = tt
           by (Some k) is = ends k is
 
-      end_so : EndFine (file_len start) c s e
+      end_so : EndFine (file_len start) Maps c s e
       end_so = record {
         identity = identity;
         infinite = own_none;
@@ -186,19 +188,19 @@ module _ (start : Start) (turns : List Turn) (plain : IsPlain start) (whole : Is
         by true whole is = let same : length b.written ≡ k = cc in sym same ∙ ap length (whole refl)
         by false whole is = cc
 
-    fine : (s : Side) → EndFine (file_len start) c s (end_at s p)
+    fine : (s : Side) → EndFine (file_len start) Anything c s (end_at s p)
     fine A =
         let hold = holds.ab.lanes.each n n there.ab (omega arith) there.ab_there in
         end_so A p.a there.ab there.ba _ there.shows.a hold told.a hold.link.alters_is (file_length start.file_a six.send_a.written writes_a.prefix)
-        (closed_so start.file_a six.send_a writes_a.whole) (upright A)
+        (closed_so start.file_a six.send_a writes_a.whole) (upright A) Anything (λ place position len has. tt)
     fine B =
         let hold = holds.ba.lanes.each n n there.ba (omega arith) there.ba_there in
         end_so B p.b there.ba there.ab _ there.shows.b hold told.b hold.link.alters_is (file_length start.file_b six.send_b.written writes_b.prefix)
-        (closed_so start.file_b six.send_b writes_b.whole) (upright B)
+        (closed_so start.file_b six.send_b writes_b.whole) (upright B) Anything (λ place position len has. tt)
 
     offers : PathOffers start p
     offers =
-        first_fine_sent (file_len start) p (λ s. subst (λ (d : Profile). EndFine (file_len start) d s (end_at s p)) (sym there.shows.profile) (fine s)) p.agenda
+        first_fine_sent (file_len start) Anything p (λ s. subst (λ (d : Profile). EndFine (file_len start) Anything d s (end_at s p)) (sym there.shows.profile) (fine s)) p.agenda
 
   valued : WorldOffers start v
   valued =
@@ -211,11 +213,11 @@ path_shown : (start : Start) (p : PathState Carried) → PathOffers start p → 
 path_shown start p s = subst (λ (o : Option ToSend). IfSome o Shown) (sym (first_same p.agenda p)) (by (first_sends p.agenda p) s)
   where
     Shown : ToSend → Type 0
-    Shown = λ t. AllFine (file_len start) t.from (segment_sent (shown_path p) t).options
+    Shown = λ t. AllFine (file_len start) Anything t.from (segment_sent (shown_path p) t).options
 
-    by : (o : Option ToSend) → IfSome o (λ t. AllFine (file_len start) t.from (segment_sent p t).options) → IfSome o Shown
+    by : (o : Option ToSend) → IfSome o (λ t. AllFine (file_len start) Anything t.from (segment_sent p t).options) → IfSome o Shown
     by None said = tt
-    by (Some t) said = subst (λ (e : PathEnd). AllFine (file_len start) t.from (said_by t.kind p.profile t.from e).options) (end_shown t.from p) said
+    by (Some t) said = subst (λ (e : PathEnd). AllFine (file_len start) Anything t.from (said_by t.kind p.profile t.from e).options) (end_shown t.from p) said
 
 member_shown : (start : Start) (m : Actor Carried) → MemberOffers start m → MemberOffers start (shown_member m)
 member_shown start (App a) s = tt

@@ -67,7 +67,7 @@ close expected place few small = record { behind = omega (arith, ints, few, smal
 close_64 : (expected place : ℕ) → expected < 2 ^ 31 → place < 2 ^ 31 → IsNear (2 ^ 64) (pos place -ℤ pos expected)
 close_64 expected place few small = record { behind = omega (arith, ints, few, small); ahead = omega (arith, ints, few, small) }
 
-near_so : (first expected place : ℕ) (number : DataNumber) → NumberIs first number place → expected < 2 ^ 31 → place < 2 ^ 31 → place_near first expected number ≡ Some place
+pub near_so : (first expected place : ℕ) (number : DataNumber) → NumberIs first number place → expected < 2 ^ 31 → place < 2 ^ 31 → place_near first expected number ≡ Some place
 near_so first expected place (Whole number) is few small =
     under (position_near (2 ^ 64) first expected number) place
     (ap (position_near (2 ^ 64) first expected) is ∙ position_near-number_of_64 first expected place (close_64 expected place few small)) (omega (arith, small))

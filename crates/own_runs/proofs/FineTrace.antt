@@ -33,7 +33,7 @@ use Rattle.own_runs.proofs.FineMoments.{file_len, world_offers}
 use Rattle.own_runs.proofs.FinePositions.{NumberIs, OffersWell, TellsNoFail, is_of_ends}
 use Rattle.own_runs.proofs.Kept.{all_on, same_judged}
 use Rattle.own_runs.proofs.Moments.{IsSpoken, trace_spoken}
-use Rattle.own_runs.proofs.Offering.{AllFine, OptionFine}
+use Rattle.own_runs.proofs.Offering.{AllFine, Anything, OptionFine}
 use Rattle.own_runs.proofs.Own.{own_key}
 use Rattle.own_runs.proofs.OwnTrace.{found, from_is, is_own, values_are}
 use Rattle.own_runs.proofs.Values.{drawn}
@@ -68,7 +68,7 @@ module _ (start : Start) (path : ℕ) (plan : PathPlan) where
   first_low A = omega arith
   first_low B = omega arith
 
-  offer_so : (s : Side) (o : PlainOption) → OptionFine (file_len start) s o → OffersWell (first s) (file_len start s) (said_option spelling s o)
+  offer_so : (s : Side) (o : PlainOption) → OptionFine (file_len start) Anything s o → OffersWell (first s) (file_len start s) (said_option spelling s o)
   offer_so s (Dss next None) is = tt
   offer_so s (Dss next (Some (Bytes place position len false checksum))) is = record { place = place; number = number_so s place; some = is.0; ends = is.2 }
   offer_so s (Dss next (Some (Bytes place position len true checksum))) is = cc
@@ -82,19 +82,19 @@ module _ (start : Start) (path : ℕ) (plan : PathPlan) where
   offer_so s (Fail place) is = absurd is
   offer_so s _ is = tt
 
-  calm_so : (s : Side) (o : PlainOption) → OptionFine (file_len start) s o → TellsNoFail (said_option spelling s o)
+  calm_so : (s : Side) (o : PlainOption) → OptionFine (file_len start) Anything s o → TellsNoFail (said_option spelling s o)
   calm_so s (Fail place) is = is
   calm_so s (Capable flag_a flag_c keys) is = tt
   calm_so s (Dss next mapping) is = tt
   calm_so s _ is = tt
 
-  calmly : (s : Side) (options : List PlainOption) → AllFine (file_len start) s options → All TellsNoFail (map (said_option spelling s) options)
+  calmly : (s : Side) (options : List PlainOption) → AllFine (file_len start) Anything s options → All TellsNoFail (map (said_option spelling s) options)
   calmly s [] each = All-nil TellsNoFail
   calmly s (o ∷ options) each =
       All-cons TellsNoFail (said_option spelling s o) (map (said_option spelling s) options) (calm_so s o (each.each 0 o refl))
       (calmly s options (record { each = λ i y at. each.each (suc i) y at }))
 
-  offers_so : (s : Side) (options : List PlainOption) → AllFine (file_len start) s options → All (OffersWell (first s) (file_len start s)) (map (said_option spelling s) options)
+  offers_so : (s : Side) (options : List PlainOption) → AllFine (file_len start) Anything s options → All (OffersWell (first s) (file_len start s)) (map (said_option spelling s) options)
   offers_so s [] each = All-nil (OffersWell (first s) (file_len start s))
   offers_so s (o ∷ options) each =
       All-cons (OffersWell (first s) (file_len start s)) (said_option spelling s o) (map (said_option spelling s) options) (offer_so s o (each.each 0 o refl))
@@ -104,8 +104,8 @@ module _ (start : Start) (path : ℕ) (plan : PathPlan) where
 
 module _ (start : Start) where
   -- what a segment maps
-  abbrev Offers : Side → PlainSegment → Type 0
-  Offers s sg = AllFine (file_len start) s sg.options
+  abbrev Offers : ℕ → Side → PlainSegment → Type 0
+  Offers path s sg = AllFine (file_len start) Anything s sg.options
 
   file_few : NumbersFit start → (s : Side) → file_len start s < 2 ^ 31
   file_few fit A = let short = fit.short_a in omega (arith, short)
@@ -132,7 +132,7 @@ module _ (start : Start) where
 pub no_whole_run_breaks : (r : Rule) → is_of_ends r ≡ true → NoWholeRunBreaks r
 no_whole_run_breaks r is start turns plain whole fit room side at judged read connection s stream there =
     let trace = trace_of turns (opened_world start) in
-    let spoken = trace_spoken (Offers start) start turns plain.size fit (λ more. world_offers start more plain whole fit) in
+    let spoken = trace_spoken (Offers start) start turns plain.size fit (λ more later is. world_offers start more plain whole fit) in
     let packets = map packet_for trace in
     let few = fit.paths in
     let all = traces_are side (length start.paths) trace (omega (arith, few)) (all_on (Offers start) start trace spoken) room in

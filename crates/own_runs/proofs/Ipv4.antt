@@ -14,7 +14,7 @@ use Rattle.capture_reader.specs.Internet.{CarriedValue, carried_by, carried_by_4
 abbrev carried_with : List ℕ → List ℕ → ℕ → List ℕ → CarriedValue
 carried_with source destination size octets = record { source = V4 source; destination = V4 destination; size = size; octets = octets }
 
--- a packet of octets between two addresses, all of them held
+-- these octets between these addresses, all held
 abbrev pub carried_whole : List ℕ → List ℕ → List ℕ → CarriedValue
 carried_whole source destination octets = record { source = V4 source; destination = V4 destination; size = length octets; octets = octets }
 

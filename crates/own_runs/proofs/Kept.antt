@@ -27,7 +27,7 @@ use Rattle.own_runs.proofs.OwnTrace.{packet_own}
 use Rattle.own_runs.proofs.Values.{drawn}
 use Rattle.own_runs.proofs.Traces.{traces_are}
 
-pub all_on : (Q : Side → PlainSegment → Type 0) (start : Start) (trace : List Sent) → Every (IsSpoken Q start) trace → All (λ s. s.path < length start.paths) trace
+pub all_on : (Q : ℕ → Side → PlainSegment → Type 0) (start : Start) (trace : List Sent) → Every (IsSpoken Q start) trace → All (λ s. s.path < length start.paths) trace
 all_on Q start [] each = All-nil (λ s. s.path < length start.paths)
 all_on Q start (x ∷ trace) each =
     All-cons (λ s. s.path < length start.paths) x trace (let s = each.each 0 x refl in slice_get_within start.paths x.path s.plan s.there)
@@ -46,7 +46,7 @@ same_judged one other e = cc
 pub no_run_breaks : (r : Rule) → is_option r ≡ true → NoRunBreaks r
 no_run_breaks r is start turns size fit room side at judged read connection s stream there =
     let trace = trace_of turns (opened_world start) in
-    let spoken = trace_spoken Nothing start turns size fit (λ more. also_nothing (world_run octets more (opened_world start))) in
+    let spoken = trace_spoken Nothing start turns size fit (λ more later is. also_nothing (world_run octets more (opened_world start))) in
     let packets = map packet_for trace in
     let few = fit.paths in
     let all = traces_are side (length start.paths) trace (omega (arith, few)) (all_on Nothing start trace spoken) room in

@@ -1,5 +1,5 @@
 -- What each segment of a trace says, whatever its script does.
-use Rattle.std.proofs.Common.{◌≡◌, refl, sym, ap, ◌∙◌, subst, ℕ, suc, ◌+◌, ◌≤◌, ◌<◌, ◌^◌, true, false, Option, Some, None, option_map, List, [], ◌∷◌, length, length-append, arith}
+use Rattle.std.proofs.Common.{◌≡◌, refl, sym, ap, ◌∙◌, subst, ℕ, suc, ◌+◌, ◌≤◌, ◌<◌, ◌^◌, true, false, Option, Some, None, option_map, List, [], ◌∷◌, ◌++◌, length, length-append, arith}
 use Rattle.std.specs.Option.{IfSome}
 use Rattle.std.specs.List.{slice_get}
 use Rattle.std.proofs.lemmas.Option.{slice_get_within}
@@ -26,7 +26,9 @@ use Rattle.path_core.specs.Shown.{shown_path}
 use Rattle.path_core.specs.State.{end_at, PathState, path_of}
 use Rattle.path_core.specs.Treating.{item_of}
 use Rattle.path_core.specs.Values.{Carried, values}
-use Rattle.path_segments.specs.Options.{said_option}
+use Rattle.path_segments.specs.Options.{PlainOption, said_option}
+use Rattle.path_segments.specs.declared.segment.PathOption.TheVariants.{FastClose}
+use Rattle.sides.specs.Side.{peer}
 use Rattle.path_segments.specs.Spelled.{PlainSegment}
 use Rattle.path_store.specs.declared.infinite_mapping.InfiniteMapping.{InfiniteMapping}
 use Rattle.run_trace.specs.Trace.{sent_as, sent_at, sent_by, sent_next, trace_of}
@@ -65,11 +67,12 @@ use Rattle.world_laws.specs.Worlds.{WorldState, Turn, world_run, after_turn}
 use Rattle.world_laws.specs.declared.member.Member.TheVariants.{App, Path}
 use Rattle.subflow_tcp.specs.declared.segments.Outgoing.{Outgoing}
 use Rattle.own_runs.proofs.Nonces.{always_has}
-use Rattle.own_runs.proofs.Placing.{EndStands, IsPlaced, Placed, first_placed_sent}
+use Rattle.own_runs.proofs.Carrying.{PathCarries, always_carry}
+use Rattle.own_runs.proofs.Placing.{EndStands, IsPlaced, Placed, PlacedIn, first_placed_sent}
 use Rattle.own_runs.proofs.Syns.{always_stand}
 use Rattle.own_runs.proofs.Speaking.{Says, Sends, ToSend, first_so}
-use Rattle.own_runs.proofs.Own.{ValueIs}
-use Rattle.own_runs.proofs.Values.{drawn, values_so}
+use Rattle.own_runs.proofs.Own.{ValueIs, own_key}
+use Rattle.own_runs.proofs.Values.{TellsKey, drawn, values_so}
 
 -- ---- the infinite mapping of an end
 
@@ -91,17 +94,23 @@ pub record Spoken (start : Start) (path : ℕ) (c : Profile) (s : Side) (e : Pat
   pub values : Every (λ o. ValueIs (drawn start) path s (said_option c.spelling s o)) sg.options
   pub tells : SegmentTells c s sg
   pub syn : sg.syn ≡ true → sg.options ≡ syn_options c s e
-  pub placed : Placed sg
+  pub placed : Placed (own_key (drawn start) (peer s)) sg
+
+-- of MP_FASTCLOSE
+tells_key : (key at n : ℕ) (o : PlainOption) → PlacedIn key at n o → TellsKey key o
+tells_key key at n (FastClose told) is = is
+tells_key key at n _ is = tt
 
 says_so : (start : Start) (number : ℕ) (plan : PathPlan) → slice_get start.paths number ≡ Some plan → (w : Side → Type 0) (did : Deed → Side → Type 0)
     (c : Profile) (s : Side) (e : PathEnd) (sg : PlainSegment)
-    → Says (with_nonces start.key_a start.key_b true plan.nonce_a plan.nonce_b) w did c s e sg → Placed sg → Spoken start number c s e sg
+    → Says (with_nonces start.key_a start.key_b true plan.nonce_a plan.nonce_b) w did c s e sg → Placed (own_key (drawn start) (peer s)) sg → Spoken start number c s e sg
 says_so start number plan there w did c s e sg says placed = record {
   values = values_so start number w did (is_joined c) s c.spelling sg.options
       (subst (λ (n : ℕ). SegmentIs (with_nonces start.key_a start.key_b true ((drawn start).nonce_a number) n) true w did c s sg)
       (sym (ap (λ (o : Option PathPlan). unwrap_or (option_map (λ plan. plan.nonce_b) o) 0) there))
       (subst (λ (n : ℕ). SegmentIs (with_nonces start.key_a start.key_b true n plan.nonce_b) true w did c s sg)
-      (sym (ap (λ (o : Option PathPlan). unwrap_or (option_map (λ plan. plan.nonce_a) o) 0) there)) says.is));
+      (sym (ap (λ (o : Option PathPlan). unwrap_or (option_map (λ plan. plan.nonce_a) o) 0) there)) says.is))
+      (record { each = λ i o at. tells_key (own_key (drawn start) (peer s)) sg.position (length sg.payload) o (placed.options.each i o at) });
   tells = says.tells;
   syn = says.syn;
   placed = placed;
@@ -213,18 +222,24 @@ module _ (start : Start) (turns : List Turn) (size : HasRoom start) (fit : Numbe
         subst (λ (d : Profile). d.mss < 2 ^ 16) (sym there.shows.profile)
         (let most = fit.size.each n plan there.plan_there in omega (arith, most))
 
-    stand : (s : Side) → EndStands (end_at s p)
-    stand A = ((always_stand start turns (suc (suc n)) (walking x) here).0, unsynced p.a.treated.answer (tells_at p.profile p told A).treated.answer)
-    stand B = ((always_stand start turns (suc (suc n)) (walking x) here).1, unsynced p.b.treated.answer (tells_at p.profile p told B).treated.answer)
+    carry : PathCarries start.key_a start.key_b p
+    carry = (always_carry start turns).crew (suc (suc n)) (walking x) here
+
+    abbrev key : Side → ℕ
+    key s = own_key (drawn start) (peer s)
+
+    stand : (s : Side) → EndStands (key s) (end_at s p)
+    stand A = ((always_stand start turns (suc (suc n)) (walking x) here).0, unsynced p.a.treated.answer (tells_at p.profile p told A).treated.answer, carry.0)
+    stand B = ((always_stand start turns (suc (suc n)) (walking x) here).1, unsynced p.b.treated.answer (tells_at p.profile p told B).treated.answer, carry.1)
 
     speaks : PathSpeaks start p
-    speaks = (n, plan, there.plan_there, there.numbered, there.shows.profile, by (first_sends p.agenda p) said (first_placed_sent p stand p.agenda))
+    speaks = (n, plan, there.plan_there, there.numbered, there.shows.profile, by (first_sends p.agenda p) said (first_placed_sent key p stand p.agenda))
       where
         said : IfSome (first_sends p.agenda p) (Sends (with_nonces start.key_a start.key_b true plan.nonce_a plan.nonce_b) (Joined (books_in v.books)) (Past (books_in v.books) NoMore) p is told few wide pair)
         said = first_so (with_nonces start.key_a start.key_b true plan.nonce_a plan.nonce_b) (Joined (books_in v.books)) (Past (books_in v.books) NoMore) p is told few wide pair knows.settled
 
         by : (o : Option ToSend) → IfSome o (Sends (with_nonces start.key_a start.key_b true plan.nonce_a plan.nonce_b) (Joined (books_in v.books)) (Past (books_in v.books) NoMore) p is told few wide pair)
-            → IfSome o (IsPlaced p stand) → IfSome o (λ t. Spoken start n p.profile t.from (end_at t.from p) (segment_sent p t))
+            → IfSome o (IsPlaced key p stand) → IfSome o (λ t. Spoken start n p.profile t.from (end_at t.from p) (segment_sent p t))
         by None s placed = tt
         by (Some t) s placed =
             says_so start n plan there.plan_there (Joined (books_in v.books)) (Past (books_in v.books) NoMore) p.profile t.from (end_at t.from p) (segment_sent p t) s placed
@@ -283,10 +298,10 @@ world_speaks start turns size fit =
 
 -- ---- the segments of a trace
 
-module _ (Q : Side → PlainSegment → Type 0) where
+module _ (Q : ℕ → Side → PlainSegment → Type 0) where
   -- what else holds of what is sent next
   abbrev pub PathAlso : {C : Type 0} → PathState C → Type 0
-  PathAlso p = IfSome (first_sends p.agenda p) (λ t. Q t.from (segment_sent p t))
+  PathAlso p = IfSome (first_sends p.agenda p) (λ t. Q (path_of p) t.from (segment_sent p t))
 
   abbrev pub MemberAlso : {C : Type 0} → Actor C → Type 0
   MemberAlso (App a) = Unit {0}
@@ -303,7 +318,7 @@ module _ (Q : Side → PlainSegment → Type 0) where
     pub end : PathEnd
     pub octets : x.octets ≡ made (path_begins start x.path plan).profile.spelling x.from segment
     pub spoken : Spoken start x.path (path_begins start x.path plan).profile x.from end segment
-    pub also : Q x.from segment
+    pub also : Q x.path x.from segment
 
   module _ (start : Start) where
     path_sends : (p : PathState (List ℕ)) → PathSpeaks start p → PathAlso p → IfSome (sent_by p) (IsSpoken start)
@@ -315,7 +330,7 @@ module _ (Q : Side → PlainSegment → Type 0) where
         is : p.profile ≡ (path_begins start (path_of p) s.1).profile
         is = s.4 ∙ ap (λ (n : ℕ). (path_begins start n s.1).profile) (sym s.3)
 
-        one : (t : ToSend) → Spoken start s.0 p.profile t.from (end_at t.from p) (segment_sent p t) → Q t.from (segment_sent p t)
+        one : (t : ToSend) → Spoken start s.0 p.profile t.from (end_at t.from p) (segment_sent p t) → Q (path_of p) t.from (segment_sent p t)
             → IsSpoken start (sent_as p (departing_as p t))
         one t said more = record {
           plan = s.1;
@@ -328,7 +343,7 @@ module _ (Q : Side → PlainSegment → Type 0) where
           also = more;
         }
 
-        by : (o : Option ToSend) → IfSome o (λ t. Spoken start s.0 p.profile t.from (end_at t.from p) (segment_sent p t)) → IfSome o (λ t. Q t.from (segment_sent p t))
+        by : (o : Option ToSend) → IfSome o (λ t. Spoken start s.0 p.profile t.from (end_at t.from p) (segment_sent p t)) → IfSome o (λ t. Q (path_of p) t.from (segment_sent p t))
             → IfSome (option_map (sent_as p) (option_map (departing_as p) o)) (IsSpoken start)
         by None said more = tt
         by (Some t) said more = one t said more
@@ -353,18 +368,19 @@ module _ (Q : Side → PlainSegment → Type 0) where
     turn_spoken Turn.Round w s also = Every-nil (IsSpoken start)
 
     run_spoken : (turns : List Turn) (w : WorldState (List ℕ)) → ((more : List Turn) → WorldSpeaks start (world_run octets more w))
-        → ((more : List Turn) → WorldAlso (world_run octets more w)) → Every (IsSpoken start) (trace_of turns w)
+        → ((more later : List Turn) → more ++ later ≡ turns → WorldAlso (world_run octets more w)) → Every (IsSpoken start) (trace_of turns w)
     run_spoken [] w s also = Every-nil (IsSpoken start)
     run_spoken (turn ∷ turns) w s also =
-        Every-append (turn_spoken turn w (s []) (also [])) (run_spoken turns (after_turn octets turn w) (λ more. s (turn ∷ more)) (λ more. also (turn ∷ more)))
+        Every-append (turn_spoken turn w (s []) (also [] (turn ∷ turns) refl))
+        (run_spoken turns (after_turn octets turn w) (λ more. s (turn ∷ more)) (λ more later is. also (turn ∷ more) later (ap (λ (ts : List Turn). turn ∷ ts) is)))
 
-    pub trace_spoken : (turns : List Turn) → HasRoom start → NumbersFit start → ((more : List Turn) → WorldAlso (world_run octets more (opened_world start)))
-        → Every (IsSpoken start) (trace_of turns (opened_world start))
+    pub trace_spoken : (turns : List Turn) → HasRoom start → NumbersFit start
+        → ((more later : List Turn) → more ++ later ≡ turns → WorldAlso (world_run octets more (opened_world start))) → Every (IsSpoken start) (trace_of turns (opened_world start))
     trace_spoken turns size fit also = run_spoken turns (opened_world start) (λ more. world_speaks start more size fit) also
 
 -- nothing else
-abbrev pub Nothing : Side → PlainSegment → Type 0
-Nothing s sg = Unit {0}
+abbrev pub Nothing : ℕ → Side → PlainSegment → Type 0
+Nothing path s sg = Unit {0}
 
 pub also_nothing : (w : WorldState (List ℕ)) → WorldAlso Nothing w
 also_nothing w i c at = by c.member

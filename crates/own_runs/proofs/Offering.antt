@@ -49,10 +49,15 @@ every_one {X} {P} x h = Every-push {xs = []} x (Every-nil P) h
 pub every_two : {X : Type 0} {P : X → Type 0} (x y : X) → P x → P y → Every P (x ∷ y ∷ [])
 every_two {X} {P} x y h g = Every-push {xs = x ∷ []} y (every_one x h) g
 
-module _ (limit : Side → ℕ) where
+-- nothing more is asked of what is mapped
+abbrev pub Anything : Side → ℕ → ℕ → ℕ → Type 0
+Anything s place position len = Unit {0}
+
+-- and each mapping of octets, by its place, position and length, has what is asked of it
+module _ (limit : Side → ℕ) (Maps : Side → ℕ → ℕ → ℕ → Type 0) where
   -- of a side whose file has so many octets
   abbrev pub MappingFine : Side → PathMapping ℕ → Type 0
-  MappingFine s (Bytes place position len fin checksum) = (1 ≤ len) × (fin ≡ false) × (place + len ≤ limit s)
+  MappingFine s (Bytes place position len fin checksum) = (1 ≤ len) × (fin ≡ false) × (place + len ≤ limit s) × Maps s place position len
   MappingFine s (End place checksum) = place ≡ limit s
   MappingFine s (Infinite place position) = ⊥
 
@@ -68,7 +73,7 @@ module _ (limit : Side → ℕ) where
   -- a record of octets maps octets of the file
   abbrev pub RecordFine : Profile → Side → RecordKind → Record → Type 0
   RecordFine c s Syn r = Unit {0}
-  RecordFine c s Data r = (1 ≤ r.mapping.length) × (place_numbered c s r.mapping.number + r.mapping.length ≤ limit s)
+  RecordFine c s Data r = (1 ≤ r.mapping.length) × (place_numbered c s r.mapping.number + r.mapping.length ≤ limit s) × Maps s (place_numbered c s r.mapping.number) r.pos r.mapping.length
   RecordFine c s Fin r = Unit {0}
 
   pub record EndFine (c : Profile) (s : Side) (e : PathEnd) : Type 0 where
@@ -154,7 +159,7 @@ module _ (limit : Side → ℕ) where
       where
         by : (b : Bool) → AllFine s (if b then first_piece_options c e.modes.peer_key r e else Dss (Some e.receiving.next) (Some (piece_mapping c s r)) ∷ [])
         by true = first_fine e.modes.peer_key r is
-        by false = every_one _ (is.0, refl, is.1)
+        by false = every_one _ (is.0, refl, is.1, is.2)
 
     fin_fine : (position : ℕ) → AllFine s (fin_options position e)
     fin_fine position =

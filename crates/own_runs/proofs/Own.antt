@@ -13,7 +13,7 @@ use Rattle.mptcp_options.specs.declared.capable.CapableKeys.{CapableKeys}
 use Rattle.mptcp_options.specs.declared.capable.CapableKeys.TheVariants.{Both, NoKey, Sender, WithData}
 use Rattle.mptcp_options.specs.declared.join.JoinForm.{JoinForm}
 use Rattle.mptcp_options.specs.declared.join.JoinForm.TheVariants.{Answer, Syn, Third}
-use Rattle.mptcp_options.specs.Value.{OptionValue, AddAddr, Capable, Join}
+use Rattle.mptcp_options.specs.Value.{OptionValue, AddAddr, Capable, FastClose, Join}
 use Rattle.segment_wire.specs.Options.{option_octets}
 use Rattle.segment_wire.specs.Paths.{address_of, port_of}
 use Rattle.capture_reader.specs.declared.seen.End.{End}
@@ -81,6 +81,7 @@ module _ (d : Drawn) where
   ValueIs path s (Capable flag_a flag_c keys) = KeysAre s keys
   ValueIs path s (Join form) = JoinIs path s form
   ValueIs path s (AddAddr echo id address port hmac) = AddressIs s echo id address port hmac
+  ValueIs path s (FastClose key) = key ≡ own_key (peer s)
   ValueIs path s _ = Unit {0}
 
   -- what a SYN asks for, and what a SYN/ACK answers

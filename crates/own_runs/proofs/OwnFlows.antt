@@ -124,7 +124,7 @@ module _ (d : Drawn) where
       by true = tt
       by false = e
 
-  there_on : (flows : List Flow) (i : Option ℕ) → IsThere flows (going_on flows i)
+  pub there_on : (flows : List Flow) (i : Option ℕ) → IsThere flows (going_on flows i)
   there_on flows None = tt
   there_on flows (Some i) = there_over flows i (slice_get flows i) refl
 
@@ -246,7 +246,7 @@ module _ (d : Drawn) where
 
     module _ (path : ℕ) (flow : Flow) (f : FlowOn path flow) where
       -- what it answers, if it does
-      told : IfSome (answer_of seen flow) (AnswerIs d path flow.opening)
+      pub told : IfSome (answer_of seen flow) (AnswerIs d path flow.opening)
       told =
           by seen.segment.head.syn (not seen.segment.head.ack_set || not (is_none flow.opened)) (same_end seen.source flow.other)
           (not (is_acknowledged_by seen.segment.head.ack flow)) refl refl
@@ -370,7 +370,7 @@ module _ (d : Drawn) where
         }
 
     -- with one packet more
-    counted_on : (path : ℕ) (flow : Flow) → FlowOn path flow → FlowOn path (counted seen.is_cut true flow)
+    pub counted_on : (path : ℕ) (flow : Flow) → FlowOn path flow → FlowOn path (counted seen.is_cut true flow)
     counted_on path flow f = record {
       opener = f.opener;
       other = f.other;

@@ -15,7 +15,7 @@ use Rattle.mptcp_options.specs.declared.capable.CapableKeys.{CapableKeys}
 use Rattle.mptcp_options.specs.declared.capable.CapableKeys.TheVariants.{Both, NoKey, Sender, WithData}
 use Rattle.mptcp_options.specs.declared.join.JoinForm.{JoinForm}
 use Rattle.mptcp_options.specs.declared.join.JoinForm.TheVariants.{Answer, Syn, Third}
-use Rattle.mptcp_options.specs.Value.{OptionValue, AddAddr, Capable, Join}
+use Rattle.mptcp_options.specs.Value.{OptionValue, AddAddr, Capable, FastClose, Join}
 use Rattle.judge_rules.specs.declared.finding.Finding.TheVariants.{Hmac160, Number64}
 use Rattle.judge_rules.specs.declared.finding.Rule.{Rule}
 use Rattle.judge_rules.specs.declared.finding.Rule.TheVariants as rule
@@ -27,12 +27,12 @@ use Rattle.seen_connections.specs.declared.flow.Opening.{Opening}
 use Rattle.seen_connections.specs.declared.flow.Opening.TheVariants as opening
 use Rattle.seen_connections.specs.Connections.{key_of}
 use Rattle.seen_connections.specs.SeenOptions.{Readable}
-use Rattle.seen_streams.specs.State.{Found, StreamValue}
+use Rattle.seen_streams.specs.State.{StreamValue}
 use Rattle.rule_book.specs.Facts.{Facts}
 use Rattle.rule_book.specs.Signals.{KeyedValue, by_both, by_mine, by_peers, join_in, joined_by, joins_counted, judged_in, judged_options, keyed_by, keyed_each, keyed_one, signalled, signalled_one, told_formless, told_verdict, with_a, with_key}
 use Rattle.own_runs.proofs.Own.{AddressIs, Drawn, JoinIs, KeysAre, OpeningIs, ValueIs, is_a, own_key}
 use Rattle.own_runs.proofs.OwnFlows.{KeysOwn, NonceIs}
-use Rattle.own_runs.proofs.Telling.{Untold, others_keep}
+use Rattle.own_runs.proofs.Telling.{Untold}
 
 -- a verdict that tells nothing
 abbrev NoBreak : Verdict → Type 0
@@ -46,11 +46,6 @@ module _ (which : Rule → Bool) where
   kept_so r packet Kept s none h = h
   kept_so r packet PassedOver s none h = h
 
-  other_so : (r : Rule) (packet : ℕ) (v : Verdict) (s : StreamValue) → which r ≡ false → Untold which s.broken → Untold which (told_verdict r packet v s).broken
-  other_so r packet (Broke finding) s other h = others_keep which r packet (Found finding) s.broken other h
-  other_so r packet Kept s other h = h
-  other_so r packet PassedOver s other h = h
-
 same64 : (expected was : ℕ) → expected ≡ was → NoBreak (differ64 expected was)
 same64 expected was same = subst (λ (b : Bool). NoBreak (if b then Kept else Broke (Number64 expected was))) (sym (eq-eqb expected was same)) tt
 
@@ -63,7 +58,7 @@ pub readable_so : (packet : ℕ) (values : List OptionValue) (s : StreamValue) �
 readable_so packet [] s = refl
 readable_so packet (value ∷ values) s = readable_so packet values s
 
-module _ (d : Drawn) (which : Rule → Bool) (quiet : which rule.FastCloseKey ≡ false) where
+module _ (d : Drawn) (which : Rule → Bool) where
   pub key_is : (s : Side) (known : Keys) → KeysOwn d known → IfSome (key_of s known) (λ key. key ≡ own_key d s)
   key_is A known k = k.a
   key_is B known k = k.b
@@ -203,6 +198,10 @@ module _ (d : Drawn) (which : Rule → Bool) (quiet : which rule.FastCloseKey �
     address_verdict (AddAddr echo id address port hmac) mine peers m p is = address_so mine peers echo id address port hmac m p is
     address_verdict option mine peers m p is = tt
 
+    fast_close_verdict : (option : OptionValue) (peers : ℕ) → peers ≡ own_key d (peer s) → ValueIs d path s option → NoBreak (judged_fast_close peers option)
+    fast_close_verdict (FastClose key) peers p is = same64 peers key (p ∙ sym is)
+    fast_close_verdict option peers p is = tt
+
     counted_so : (v : Verdict) (stream : StreamValue) → Untold which stream.broken → Untold which (joins_counted v stream).broken
     counted_so PassedOver stream h = h
     counted_so Kept stream h = h
@@ -224,7 +223,7 @@ module _ (d : Drawn) (which : Rule → Bool) (quiet : which rule.FastCloseKey �
         → ValueIs d path s option → Untold which stream.broken → Untold which (by_peers peers mine facts option stream).broken
     peers_so None mine option stream p m is h = h
     peers_so (Some peers) mine option stream p m is h =
-        other_so which rule.FastCloseKey facts.packet (judged_fast_close peers option) (by_mine mine peers facts option stream) quiet (mine_so mine peers option stream m p is h)
+        kept_so which rule.FastCloseKey facts.packet (judged_fast_close peers option) (by_mine mine peers facts option stream) (fast_close_verdict option peers p is) (mine_so mine peers option stream m p is h)
 
     signalled_so : (known : Keys) (options : List OptionValue) (stream : StreamValue) → KeysOwn d known → All (ValueIs d path s) options → Untold which stream.broken
         → Untold which (signalled facts known options stream).broken

@@ -2,6 +2,8 @@
 use Rattle.std.proofs.Common.{◌≡◌, refl, sym, ap, ◌∙◌, subst, ℕ, ◌+◌, nat_lt, ◌||◌, Bool, true, false, not, if◌then◌else◌, Option, Some, None, List, [], ◌∷◌, ◌++◌, length}
 use Rattle.std.specs.Prelude.{All, IfSome}
 use Rattle.std.specs.List.{slice_get}
+use Rattle.std.proofs.Math.ListN.{set}
+use Rattle.std.proofs.Common.{⊎_elim, zero, suc, ◌-◌, ◌⊎◌, inl, inr}
 use Rattle.std.specs.Option.{option_map}
 use Rattle.std.proofs.lemmas.List.Elements.{All-head, All-tail}
 use Rattle.sides.specs.declared.side.Side.{Side}
@@ -22,8 +24,11 @@ use Rattle.rule_book.specs.State.{BookValue, JudgedValue, LanesValue, stream_at}
 use Rattle.rule_book.specs.Stream.{Left}
 use Rattle.capture_verdict.specs.Judging.{judged_if_seen, judged_packets}
 use Rattle.judge_laws.specs.GoesOn.{stream_in}
-use Rattle.judge_laws.proofs.Standing.{some_same}
-use Rattle.own_runs.proofs.Own.{Drawn, IsOwn, is_a, is_opener}
+use Rattle.judge_laws.proofs.Flows.{key_flows}
+use Rattle.judge_laws.proofs.Standing.{set_item, some_same}
+use Rattle.stream_lanes.proofs.Lists.{in_append}
+use Rattle.own_runs.proofs.Openers.{openers_stay}
+use Rattle.own_runs.proofs.Own.{Drawn, IsOwn, end_of, is_a, is_opener, same_place}
 use Rattle.own_runs.proofs.OwnFlows.{Each, FlowOn, FlowsOwn, KeysOwn, each_end, each_set, key_so, place_so, taken_so}
 
 grown_each : {X : Type 0} → (P : X → Type 0) (count : ℕ) (one : X) (xs : List X) → Each P xs → P one → Each P (grown_to count one xs)
@@ -45,27 +50,50 @@ sender_so d seen own flow f belongs is = ap (λ (b : Bool). if b then belongs.op
     by A = is
     by B = ap peer is
 
-module _ (d : Drawn) (P : Seen → Type 0) (B : BookValue → Type 0) (L : LanesValue → Type 0) where
-  -- what a segment leaves
-  pub record IsLeft (told : Told) : Type 0 where
+-- lanes that are there once one more may be
+grown_item : {X : Type 0} → (count : ℕ) (one : X) (xs : List X) (i : ℕ) (x : X) → slice_get (grown_to count one xs) i ≡ Some x → (x ≡ one) ⊎ (slice_get xs i ≡ Some x)
+grown_item {X} count one xs i x = by (nat_lt (length xs) count)
+  where
+    last : (n : ℕ) → slice_get (one ∷ []) n ≡ Some x → x ≡ one
+    last zero at = sym (some_same one x at)
+    last (suc n) at = cc
+
+    by : (b : Bool) → slice_get (if b then xs ++ one ∷ [] else xs) i ≡ Some x → (x ≡ one) ⊎ (slice_get xs i ≡ Some x)
+    by true at = ⊎_elim (λ old. inr old) (λ new. inl (last (i - length xs) new.1)) (in_append xs (one ∷ []) i x at)
+    by false at = inr at
+
+module _ (d : Drawn) (P : Seen → Type 0) (B : BookValue → Type 0) (L : ℕ → LanesValue → Type 0) where
+  -- what a segment on a path leaves
+  pub record IsLeft (path : ℕ) (told : Told) : Type 0 where
     pub keys : KeysOwn d told.keys
     pub book : B told.left.book
-    pub lanes : L told.left.lanes
+    pub lanes : L path told.left.lanes
 
   -- each segment of the connection, in its flow
   pub record SegmentsKeep : Type 0 where
     pub own : (seen : Seen) → P seen → IsOwn d seen
     pub new_book : B empty_book
-    pub new_lanes : L empty_lanes
+    pub new_lanes : (path : ℕ) → L path empty_lanes
     pub token : (wrong : WrongToken) (book : BookValue) → B book → B (token_told wrong book)
     pub flow : (at : Option Side) (packet : ℕ) (seen : Seen) (p : P seen) (index : ℕ) (flow : Flow) → FlowOn d (own seen p).path flow → (belongs : Belongs)
-        → belongs.opener ≡ A → (keys : Keys) (left : Left) → KeysOwn d keys → B left.book → L left.lanes
-        → IsLeft (judged_flow at packet seen index flow belongs keys left)
+        → belongs.opener ≡ A → (keys : Keys) (left : Left) → KeysOwn d keys → B left.book → L (own seen p).path left.lanes
+        → IsLeft (own seen p).path (judged_flow at packet seen index flow belongs keys left)
+
+  -- lanes of a flow of a path
+  record AreBound (flows : List Flow) (i : ℕ) (lanes : LanesValue) : Type 0 where
+    path : ℕ
+    flow : Flow
+    there : slice_get flows i ≡ Some flow
+    opener : flow.opener ≡ end_of path A
+    holds : L path lanes
+
+  abbrev LanesHold : List Flow → List LanesValue → Type 0
+  LanesHold flows all = (i : ℕ) (lanes : LanesValue) → slice_get all i ≡ Some lanes → (lanes ≡ empty_lanes) ⊎ AreBound flows i lanes
 
   record AllHold (state : JudgedValue) : Type 0 where
     seen : FlowsOwn d state.seen
     books : Each B state.books
-    lanes : Each L state.lanes
+    lanes : LanesHold state.seen.flows state.lanes
 
   -- a packet with a segment of the connection
   abbrev pub PacketIs : Captured → Type 0
@@ -78,34 +106,55 @@ module _ (d : Drawn) (P : Seen → Type 0) (B : BookValue → Type 0) (L : Lanes
 
       -- ---- put back
 
+      lanes_so : (index : ℕ) (flow : Flow) (f : FlowOn d own.path flow) (flows : List Flow) → slice_get flows index ≡ Some flow → (lanes : LanesValue)
+          → (lanes ≡ empty_lanes) ⊎ AreBound flows index lanes → L own.path lanes
+      lanes_so index flow f flows there lanes (inl empty) = subst (L own.path) (sym empty) (keep.new_lanes own.path)
+      lanes_so index flow f flows there lanes (inr bound) =
+          let same : bound.flow ≡ flow = some_same bound.flow flow (sym bound.there ∙ there) in
+          subst (λ (path : ℕ). L path lanes) (same_place bound.path own.path A A (sym bound.opener ∙ ap (λ (x : Flow). x.opener) same ∙ f.opener)).0 bound.holds
+
+      set_so : (index : ℕ) (flow : Flow) (f : FlowOn d own.path flow) (flows : List Flow) → slice_get flows index ≡ Some flow → (left : LanesValue) → L own.path left
+          → (i : ℕ) (new : LanesValue) (all : List LanesValue) → LanesHold flows all → ((index ≡ i) × (left ≡ new)) ⊎ (slice_get all i ≡ Some new)
+          → (new ≡ empty_lanes) ⊎ AreBound flows i new
+      set_so index flow f flows there left holds i new all each (inl both) = inr (record {
+        path = own.path;
+        flow = flow;
+        there = ap (slice_get flows) (sym both.0) ∙ there;
+        opener = f.opener;
+        holds = subst (L own.path) both.1 holds;
+      })
+      set_so index flow f flows there left holds i new all each (inr other) = each i new other
+
       known_so : (index : ℕ) (flow : Flow) (f : FlowOn d own.path flow) (belongs : Belongs) → belongs.opener ≡ A → (keys : Option Keys) (book : Option BookValue)
-          (lanes : Option LanesValue) (state : JudgedValue) → slice_get state.seen.connections belongs.connection ≡ keys → slice_get state.books belongs.connection ≡ book
+          (lanes : Option LanesValue) (state : JudgedValue) → slice_get state.seen.flows index ≡ Some flow → slice_get state.seen.connections belongs.connection ≡ keys → slice_get state.books belongs.connection ≡ book
           → slice_get state.lanes index ≡ lanes → AllHold state → AllHold (judged_known at packet seen index flow belongs keys book lanes state)
-      known_so index flow f belongs is (Some keys) (Some book) (Some lanes) state has_keys has_book has_lanes all =
+      known_so index flow f belongs is (Some keys) (Some book) (Some lanes) state has_flow has_keys has_book has_lanes all =
           let left : Left = record { book = book; lanes = lanes } in
           let told = judged_flow at packet seen index flow belongs keys left in
           let it = keep.flow at packet seen p index flow f belongs is keys left (all.seen.connections belongs.connection keys has_keys)
-          (all.books belongs.connection book has_book) (all.lanes index lanes has_lanes) in
+          (all.books belongs.connection book has_book) (lanes_so index flow f state.seen.flows has_flow lanes (all.lanes index lanes has_lanes)) in
+          let flows_same = key_flows belongs.connection keys.a told.keys.a state.seen in
           record {
             seen = key_so d belongs.connection keys.a told.keys.a state.seen it.keys.a all.seen;
             books = each_set B state.books belongs.connection told.left.book all.books it.book;
-            lanes = each_set L state.lanes index told.left.lanes all.lanes it.lanes;
+            lanes = subst (λ (flows : List Flow). LanesHold flows (set state.lanes index told.left.lanes)) (sym flows_same)
+                (λ i new at. set_so index flow f state.seen.flows has_flow told.left.lanes it.lanes i new state.lanes all.lanes (set_item state.lanes index i told.left.lanes new at));
           }
-      known_so index flow f belongs is (Some keys) (Some book) None state has_keys has_book has_lanes all = all
-      known_so index flow f belongs is (Some keys) None lanes state has_keys has_book has_lanes all = all
-      known_so index flow f belongs is None book lanes state has_keys has_book has_lanes all = all
+      known_so index flow f belongs is (Some keys) (Some book) None state has_flow has_keys has_book has_lanes all = all
+      known_so index flow f belongs is (Some keys) None lanes state has_flow has_keys has_book has_lanes all = all
+      known_so index flow f belongs is None book lanes state has_flow has_keys has_book has_lanes all = all
 
       belonging_so : (index : ℕ) (flow : Flow) (f : FlowOn d own.path flow) (belongs : Option Belongs) → IfSome belongs (λ b. b.opener ≡ A) → (state : JudgedValue)
-          → AllHold state → AllHold (judged_belonging at packet seen index flow belongs state)
-      belonging_so index flow f None is state all = all
-      belonging_so index flow f (Some belongs) is state all =
+          → slice_get state.seen.flows index ≡ Some flow → AllHold state → AllHold (judged_belonging at packet seen index flow belongs state)
+      belonging_so index flow f None is state there all = all
+      belonging_so index flow f (Some belongs) is state there all =
           known_so index flow f belongs is (slice_get state.seen.connections belongs.connection) (slice_get state.books belongs.connection) (slice_get state.lanes index)
-          state refl refl refl all
+          state there refl refl refl all
 
-      in_flow_so : (index : ℕ) (flow : Option Flow) → IfSome flow (FlowOn d own.path) → (state : JudgedValue) → AllHold state
+      in_flow_so : (index : ℕ) (flow : Option Flow) → IfSome flow (FlowOn d own.path) → (state : JudgedValue) → slice_get state.seen.flows index ≡ flow → AllHold state
           → AllHold (judged_in_flow at packet seen index flow state)
-      in_flow_so index None f state all = all
-      in_flow_so index (Some flow) f state all = belonging_so index flow f flow.belongs f.belongs state all
+      in_flow_so index None f state there all = all
+      in_flow_so index (Some flow) f state there all = belonging_so index flow f flow.belongs f.belongs state there all
 
       token_so : (book : Option BookValue) (wrong : WrongToken) (books : List BookValue) → slice_get books wrong.belongs.connection ≡ book → Each B books
           → Each B (token_in book wrong books)
@@ -129,7 +178,7 @@ module _ (d : Drawn) (P : Seen → Type 0) (B : BookValue → Type 0) (L : Lanes
           let told = with_wrong_token place.wrong_token state in
           in_flow_so place.flow (slice_get told.seen.flows place.flow)
           (found (slice_get told.seen.flows place.flow) (ap (λ (x : SeenFlows). slice_get x.flows place.flow) (wrong_flows place.wrong_token state)))
-          told (wrong_so place.wrong_token state all)
+          told refl (wrong_so place.wrong_token state all)
         where
           found : (o : Option Flow) → o ≡ slice_get state.seen.flows place.flow → IfSome o (FlowOn d own.path)
           found None same = tt
@@ -142,11 +191,17 @@ module _ (d : Drawn) (P : Seen → Type 0) (B : BookValue → Type 0) (L : Lanes
           (record {
             seen = taken_so d state.seen packet seen own all.seen;
             books = grown_each B (length now.connections) empty_book state.books all.books keep.new_book;
-            lanes = grown_each L (length now.flows) empty_lanes state.lanes all.lanes keep.new_lanes;
+            lanes = λ i lanes at. ⊎_elim (λ empty. inl empty) (λ old. ⊎_elim (λ empty. inl empty) (λ bound. inr (bound_on i lanes bound)) (all.lanes i lanes old))
+                (grown_item (length now.flows) empty_lanes state.lanes i lanes at);
           }))
         where
           now : SeenFlows
           now = (taken state.seen packet seen true).now
+
+          bound_on : (i : ℕ) (lanes : LanesValue) → AreBound state.seen.flows i lanes → AreBound now.flows i lanes
+          bound_on i lanes bound =
+              let later = openers_stay state.seen packet seen i bound.flow bound.there in
+              record { path = bound.path; flow = later.0; there = later.1; opener = later.2 ∙ bound.opener; holds = bound.holds }
 
           good : (seen.has_good_sum || not true) ≡ true
           good = ap (λ (b : Bool). b || false) own.good

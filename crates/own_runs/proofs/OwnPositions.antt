@@ -37,6 +37,7 @@ is_option rule.Form = true
 is_option rule.Keys = true
 is_option rule.JoinHmac = true
 is_option rule.AddressHmac = true
+is_option rule.FastCloseKey = true
 is_option rule.Within = true
 is_option _ = false
 
@@ -52,7 +53,7 @@ OptionFits facts position option = (first : ℕ) → IfSome (offer_of first opti
 abbrev IsWithin : Facts → ℕ → ToldMapping → Type 0
 IsWithin facts position mapping = within_found facts position mapping ≡ None
 
-same_position : (position relative : ℕ) → relative % 2 ^ 32 ≡ position % 2 ^ 32 → position_near position relative ≡ pos position
+pub same_position : (position relative : ℕ) → relative % 2 ^ 32 ≡ position % 2 ^ 32 → position_near position relative ≡ pos position
 same_position position relative same =
     ap (λ (n : ℕ). pos position +ℤ cast_signed w32 n) (let none : (relative + (2 ^ 32 - position % 2 ^ 32)) % 2 ^ 32 ≡ 0 = omega (arith, same) in none) ∙ omega (arith, ints)
 

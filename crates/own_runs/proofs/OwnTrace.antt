@@ -47,7 +47,7 @@ use Rattle.own_runs.specs.Segments.{seen_between}
 use Rattle.own_runs.specs.Traces.{packet_for}
 use Rattle.own_runs.proofs.Moments.{IsSpoken, Spoken}
 use Rattle.own_runs.proofs.Values.{drawn}
-use Rattle.own_runs.proofs.Own.{AnswerIs, Drawn, IsOwn, MapsIn, OpeningIs, ValueIs, first_seq, own_initial}
+use Rattle.own_runs.proofs.Own.{AnswerIs, Drawn, IsOwn, MapsIn, OpeningIs, ValueIs, first_seq, own_initial, own_key}
 use Rattle.own_runs.proofs.Placing.{PlacedIn}
 use Rattle.own_runs.proofs.Traces.{segments_are}
 use Rattle.seen_connections.specs.declared.asked.Answer.{Answer as Answered}
@@ -283,7 +283,7 @@ payload_is : (spelling : Spelling) (from : Side) (sg : PlainSegment) → (spelle
 unfolding spelled
 payload_is spelling from sg = refl
 
-module _ (Q : Side → PlainSegment → Type 0) (start : Start) (x : Sent) (s : IsSpoken Q start x) (short : length x.octets ≤ 65515) where
+module _ (Q : ℕ → Side → PlainSegment → Type 0) (start : Start) (x : Sent) (s : IsSpoken Q start x) (short : length x.octets ≤ 65515) where
   abbrev pub plan : PathPlan
   plan = s.plan
 
@@ -384,7 +384,7 @@ module _ (Q : Side → PlainSegment → Type 0) (start : Start) (x : Sent) (s : 
   all_of : (len : ℕ) → len ≡ length segment.payload → len - 0 ≡ length segment.payload
   all_of len same = omega (arith, same)
 
-  map_so : (o : PlainOption) → PlacedIn sg.position (length sg.payload) o → Maps (said_option c.spelling x.from o)
+  map_so : (o : PlainOption) → PlacedIn (own_key own (peer x.from)) sg.position (length sg.payload) o → Maps (said_option c.spelling x.from o)
   map_so (Dss next None) is first = tt
   map_so (Dss next (Some (Bytes place at len fin checksum))) is first =
       inr (seq_is ∙ (let same = is.0 in let initial = own_initial own x.path x.from in omega (arith, same)), ap (λ (b : Bool). len - from_bool b) is.2 ∙ all_of len (is.1 ∙ sym octets_are))
@@ -397,7 +397,7 @@ module _ (Q : Side → PlainSegment → Type 0) (start : Start) (x : Sent) (s : 
       inr (seq_is ∙ ap (λ (n : ℕ). (own_initial own x.path x.from + n) % 2 ^ 32) (sym is.0), all_of len (is.1 ∙ sym octets_are))
   map_so _ is first = tt
 
-  maps_so : (options : List PlainOption) → Every (PlacedIn sg.position (length sg.payload)) options → All Maps (map (said_option c.spelling x.from) options)
+  maps_so : (options : List PlainOption) → Every (PlacedIn (own_key own (peer x.from)) sg.position (length sg.payload)) options → All Maps (map (said_option c.spelling x.from) options)
   maps_so [] each = All-nil Maps
   maps_so (o ∷ options) each =
       All-cons Maps (said_option c.spelling x.from o) (map (said_option c.spelling x.from) options) (map_so o (each.each 0 o refl))

@@ -60,8 +60,8 @@ gaps_untold : (gaps : ℕ) (book : BookValue) → BookUntold book → BookUntold
 gaps_untold gaps book h A = h A
 gaps_untold gaps book h B = h B
 
-abbrev AnyLanes : LanesValue → Type 0
-AnyLanes lanes = Unit {0}
+abbrev AnyLanes : ℕ → LanesValue → Type 0
+AnyLanes path lanes = Unit {0}
 
 -- ---- a position that is near has its number
 
@@ -114,9 +114,20 @@ fit_so : (facts : Facts) (initial position : ℕ) (options : List OptionValue) �
 fit_so facts initial position options at each =
     All-weaker (MapsIn initial facts.seen.segment.head.seq facts.seen.payload_len) (OptionFits facts position) (λ option is. fits_so facts initial position option at is) options each
 
+-- the number of position 0 of a segment's sender
+pub base_so : (d : Drawn) (seen : Seen) (own : IsOwn d seen) (flow : Flow) → FlowOn d own.path flow → (at : Option Side) (packet index : ℕ) (opened : Opened)
+    → flow.opened ≡ Some opened → own_base (opened_facts at packet seen index flow opened own.from) ≡ first_seq d own.path own.from
+base_so d seen own flow f at packet index opened e =
+    ap (λ (b : Bool). if b then opened.opener_base else opened.other_base) (opens_so d seen own flow f)
+    ∙ by own.from (subst (λ (o : Option Opened). IfSome o (BasesAre d own.path)) e f.bases)
+  where
+    by : (s : Side) → BasesAre d own.path opened → (if is_a s then opened.opener_base else opened.other_base) ≡ first_seq d own.path s
+    by A bases = bases.0
+    by B bases = bases.1
+
 module _ (d : Drawn) where
   abbrev Leaves : Told → Type 0
-  Leaves told = IsLeft d (IsOwn d) BookUntold AnyLanes told
+  Leaves told = IsLeft d (IsOwn d) BookUntold AnyLanes 0 told
 
   module _ (at : Option Side) (packet : ℕ) (seen : Seen) (own : IsOwn d seen) where
     positions_so : (facts : Facts) (options : List OptionValue) (keys : Keys) (left : Left) → (initial : ℕ) → own_base facts ≡ (initial + 0) % 2 ^ 32
@@ -146,30 +157,21 @@ module _ (d : Drawn) where
         by false position e = from position e
 
     module _ (index : ℕ) (flow : Flow) (f : FlowOn d own.path flow) (keys : Keys) (k : KeysOwn d keys) (left : Left) (h : BookUntold left.book) where
-      base_so : (opened : Opened) → flow.opened ≡ Some opened → own_base (opened_facts at packet seen index flow opened own.from) ≡ first_seq d own.path own.from
-      base_so opened e =
-          ap (λ (b : Bool). if b then opened.opener_base else opened.other_base) (opens_so d seen own flow f)
-          ∙ by own.from (subst (λ (o : Option Opened). IfSome o (BasesAre d own.path)) e f.bases)
-        where
-          by : (s : Side) → BasesAre d own.path opened → (if is_a s then opened.opener_base else opened.other_base) ≡ first_seq d own.path s
-          by A bases = bases.0
-          by B bases = bases.1
-
       opened_so : (opened : Opened) → flow.opened ≡ Some opened
           → Leaves (judged_opened (opened_facts at packet seen index flow opened own.from) (map Readable own.values) keys left)
       opened_so opened e =
           let facts = opened_facts at packet seen index flow opened own.from in
-          let it : IsOf d is_option refl own.path facts = record {
+          let it : IsOf d is_option own.path facts = record {
             opening = f.opening;
             nonce = subst (λ (o : Option Opened). IfSome o (NonceIs d own.path flow.opening)) e f.nonce;
             opener = opens_so d seen own flow f;
           } in
           let first : KeyedValue = record { options = []; keys = keys; stream = stream_at own.from left.book } in
-          let made = options_so d is_option refl own.path facts it own.values first own.each (record { keys = k; untold = h own.from; each = All-nil (ValueIs d own.path own.from) }) in
+          let made = options_so d is_option own.path facts it own.values first own.each (record { keys = k; untold = h own.from; each = All-nil (ValueIs d own.path own.from) }) in
           let all = judged_options facts (map Readable own.values) first in
           record {
             keys = made.keys;
-            book = positions_so facts all.options all.keys (record left { book = with_stream own.from all.stream left.book }) (own_initial d own.path own.from) (base_so opened e)
+            book = positions_so facts all.options all.keys (record left { book = with_stream own.from all.stream left.book }) (own_initial d own.path own.from) (base_so d seen own flow f at packet index opened e)
                 (kept_so (MapsIn (own_initial d own.path own.from) seen.segment.head.seq seen.payload_len) facts own.values first own.maps
                 (All-nil (MapsIn (own_initial d own.path own.from) seen.segment.head.seq seen.payload_len)))
                 (with_untold own.from all.stream left.book made.untold h);
@@ -199,12 +201,13 @@ module _ (d : Drawn) where
   keep = record {
     own = λ seen own. own;
     new_book = new_untold;
-    new_lanes = tt;
+    new_lanes = λ path. tt;
     token = λ wrong book h.
         let s = wrong.belongs.opener in
         with_untold s _ book
         (others_keep is_option rule.Token wrong.packet (Found (Number32 wrong.expected wrong.was)) (stream_at s book).broken refl (h s)) h;
-    flow = λ at packet seen own index flow f belongs is keys left k h lanes. flow_so at packet seen own index flow f belongs is keys left k h;
+    flow = λ at packet seen own index flow f belongs is keys left k h lanes.
+        let it = flow_so at packet seen own index flow f belongs is keys left k h in record { keys = it.keys; book = it.book; lanes = tt };
   }
 
   abbrev pub OwnPacket : Captured → Type 0

@@ -55,11 +55,11 @@ packet_fits seen octets comment =
 abbrev pub names_raw : Saying
 names_raw = Names (record { link = 228; snap_len = 0 })
 
--- a list of equal members, by their number
+-- so many, all alike
 abbrev AreAll : {X : Type 0} → List X → ℕ → X → Type 0
 AreAll xs n x = xs ≡ replicate n x
 
--- how many interfaces are named, all of them as ours are
+-- so many interfaces are named, all of ours
 abbrev pub AreRaw : ReadSoFar → ℕ → Type 0
 AreRaw so_far named = AreAll so_far.interfaces named (record { link = 228; snap_len = 0 })
 
@@ -87,7 +87,7 @@ interface_says so_far name =
 abbrev raw_captured : List ℕ → Bool → Captured
 raw_captured octets whole = record { link = 228; octets = octets; whole = whole }
 
--- the held octets in front are the packet
+-- so many held octets in front are the packet
 captured : (octets rest : List ℕ) (held told : ℕ) → held ≡ length octets → told ≡ length octets → captured_of 228 held told (octets ++ rest) ≡ Some (raw_packet octets)
 unfolding captured_of
 captured octets rest held told all whole =

@@ -9,7 +9,7 @@ use Rattle.pcap_text.specs.Ipv4.{header_text}
 use Rattle.capture_reader.specs.Seen.{Seen, segment_in_packet}
 use Rattle.own_runs.specs.Packets.{raw_packet}
 
--- octets behind an IPv4 header between two addresses (RFC 791, section 3.1)
+-- these octets behind an IPv4 header between these addresses (RFC 791, section 3.1)
 abbrev pub packet_text : Addresses → List ℕ → List ℕ
 packet_text addresses octets = header_text addresses.source addresses.destination (length octets) ++ octets
 

@@ -1,5 +1,5 @@
 use Rattle.std.proofs.Common.{refl}
-use Rattle.judge_rules.specs.declared.finding.Rule.TheVariants.{AddressHmac, Form, JoinHmac, Keys, Within}
+use Rattle.judge_rules.specs.declared.finding.Rule.TheVariants.{AddressHmac, FastCloseKey, Form, JoinHmac, Keys, Within}
 use Rattle.own_runs.proofs.Kept.{no_run_breaks}
 use Rattle.own_runs.proofs.laws.own_runs_break_no_rule.Goals as goal
 
@@ -14,6 +14,9 @@ returns-clause-join_hmac c = no_run_breaks JoinHmac refl
 
 pub returns-clause-address_hmac : goal.returns-clause-address_hmac
 returns-clause-address_hmac c = no_run_breaks AddressHmac refl
+
+pub returns-clause-fast_close_key : goal.returns-clause-fast_close_key
+returns-clause-fast_close_key c = no_run_breaks FastCloseKey refl
 
 pub returns-clause-within : goal.returns-clause-within
 returns-clause-within c = no_run_breaks Within refl

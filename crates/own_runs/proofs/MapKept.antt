@@ -1,0 +1,256 @@
+-- The packets of a connection of ours that never falls back don't break `mapping`: each position of a subflow has one place.
+use Rattle.std.proofs.Common.{◌≡◌, refl, sym, ap, ◌∙◌, subst, ℕ, ◌+◌, ◌%◌, nat_le, ◌<◌, ◌≤◌, ◌^◌, Bool, true, false, if◌then◌else◌, Option, Some, None, List, [], map, arith}
+use Rattle.std.specs.Prelude.{All, IfSome}
+use Rattle.std.specs.Option.{option_map}
+use Rattle.std.proofs.lemmas.List.Elements.{All-nil}
+use Rattle.sides.specs.declared.side.Side.{Side}
+use Rattle.sides.specs.declared.side.Side.TheVariants.{A, B}
+use Rattle.sides.specs.Side.{peer}
+use Rattle.mptcp_options.specs.Value.{OptionValue}
+use Rattle.capture_reader.specs.Captured.{Captured}
+use Rattle.capture_reader.specs.Seen.{Seen}
+use Rattle.judge_rules.specs.declared.finding.Finding.TheVariants.{Number32}
+use Rattle.judge_rules.specs.declared.finding.Rule.{Rule}
+use Rattle.judge_rules.specs.declared.finding.Rule.TheVariants as rule
+use Rattle.judge_rules.specs.Numbers.{first_number}
+use Rattle.seen_connections.specs.declared.connections.Keys.{Keys}
+use Rattle.seen_connections.specs.declared.flow.Belongs.{Belongs}
+use Rattle.seen_connections.specs.declared.flow.Flow.{Flow}
+use Rattle.seen_connections.specs.declared.flow.Opened.{Opened}
+use Rattle.seen_connections.specs.Connections.{key_of}
+use Rattle.seen_connections.specs.SeenOptions.{Readable, SeenValue, seen_options}
+use Rattle.seen_streams.specs.Positions.{position_of}
+use Rattle.seen_streams.specs.State.{Found, LaneValue, StreamValue}
+use Rattle.rule_book.specs.Facts.{Facts, first_of, own_base, own_lane}
+use Rattle.rule_book.specs.Judged.{Told, empty_book, judged_flow, judged_formed, judged_opened, judged_side, nothing_judged, opened_facts}
+use Rattle.rule_book.specs.Signals.{KeyedValue, judged_options, told_formless}
+use Rattle.rule_book.specs.State.{BookValue, LanesValue, stream_at, with_stream}
+use Rattle.rule_book.specs.Stream.{Left, gap_counted, judged_at, judged_from, judged_positions}
+use Rattle.capture_verdict.specs.Judging.{judged_packets}
+use Rattle.judge_laws.specs.GoesOn.{broke, stream_in}
+use Rattle.judge_laws.proofs.Folds.{TellingKeeps, options_so as fields_so}
+use Rattle.own_runs.proofs.FinePositions.{TellsNoFail}
+use Rattle.own_runs.proofs.MapPositions.{LaneFine, OffersWell, StreamFine, at_so, is_mapping}
+use Rattle.own_runs.proofs.KeptOptions.{kept_so}
+use Rattle.own_runs.proofs.Own.{Drawn, IsOwn, ValueIs, own_key}
+use Rattle.own_runs.proofs.OwnFlows.{FlowOn, KeysOwn, NonceIs}
+use Rattle.own_runs.proofs.OwnOptions.{IsOf, key_is, options_so, readable_so}
+use Rattle.own_runs.proofs.OwnPackets.{IsLeft, PacketIs, SegmentsKeep, book_holds, opens_so, sender_so}
+use Rattle.seq_units.specs.Number.{position_near}
+use Rattle.seq_units.proofs.ReadBack.{position_near-number_of_32}
+use Rattle.std.specs.Prelude.{option_and_then}
+use Rattle.std.proofs.lemmas.Int.{ints}
+use Rattle.own_runs.proofs.Own.{is_a, own_initial}
+use Rattle.own_runs.proofs.OwnUntold.{base_so}
+use Rattle.own_runs.proofs.Telling.{others_keep}
+
+-- a number means the position that has it, where few came before
+position_is : (base top seq at : ℕ) → seq ≡ (base + at) % 2 ^ 32 → top < 2 ^ 31 → at < 2 ^ 31 → position_near (2 ^ 32) base top seq ≡ Some at
+position_is base top seq at is few small =
+    ap (position_near (2 ^ 32) base top) is ∙ position_near-number_of_32 base top at (record { behind = omega (arith, ints, few, small); ahead = omega (arith, ints, few, small) })
+
+some_is : {x y : ℕ} → (let one : Option ℕ = Some x in one) ≡ Some y → x ≡ y
+some_is e = cc
+
+judged_is : (base : ℕ) (lane : LaneValue) (seq len at position : ℕ) → position_of base lane seq len ≡ Some position → seq ≡ (base + at) % 2 ^ 32 → lane.top < 2 ^ 31 → at < 2 ^ 31
+    → position ≡ at
+judged_is base lane seq len at position is seq_is few small =
+    by (nat_le (at + len) (2 ^ 61))
+    (sym (ap (option_and_then (λ position. if nat_le (position + len) (2 ^ 61) then Some position else None)) (position_is base lane.top seq at seq_is few small)) ∙ is)
+  where
+    by : (b : Bool) → (if b then Some at else None) ≡ Some position → position ≡ at
+    by true e = sym (some_is e)
+    by false e = cc
+
+module _ (d : Drawn) (limit : Side → ℕ) (few : (s : Side) → limit s < 2 ^ 31) (where_at : ℕ → Side → ℕ → ℕ) where
+  -- the mappings of a segment end within its side's stream, and give each position its place
+  pub record IsFine (seen : Seen) : Type 0 where
+    pub own : IsOwn d seen
+    pub at : ℕ
+    pub seq : seen.segment.head.seq ≡ (own_initial d own.path own.from + at) % 2 ^ 32
+    pub short : at + seen.payload_len < 2 ^ 31
+    pub offers : All (OffersWell (first_number (own_key d own.from)) (limit own.from) (where_at own.path own.from) at) own.values
+    pub calm : All TellsNoFail own.values
+
+  abbrev BookFine : BookValue → Type 0
+  BookFine book = (s : Side) → StreamFine (limit s) (few s) (stream_at s book)
+
+  pub record LanesFine (path : ℕ) (lanes : LanesValue) : Type 0 where
+    pub opener : LaneFine (limit A) (few A) (where_at path A) lanes.opener
+    pub other : LaneFine (limit B) (few B) (where_at path B) lanes.other
+
+  new_fine : BookFine empty_book
+  new_fine A = record { infinite = refl; fin = tt; top = omega arith; untold = λ r is. refl }
+  new_fine B = record { infinite = refl; fin = tt; top = omega arith; untold = λ r is. refl }
+
+  with_fine : (s : Side) (stream : StreamValue) (book : BookValue) → StreamFine (limit s) (few s) stream → BookFine book → BookFine (with_stream s stream book)
+  with_fine A stream book new h A = new
+  with_fine A stream book new h B = h B
+  with_fine B stream book new h A = h A
+  with_fine B stream book new h B = new
+
+  gaps_fine : (gaps : ℕ) (book : BookValue) → BookFine book → BookFine (record book { gaps = gaps })
+  gaps_fine gaps book h A = h A
+  gaps_fine gaps book h B = h B
+
+  lane_fine : (path : ℕ) (side : Side) (b : Bool) (lanes : LanesValue) → b ≡ is_a side → LanesFine path lanes
+      → LaneFine (limit side) (few side) (where_at path side) (if b then lanes.opener else lanes.other)
+  lane_fine path A true lanes is h = h.opener
+  lane_fine path B false lanes is h = h.other
+  lane_fine path A false lanes is h = cc
+  lane_fine path B true lanes is h = cc
+
+  lanes_fine : (path : ℕ) (side : Side) (b : Bool) (lane : LaneValue) (lanes : LanesValue) → b ≡ is_a side → LaneFine (limit side) (few side) (where_at path side) lane → LanesFine path lanes
+      → LanesFine path (if b then record lanes { opener = lane } else record lanes { other = lane })
+  lanes_fine path A true lane lanes is new h = record { opener = new; other = h.other }
+  lanes_fine path B false lane lanes is new h = record { opener = h.opener; other = new }
+  lanes_fine path A false lane lanes is new h = cc
+  lanes_fine path B true lane lanes is new h = cc
+
+  -- what a stream is beside the rules that were told
+  record Fields (s : Side) (stream : StreamValue) : Type 0 where
+    infinite : stream.infinite ≡ None
+    fin : IfSome stream.fin (λ told. told.place ≡ limit s)
+    top : stream.top ≤ limit s
+
+  fields_keep : (s : Side) → TellingKeeps (Fields s)
+  fields_keep s = record {
+    tells = λ r packet fault stream h. record { infinite = h.infinite; fin = h.fin; top = h.top };
+    counts = λ stream keys joins mappings sums data_acks h. record { infinite = h.infinite; fin = h.fin; top = h.top };
+  }
+
+  abbrev Leaves : ℕ → Told → Type 0
+  Leaves path told = IsLeft d IsFine BookFine LanesFine path told
+
+  module _ (at : Option Side) (packet : ℕ) (seen : Seen) (p : IsFine seen) where
+    abbrev own : IsOwn d seen
+    own = p.own
+
+    record LeftFine (left : Left) : Type 0 where
+      book : BookFine left.book
+      lanes : LanesFine own.path left.lanes
+
+    first_so : (s : Side) (keys : Keys) (options : List OptionValue) (place : ℕ → ℕ) (position : ℕ) → KeysOwn d keys
+        → All (OffersWell (first_number (own_key d s)) (limit s) place position) options → IfSome (first_of s keys) (λ first. All (OffersWell first (limit s) place position) options)
+    first_so s keys options place position k all = by (key_of s keys) (key_is d is_mapping s keys k)
+      where
+        by : (o : Option ℕ) → IfSome o (λ key. key ≡ own_key d s) → IfSome (option_map first_number o) (λ first. All (OffersWell first (limit s) place position) options)
+        by None is = tt
+        by (Some key) is = subst (λ (n : ℕ). All (OffersWell (first_number n) (limit s) place position) options) (sym is) all
+
+    positions_so : (facts : Facts) (options : List OptionValue) (keys : Keys) (left : Left) → facts.seen ≡ seen → facts.is_opener ≡ is_a facts.side
+        → (at : ℕ) → seen.segment.head.seq ≡ (own_base facts + at) % 2 ^ 32 → at + seen.payload_len < 2 ^ 31 → KeysOwn d keys
+        → All (OffersWell (first_number (own_key d facts.side)) (limit facts.side) (where_at own.path facts.side) at) options → All TellsNoFail options → LeftFine left
+        → LeftFine (judged_positions facts options keys left)
+    positions_so facts options keys left sees opens at seq short k all calm h =
+        by facts.seen.segment.head.syn (position_of (own_base facts) (own_lane facts left.lanes) facts.seen.segment.head.seq facts.seen.payload_len) refl
+      where
+        lane : LaneFine (limit facts.side) (few facts.side) (where_at own.path facts.side) (own_lane facts left.lanes)
+        lane = lane_fine own.path facts.side facts.is_opener left.lanes opens h.lanes
+
+        from : (position : Option ℕ) → position_of (own_base facts) (own_lane facts left.lanes) facts.seen.segment.head.seq facts.seen.payload_len ≡ position
+            → LeftFine (judged_from facts position options keys left)
+        from None e = h
+        from (Some position) e =
+            let same : position ≡ at = judged_is (own_base facts) (own_lane facts left.lanes) facts.seen.segment.head.seq facts.seen.payload_len at position e
+            (ap (λ (x : Seen). x.segment.head.seq) sees ∙ seq) lane.top (omega (arith, short)) in
+            let own_stream = stream_at facts.side left.book in
+            let its_lane = own_lane facts left.lanes in
+            let gone = (gap_counted facts left).book in
+            let it = judged_at facts position options keys (stream_at (peer facts.side) left.book) own_stream its_lane in
+            let fine = at_so (limit facts.side) (few facts.side) (where_at own.path facts.side) facts position options keys (stream_at (peer facts.side) left.book) own_stream its_lane
+            (subst (λ (n : ℕ). IfSome (first_of facts.side keys) (λ first. All (OffersWell first (limit facts.side) (where_at own.path facts.side) n) options)) (sym same)
+            (first_so facts.side keys options (where_at own.path facts.side) at k all))
+            calm (few_so position same) (h.book facts.side, lane) in
+            record {
+              book = with_fine facts.side it.stream gone fine.0 (gaps_fine gone.gaps left.book h.book);
+              lanes = lanes_fine own.path facts.side facts.is_opener it.lane left.lanes opens fine.1 h.lanes;
+            }
+          where
+            few_so : (position : ℕ) → position ≡ at → position + facts.seen.payload_len < 2 ^ 31
+            few_so position same = let len = ap (λ (x : Seen). x.payload_len) sees in omega (arith, same, len, short)
+
+        by : (b : Bool) (position : Option ℕ) → position_of (own_base facts) (own_lane facts left.lanes) facts.seen.segment.head.seq facts.seen.payload_len ≡ position
+            → LeftFine (if b then left else judged_from facts position options keys left)
+        by true position e = h
+        by false position e = from position e
+
+    module _ (index : ℕ) (flow : Flow) (f : FlowOn d own.path flow) (keys : Keys) (k : KeysOwn d keys) (left : Left) (h : LeftFine left) where
+      seq_so : (opened : Opened) → flow.opened ≡ Some opened → seen.segment.head.seq ≡ (own_base (opened_facts at packet seen index flow opened own.from) + p.at) % 2 ^ 32
+      seq_so opened e = let base = base_so d seen own flow f at packet index opened e in let seq = p.seq in omega (arith, base, seq)
+
+      opened_so : (opened : Opened) → flow.opened ≡ Some opened
+          → Leaves own.path (judged_opened (opened_facts at packet seen index flow opened own.from) (map Readable own.values) keys left)
+      opened_so opened e =
+          let facts = opened_facts at packet seen index flow opened own.from in
+          let it : IsOf d is_mapping own.path facts = record {
+            opening = f.opening;
+            nonce = subst (λ (o : Option Opened). IfSome o (NonceIs d own.path flow.opening)) e f.nonce;
+            opener = opens_so d seen own flow f;
+          } in
+          let was = h.book own.from in
+          let first : KeyedValue = record { options = []; keys = keys; stream = stream_at own.from left.book } in
+          let made = options_so d is_mapping own.path facts it own.values first own.each
+          (record { keys = k; untold = was.untold; each = All-nil (ValueIs d own.path own.from) }) in
+          let all = judged_options facts (map Readable own.values) first in
+          let fields = fields_so (fields_keep own.from) facts (map Readable own.values) first (record { infinite = was.infinite; fin = was.fin; top = was.top }) in
+          let wells = kept_so (OffersWell (first_number (own_key d own.from)) (limit own.from) (where_at own.path own.from) p.at) facts own.values first p.offers
+          (All-nil (OffersWell (first_number (own_key d own.from)) (limit own.from) (where_at own.path own.from) p.at)) in
+          let calm = kept_so TellsNoFail facts own.values first p.calm (All-nil TellsNoFail) in
+          let stream : StreamFine (limit own.from) (few own.from) all.stream =
+          record { infinite = fields.infinite; fin = fields.fin; top = fields.top; untold = made.untold } in
+          let behind = positions_so facts all.options all.keys (record left { book = with_stream own.from all.stream left.book }) refl (opens_so d seen own flow f) p.at
+          (seq_so opened e) p.short made.keys wells calm
+          (record { book = with_fine own.from all.stream left.book stream h.book; lanes = h.lanes }) in
+          record { keys = made.keys; book = behind.book; lanes = behind.lanes }
+
+      formed_so : (opened : Option Opened) → flow.opened ≡ opened
+          → Leaves own.path (judged_formed at packet seen index flow opened own.from (map Readable own.values) keys left)
+      formed_so None e = record { keys = k; book = h.book; lanes = h.lanes }
+      formed_so (Some opened) e = opened_so opened e
+
+    flow_so : (index : ℕ) (flow : Flow) (f : FlowOn d own.path flow) (belongs : Belongs) → belongs.opener ≡ A → (keys : Keys) (left : Left) → KeysOwn d keys
+        → LeftFine left → Leaves own.path (judged_flow at packet seen index flow belongs keys left)
+    flow_so index flow f belongs is keys left k h =
+        let formed = told_formless packet (map Readable own.values) (stream_at own.from left.book) in
+        subst (λ (s : Side). Leaves own.path (judged_side at packet seen index flow s keys left)) (sym (sender_so d seen own flow f belongs is))
+        (subst (λ (options : List SeenValue). Leaves own.path (judged_formed at packet seen index flow flow.opened own.from options keys
+        (record left { book = with_stream own.from (told_formless packet options (stream_at own.from left.book)) left.book }))) (sym options_are)
+        (formed_so index flow f keys k (record left { book = with_stream own.from formed left.book })
+        (record {
+          book = with_fine own.from formed left.book
+              (subst (StreamFine (limit own.from) (few own.from)) (sym (readable_so packet own.values (stream_at own.from left.book))) (h.book own.from)) h.book;
+          lanes = h.lanes;
+        })
+        flow.opened refl))
+      where
+        options_are : seen_options keys.checksums seen.segment.options ≡ map Readable own.values
+        options_are = ap (λ (c : Bool). seen_options c seen.segment.options) k.checksums ∙ own.options
+
+  keep : SegmentsKeep d IsFine BookFine LanesFine
+  keep = record {
+    own = λ seen p. p.own;
+    new_book = new_fine;
+    new_lanes = λ path. record { opener = record { line = refl; top = omega arith; placed = λ p. tt }; other = record { line = refl; top = omega arith; placed = λ p. tt } };
+    token = λ wrong book h.
+        let s = wrong.belongs.opener in
+        let was = h s in
+        with_fine s _ book
+        (record {
+          infinite = was.infinite;
+          fin = was.fin;
+          top = was.top;
+          untold = others_keep is_mapping rule.Token wrong.packet (Found (Number32 wrong.expected wrong.was)) (stream_at s book).broken refl was.untold;
+        }) h;
+    flow = λ at packet seen p index flow f belongs is keys left k h lanes.
+        flow_so at packet seen p index flow f belongs is keys left k (record { book = h; lanes = lanes });
+  }
+
+  abbrev pub FinePacket : Captured → Type 0
+  FinePacket packet = PacketIs d IsFine BookFine LanesFine packet
+
+  pub none_broke : (at : Option Side) (packets : List Captured) → All FinePacket packets → (connection : ℕ) (s : Side) (stream : StreamValue)
+      → stream_in (judged_packets at true nothing_judged 1 packets) connection s ≡ Some stream → (r : Rule) → is_mapping r ≡ true → broke r stream ≡ false
+  none_broke at packets each connection s stream there r is =
+      let found = book_holds d IsFine BookFine LanesFine keep at packets each connection s stream there in
+      subst (λ (x : StreamValue). broke r x ≡ false) found.2 ((found.1 s).untold r is)

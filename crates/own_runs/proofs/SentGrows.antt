@@ -1,0 +1,215 @@
+-- What a lane's record has stays in it, whatever happens.
+use Rattle.std.proofs.Common.{◌≡◌, refl, sym, ap, ◌∙◌, subst, ℕ, ⊎_elim, Bool, true, false, if◌then◌else◌, Option, Some, None, List, [], ◌∷◌, ◌++◌, append_assoc, append-nil}
+use Rattle.std.specs.List.{slice_get}
+use Rattle.std.proofs.Math.ListN.{set}
+use Rattle.judge_laws.proofs.Books.{set_either}
+use Rattle.judge_laws.proofs.Standing.{some_same}
+use Rattle.send_book.specs.declared.call.SendReply.TheVariants.{Acked, Granted}
+use Rattle.reassembly_book.specs.Steps.{reply_to}
+use Rattle.reassembly_book.specs.declared.call.ReassemblyCall.TheVariants.{AckOut}
+use Rattle.reassembly_book.specs.declared.call.ReassemblyReply.{ReassemblyReply}
+use Rattle.reassembly_book.specs.declared.call.ReassemblyReply.TheVariants.{Ack, FinSet, Placed}
+use Rattle.send_book.specs.declared.call.SendReply.{SendReply}
+use Rattle.stream_lanes.specs.Duo.{Duo, Event, after_event, after_events, flags_ab, flags_ba}
+use Rattle.stream_lanes.specs.Lane.{Lane, Cell, Ask}
+use Rattle.stream_lanes.specs.Moves.{Flags, Move, moved, takes_grant, takes_ack, takes_placed, takes_fin, takes_ack_out, hears, hears_sub, sends_piece, sends_altered, sends_pair, sends_fin_pair, keeps, learns, learns_mapping, hears_data_fin, hears_fin, places, takes_pair, places_pair, ends_pair}
+use Rattle.stream_lanes.specs.Streams.{Direction, StreamEvent, after, asks, asks_at, moves, goes_infinite}
+
+-- a record goes on
+pub record Longer (l m : Lane) : Type 0 where
+  pub more : List Cell
+  pub is : m.sent ≡ l.sent ++ more
+
+same_longer : (l m : Lane) → m.sent ≡ l.sent → Longer l m
+same_longer l m same = record { more = []; is = same ∙ sym (append-nil l.sent) }
+
+then_longer : (l m n : Lane) → Longer l m → Longer m n → Longer l n
+then_longer l m n x y = record { more = x.more ++ y.more; is = y.is ∙ ap (λ (s : List Cell). s ++ y.more) x.is ∙ append_assoc l.sent x.more y.more }
+
+either_same : (b : Bool) (q r p : Lane) → q.sent ≡ p.sent → r.sent ≡ p.sent → (if b then q else r).sent ≡ p.sent
+either_same true q r p x y = x
+either_same false q r p x y = y
+
+moved_same : (f : Flags) (path : ℕ) (move : Move) (p : Lane) → (moved f path move p).sent ≡ p.sent
+moved_same f path Move.Open p = either_same _ _ p p refl refl
+moved_same f path Move.LookAtSender p = refl
+moved_same f path Move.LookAtReceiver p = refl
+moved_same f path (Move.WantGrant max standby) p = either_same _ _ p p refl refl
+moved_same f path (Move.HearAck copy) p = by (slice_get p.acks copy)
+  where
+    by : (o : Option _) → (hears o p).sent ≡ p.sent
+    by None = refl
+    by (Some a) = refl
+moved_same f path (Move.HearSubAck copy upto) p = by (slice_get p.acks copy) p.pair
+  where
+    by : (o : Option _) (q : Option _) → (hears_sub upto o q p).sent ≡ p.sent
+    by (Some a) (Some m) = either_same p.alters _ p p refl refl
+    by None q = refl
+    by (Some a) None = refl
+moved_same f path (Move.SendPiece piece mapped) p = by (slice_get p.pieces piece)
+  where
+    by : (o : Option _) → (sends_piece mapped o p).sent ≡ p.sent
+    by None = refl
+    by (Some m) = refl
+moved_same f path (Move.SendAltered piece mapped) p = by (slice_get p.pieces piece)
+  where
+    by : (o : Option _) → (sends_altered mapped o p).sent ≡ p.sent
+    by None = refl
+    by (Some m) = either_same p.alters _ p p refl refl
+moved_same f path Move.SendDataFin p = refl
+moved_same f path Move.SendFin p = either_same _ _ p p refl refl
+moved_same f path (Move.SendPair shift) p = by p.pair
+  where
+    by : (o : Option _) → (sends_pair shift o p).sent ≡ p.sent
+    by None = refl
+    by (Some m) = either_same _ _ p p refl refl
+moved_same f path (Move.SendPlainPair pos) p = either_same _ _ p p refl refl
+moved_same f path Move.SendFinPair p = by p.pair
+  where
+    by : (o : Option _) → (sends_fin_pair o p).sent ≡ p.sent
+    by None = refl
+    by (Some m) = either_same _ _ p p refl refl
+moved_same f path (Move.Hear copy count) p = by (slice_get p.datas copy)
+  where
+    by : (o : Option _) → (keeps count o p).sent ≡ p.sent
+    by None = refl
+    by (Some d) = refl
+moved_same f path (Move.Learn copy) p = by (slice_get p.datas copy)
+  where
+    mapping : (o : Option _) → (learns_mapping o p).sent ≡ p.sent
+    mapping None = refl
+    mapping (Some m) = either_same _ p _ p refl refl
+
+    by : (o : Option _) → (learns o p).sent ≡ p.sent
+    by None = refl
+    by (Some d) = mapping d.mapping
+moved_same f path (Move.HearDataFin copy) p = by (slice_get p.data_fins copy)
+  where
+    by : (o : Option ℕ) → (hears_data_fin o p).sent ≡ p.sent
+    by None = refl
+    by (Some e) = refl
+moved_same f path (Move.HearFin copy) p = by (slice_get p.fins copy)
+  where
+    by : (o : Option ℕ) → (hears_fin o p).sent ≡ p.sent
+    by None = refl
+    by (Some e) = either_same _ _ p p refl refl
+moved_same f path (Move.Forget from) p = refl
+moved_same f path (Move.WantPlace mapping count) p = by (slice_get p.maps mapping)
+  where
+    by : (o : Option _) → (places count o p).sent ≡ p.sent
+    by None = refl
+    by (Some m) = either_same _ _ p p refl refl
+moved_same f path (Move.WantPlacePlain count) p = either_same _ _ p p refl refl
+moved_same f path Move.WantFin p = either_same _ _ p p refl refl
+moved_same f path (Move.TakePair copy) p = by (slice_get p.pairs copy)
+  where
+    by : (o : Option _) → (takes_pair o p).sent ≡ p.sent
+    by None = refl
+    by (Some m) = refl
+moved_same f path (Move.WantPlacePair count) p = by p.taken
+  where
+    by : (o : Option _) → (places_pair count o p).sent ≡ p.sent
+    by None = refl
+    by (Some m) = either_same _ _ p p refl refl
+moved_same f path Move.WantFinPair p = by p.taken
+  where
+    by : (o : Option _) → (ends_pair o p).sent ≡ p.sent
+    by None = refl
+    by (Some m) = either_same _ _ p p refl refl
+moved_same f path Move.WantAckOut p = refl
+moved_same f path (Move.SendAck next window sub) p = either_same p.due p _ p refl refl
+
+-- ---- a direction
+
+abbrev pub LanesGrow : List Lane → List Lane → Type 0
+LanesGrow old new = (n : ℕ) (l : Lane) → slice_get old n ≡ Some l → (m : Lane) × (slice_get new n ≡ Some m) × Longer l m
+
+same_lanes : (lanes : List Lane) → LanesGrow lanes lanes
+same_lanes lanes n l at = (l, at, same_longer l l refl)
+
+set_lanes : (lanes : List Lane) (path : ℕ) (p q : Lane) → slice_get lanes path ≡ Some p → Longer p q → LanesGrow lanes (set lanes path q)
+set_lanes lanes path p q there longer n l at = ⊎_elim
+    (λ both. let same : p ≡ l = some_same p l (sym there ∙ ap (slice_get lanes) both.0 ∙ at) in (q, both.1, subst (λ (x : Lane). Longer x q) same longer))
+    (λ other. (l, other, same_longer l l refl))
+    (set_either lanes path n q l at)
+
+grant_longer : (reply : SendReply) (p : Lane) → Longer p (takes_grant reply p)
+grant_longer (Granted span piece) p = record { more = _; is = refl }
+grant_longer _ p = same_longer p _ refl
+
+ack_same : (next : ℕ) (reply : SendReply) (p : Lane) → (takes_ack next reply p).sent ≡ p.sent
+ack_same next (Acked bytes fin) p = refl
+ack_same next _ p = refl
+
+placed_same : (count : ℕ) (reply : ReassemblyReply) (p : Lane) → (takes_placed count reply p).sent ≡ p.sent
+placed_same count (Placed new) p = refl
+placed_same count _ p = refl
+
+fin_same : (reply : ReassemblyReply) (p : Lane) → (takes_fin reply p).sent ≡ p.sent
+fin_same FinSet p = refl
+fin_same _ p = refl
+
+out_same : (reply : ReassemblyReply) (p : Lane) → (takes_ack_out reply p).sent ≡ p.sent
+out_same (Ack next window) p = refl
+out_same _ p = refl
+
+asks_grow : (path : ℕ) (ask : Ask) (p : Lane) (d : Direction) → slice_get d.lanes path ≡ Some p → LanesGrow d.lanes (asks path ask p d).lanes
+asks_grow path Ask.Nothing p d there = same_lanes d.lanes
+asks_grow path (Ask.AskGrant max standby) p d there = set_lanes d.lanes path p _ there (grant_longer _ p)
+asks_grow path (Ask.AskAckIn next window) p d there = set_lanes d.lanes path p _ there (same_longer p _ (ack_same next _ p))
+asks_grow path (Ask.AskPlace at bytes) p d there = set_lanes d.lanes path p _ there (same_longer p _ (placed_same _ _ p))
+asks_grow path (Ask.AskFin at) p d there = set_lanes d.lanes path p _ there (same_longer p _ (fin_same _ p))
+asks_grow path Ask.AskAckOut p d there =
+    set_lanes d.lanes path p (takes_ack_out (reply_to d.arrived AckOut) p) there (same_longer p (takes_ack_out (reply_to d.arrived AckOut) p) (out_same (reply_to d.arrived AckOut) p))
+
+either_lanes : (old : List Lane) (b : Bool) (d e : Direction) → LanesGrow old d.lanes → LanesGrow old e.lanes → LanesGrow old (if b then d else e).lanes
+either_lanes old true d e x y = x
+either_lanes old false d e x y = y
+
+event_lanes : (f : Flags) (event : StreamEvent) (d : Direction) → LanesGrow d.lanes (after f event d).lanes
+event_lanes f (StreamEvent.Write bytes) d = same_lanes d.lanes
+event_lanes f StreamEvent.Close d = same_lanes d.lanes
+event_lanes f (StreamEvent.Return path) d = same_lanes d.lanes
+event_lanes f StreamEvent.GoIdentity d = either_lanes d.lanes f.sender _ d (same_lanes d.lanes) (same_lanes d.lanes)
+event_lanes f (StreamEvent.GoInfinite path pos) d = by (slice_get d.lanes path) refl
+  where
+    by : (o : Option Lane) → slice_get d.lanes path ≡ o → LanesGrow d.lanes (goes_infinite path pos o d).lanes
+    by None at = same_lanes d.lanes
+    by (Some p) at = either_lanes d.lanes _ _ d (set_lanes d.lanes path p _ at (same_longer p _ refl)) (same_lanes d.lanes)
+event_lanes f StreamEvent.AbortSend d = same_lanes d.lanes
+event_lanes f (StreamEvent.Read max) d = either_lanes d.lanes _ d _ (same_lanes d.lanes) (same_lanes d.lanes)
+event_lanes f (StreamEvent.AbortRead by_peer) d = same_lanes d.lanes
+event_lanes f (StreamEvent.Moves path move) d = by (slice_get d.lanes path) refl
+  where
+    by : (o : Option Lane) → slice_get d.lanes path ≡ o → LanesGrow d.lanes (moves f path move o d).lanes
+    by None at = same_lanes d.lanes
+    by (Some p) at = set_lanes d.lanes path p (moved f path move p) at (same_longer p _ (moved_same f path move p))
+event_lanes f (StreamEvent.Asks path) d = by (slice_get d.lanes path) refl
+  where
+    by : (o : Option Lane) → slice_get d.lanes path ≡ o → LanesGrow d.lanes (asks_at path o d).lanes
+    by None at = same_lanes d.lanes
+    by (Some p) at = asks_grow path p.asking p d at
+
+-- ---- a connection
+
+pub record Grows (d e : Duo) : Type 0 where
+  pub ab : LanesGrow d.ab.lanes e.ab.lanes
+  pub ba : LanesGrow d.ba.lanes e.ba.lanes
+
+pub same_grows : (d : Duo) → Grows d d
+same_grows d = record { ab = same_lanes d.ab.lanes; ba = same_lanes d.ba.lanes }
+
+pub then_grows : (d e f : Duo) → Grows d e → Grows e f → Grows d f
+then_grows d e f x y = record {
+  ab = λ n l at. let m = x.ab n l at in let k = y.ab n m.0 m.1 in (k.0, k.1, then_longer l m.0 k.0 m.2 k.2);
+  ba = λ n l at. let m = x.ba n l at in let k = y.ba n m.0 m.1 in (k.0, k.1, then_longer l m.0 k.0 m.2 k.2);
+}
+
+event_grows : (event : Event) (d : Duo) → Grows d (after_event event d)
+event_grows (Event.ToB event) d = record { ab = event_lanes (flags_ab d.modes) event d.ab; ba = same_lanes d.ba.lanes }
+event_grows (Event.ToA event) d = record { ab = same_lanes d.ab.lanes; ba = event_lanes (flags_ba d.modes) event d.ba }
+event_grows _ d = record { ab = same_lanes d.ab.lanes; ba = same_lanes d.ba.lanes }
+
+pub events_grow : (events : List Event) (d : Duo) → Grows d (after_events events d)
+events_grow [] d = same_grows d
+events_grow (event ∷ events) d = then_grows d (after_event event d) (after_events events (after_event event d)) (event_grows event d) (events_grow events (after_event event d))
