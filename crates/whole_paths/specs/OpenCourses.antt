@@ -43,7 +43,8 @@ IsOpenAfter start turns = IsOpenNow (reached values start turns)
 
 -- as a path becomes this actor, and none of its ends is dead before or after
 abbrev pub HoldUpsCount : Type 0 → Actor Carried → Actor Carried → Type 0
-HoldUpsCount Counted (Path p) (Path q) = ((s : Side) → is_dead (end_at s p).tcp.state ≡ false) → ((s : Side) → is_dead (end_at s q).tcp.state ≡ false) → ((s : Side) → segments_sent s p.link < 2 ^ 64 - 1) → (s : Side) → IsHeldUp s p q → Counted
+HoldUpsCount Counted (Path p) (Path q) = ((s : Side) → is_dead (end_at s p).tcp.state ≡ false) → ((s : Side) → is_dead (end_at s q).tcp.state ≡ false)
+    → ((s : Side) → segments_sent s p.link < 2 ^ 64 - 1) → (s : Side) → IsHeldUp s p q → Counted
 HoldUpsCount Counted _ _ = Unit {0}
 
 -- by any turn
@@ -65,7 +66,8 @@ OpenExchangesEnd = (start : Start) (most within : ℕ) (Over : List Turn → Typ
 
 -- and where waits are paid, with rounds enough for all that can be paid
 abbrev pub OpenPaidExchangesEnd : Type 1
-OpenPaidExchangesEnd = (start : Start) (most most_paid : ℕ) (Over : List Turn → Type 0) (Pays : ℕ → List Turn → Type 0) (Waits : ℕ → ℕ → List Turn → Type 0) → IsMildStart start
+OpenPaidExchangesEnd = (start : Start) (most most_paid : ℕ) (Over : List Turn → Type 0) (Pays : ℕ → List Turn → Type 0) (Waits : ℕ → ℕ → List Turn
+    → Type 0) → IsMildStart start
     → PaidExchanges values start (IsOpenAfter start) most most_paid Over Pays Waits
     → (before more : List Turn) → Pays 0 before → AreLawful values more (reached values start before) → IsWhole 0 (reached values start before)
     → (last : IsWhole 0 (reached values start (before ++ more))) → ((s : Side) → segments_sent s last.path.link < 2 ^ 64 - 1)

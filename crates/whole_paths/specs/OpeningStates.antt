@@ -31,4 +31,5 @@ module _ {C : Type 0} where
 
   -- on each path, at every moment
   abbrev pub EndsGoByTheHandshake : Codec C → Type 0
-  EndsGoByTheHandshake k = (start : Start) (turns : List Turn) → Every (λ (c : ActorCrew C). HoldsOfKind (λ app. Unit {0}) (λ (p : PathState C). GoByTheHandshake p) c.member) (reached k start turns).crew
+  EndsGoByTheHandshake k = (start : Start) (turns : List Turn)
+      → Every (λ (c : ActorCrew C). HoldsOfKind (λ app. Unit {0}) (λ (p : PathState C). GoByTheHandshake p) c.member) (reached k start turns).crew

@@ -55,7 +55,8 @@ pub data IsOpeningOrPast (p : PathState Carried) : Type 0 where
 
 -- on each path, at every moment
 abbrev pub EndsOpenOrArePast : Type 0
-EndsOpenOrArePast = (start : Start) (turns : List Turn) (actor : ℕ) (c : ActorCrew Carried) → slice_get (reached values start turns).crew actor ≡ Some c → HoldsOfKind (λ app. Unit {0}) IsOpeningOrPast c.member
+EndsOpenOrArePast = (start : Start) (turns : List Turn) (actor : ℕ) (c : ActorCrew Carried)
+    → slice_get (reached values start turns).crew actor ≡ Some c → HoldsOfKind (λ app. Unit {0}) IsOpeningOrPast c.member
 
 -- over such a path a segment goes for so long at most, there and back
 pub record OpensStill (start : Start) (way : ℕ) (turns : List Turn) : Type 0 where
@@ -89,10 +90,12 @@ module _ (start : Start) (most : ℕ) where
   -- As a round begins a wait begins, for a minute and as long as a segment is under way there and back; it goes on by each step, and as the next
   -- round begins; and no round begins past it, unless something is counted, or A has finished.
   pub record OpeningIsAwaited : Type 0 where
-    pub begins : (way : ℕ) (v u : List Turn) → AliveOpens v u → OpensStill start way v → AHasFinished start v ⊎ AwaitsOpening start (round_end values start v + (60000 + way)) u
+    pub begins : (way : ℕ) (v u : List Turn) → AliveOpens v u → OpensStill start way v → AHasFinished start v
+        ⊎ AwaitsOpening start (round_end values start v + (60000 + way)) u
     pub on : (x : ℕ) (v u : List Turn) → AliveSteps v u → AwaitsOpening start x v → OpeningGoesOn x v u
     pub next : (x : ℕ) (v u : List Turn) → AliveOpens v u → AwaitsOpening start x v → OpeningGoesOn x v u
-    pub due : (x : ℕ) (v u : List Turn) → AliveOpens v u → AwaitsOpening start x v → x < round_end values start v → (counted values start v < counted values start u) ⊎ AHasFinished start v
+    pub due : (x : ℕ) (v u : List Turn) → AliveOpens v u → AwaitsOpening start x v → x < round_end values start v
+        → (counted values start v < counted values start u) ⊎ AHasFinished start v
 
 -- in each mild connection
 abbrev pub OpeningsAreAwaited : Type 0

@@ -18,10 +18,13 @@ module _ {C : Type 0} (k : Codec C) (start : Start) (Holds : List Turn → Type 
     pub pays_on : (n : ℕ) (v u : List Turn) → TakesAStep k start Holds most v u → Pays n v → Pays n u
     pub pays_next : (n : ℕ) (v u : List Turn) → BeginsARound k start Holds most v u → Pays n v → Pays n u
     pub few : (n : ℕ) (v : List Turn) → harmed_so_far k start v ≤ most → Pays n v → n ≤ most_paid
-    pub waits_on : (n x : ℕ) (v u : List Turn) → TakesAStep k start Holds most v u → Waits n x v → Pays n u ⊎ AWaitGoesOn (course_of k start Holds most Over Waits) most_paid n x u
-    pub waits_next : (n x : ℕ) (v u : List Turn) → BeginsARound k start Holds most v u → Waits n x v → Pays n u ⊎ AWaitGoesOn (course_of k start Holds most Over Waits) most_paid n x u
+    pub waits_on : (n x : ℕ) (v u : List Turn) → TakesAStep k start Holds most v u → Waits n x v → Pays n u
+        ⊎ AWaitGoesOn (course_of k start Holds most Over Waits) most_paid n x u
+    pub waits_next : (n x : ℕ) (v u : List Turn) → BeginsARound k start Holds most v u → Waits n x v → Pays n u
+        ⊎ AWaitGoesOn (course_of k start Holds most Over Waits) most_paid n x u
     pub due : (n x : ℕ) (v u : List Turn) → BeginsARound k start Holds most v u → Waits n x v → x < round_end k start v → Pays n u
-    pub begins : (n : ℕ) (v u : List Turn) → BeginsARound k start Holds most v u → Pays n u → Over u ⊎ AWaitBegins (course_of k start Holds most Over Waits) most_paid n v u
+    pub begins : (n : ℕ) (v u : List Turn) → BeginsARound k start Holds most v u → Pays n u → Over u
+        ⊎ AWaitBegins (course_of k start Holds most Over Waits) most_paid n v u
 
   -- Where exchanges go on so, it is over after lawful turns in which rounds enough begin for all that can be paid.
   abbrev pub PaidExchangesEnd : Type 1

@@ -59,7 +59,8 @@ HardlyStraysFrom _ _ = Unit {0}
 -- by any turn of a mild connection
 abbrev pub SendersHardlyStray : Type 0
 SendersHardlyStray = (start : Start) (turns : List Turn) (turn : Turn) → IsMildStart start → let w = world_run values turns (opened_world start) in
-    (actor : ℕ) (c d : ActorCrew Carried) → slice_get w.crew actor ≡ Some c → slice_get (after_turn values turn w).crew actor ≡ Some d → HardlyStraysFrom c.member d.member
+    (actor : ℕ) (c d : ActorCrew Carried) → slice_get w.crew actor ≡ Some c → slice_get (after_turn values turn w).crew actor ≡ Some d
+    → HardlyStraysFrom c.member d.member
 
 abbrev pub OpenEndsHardlyStray : Type 0
 OpenEndsHardlyStray = (start : Start) (turns : List Turn) (turn : Turn) → IsMildStart start → let w = world_run values turns (opened_world start) in
