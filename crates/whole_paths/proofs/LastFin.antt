@@ -29,7 +29,7 @@ use Rattle.world_laws.proofs.Worlds.CastLifting.{each_actor}
 use Rattle.whole_paths.specs.LastFin.{FinIsLast, FinsAreLast}
 
 -- a FIN that was sent stands right before SND.NXT
-fin_last : (path : ℕ) (v : View) (finished : Bool) (nxt heard : ℕ) (granted : List GrantedPiece) (sent : List Cell) (fins : List ℕ) (pair : Option Pair) → SentShows finished nxt heard granted sent fins pair
+pub fin_last : (path : ℕ) (v : View) (finished : Bool) (nxt heard : ℕ) (granted : List GrantedPiece) (sent : List Cell) (fins : List ℕ) (pair : Option Pair) → SentShows finished nxt heard granted sent fins pair
     → Every (IsFin path v sent) fins → (position : ℕ) → HasFin fins position → suc position ≡ nxt
 fin_last path v false nxt heard granted sent fins pair h all position has = let unsent = h.none refl in let there = has.there in cc
 fin_last path v true nxt heard granted sent fins pair h all position has =

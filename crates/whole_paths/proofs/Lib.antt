@@ -17,6 +17,7 @@ pub mod ClosingAsked
 pub mod ClosingFin
 pub mod ClosingKnown
 pub mod ClosingOwed
+pub mod Copied
 pub mod Copies
 pub mod DataAcks
 pub mod DataAcksAsked
@@ -81,6 +82,7 @@ pub mod Passing
 pub mod Paying
 pub mod Pieces
 pub mod Probes
+pub mod Reaching
 pub mod Reasons
 pub mod Received
 pub mod RecordsWell
@@ -95,6 +97,7 @@ pub mod SegmentsRead
 pub mod Sent
 pub mod SentByTurns
 pub mod SentSoon
+pub mod SentWithin
 pub mod Settling
 pub mod OpeningStates
 pub mod OpeningWaits
@@ -109,6 +112,7 @@ pub mod Subflows
 pub mod Thirds
 pub mod ThereInTime
 pub mod Timing
+pub mod ToldSoon
 pub mod Treating
 pub mod Unharmed
 pub mod Unmapped

@@ -137,16 +137,16 @@ module _ (start : Start) (mild : IsMildStart start) (turns : List Turn) (turn : 
     abbrev open_q : IsOpen q
     open_q = after.is_open
 
-    holds_p : (P : PathState Carried → Type 0) → ((actor : ℕ) (c : ActorCrew Carried) → slice_get w.crew actor ≡ Some c → HoldsOfKind (λ app. Unit {0}) P c.member) → P p
+    pub holds_p : (P : PathState Carried → Type 0) → ((actor : ℕ) (c : ActorCrew Carried) → slice_get w.crew actor ≡ Some c → HoldsOfKind (λ app. Unit {0}) P c.member) → P p
     holds_p P each = subst (HoldsOfKind (λ app. Unit {0}) P) before.here.is (each 2 before.here.crew before.here.there)
 
     there_q : slice_get (reached values start later).crew 2 ≡ Some after.here.crew
     there_q = subst (λ (x : WorldState Carried). slice_get x.crew 2 ≡ Some after.here.crew) (sym (last start mild turns turn)) after.here.there
 
-    holds_q : (P : PathState Carried → Type 0) → ((actor : ℕ) (c : ActorCrew Carried) → slice_get (reached values start later).crew actor ≡ Some c → HoldsOfKind (λ app. Unit {0}) P c.member) → P q
+    pub holds_q : (P : PathState Carried → Type 0) → ((actor : ℕ) (c : ActorCrew Carried) → slice_get (reached values start later).crew actor ≡ Some c → HoldsOfKind (λ app. Unit {0}) P c.member) → P q
     holds_q P each = subst (HoldsOfKind (λ app. Unit {0}) P) after.here.is (each 2 after.here.crew there_q)
 
-    by_turn : (R : Actor Carried → Actor Carried → Type 0) → ((d : ActorCrew Carried) × (slice_get v.crew 2 ≡ Some d) × R before.here.crew.member d.member) → R (Path p) (Path q)
+    pub by_turn : (R : Actor Carried → Actor Carried → Type 0) → ((d : ActorCrew Carried) × (slice_get v.crew 2 ≡ Some d) × R before.here.crew.member d.member) → R (Path p) (Path q)
     by_turn R found = with_both start mild turns turn before after R found
 
     keeps : KeepsWhatComes values p q
@@ -181,10 +181,10 @@ module _ (start : Start) (mild : IsMildStart start) (turns : List Turn) (turn : 
     stands : DataStands p
     stands = holds_p DataStands (data_always_stands start turns mild.plain.size).each
 
-    within : StaysWithin p
+    pub within : StaysWithin p
     within = subst (HoldsOfKind (λ app. Unit {0}) StaysWithin) before.here.is (no_end_overruns start turns mild before.here.crew before.here.there)
 
-    unbroken_p : IsUnbroken p
+    pub unbroken_p : IsUnbroken p
     unbroken_p = (holds_p IsNeverBroken (never_breaks start turns mild).each) open_p.first
 
     unbroken_q : IsUnbroken q
@@ -208,7 +208,7 @@ module _ (start : Start) (mild : IsMildStart start) (turns : List Turn) (turn : 
     from_q : IsOpenFrom A q
     from_q = open_from start later mild q (record { crew = after.here.crew; there = there_q; is = after.here.is }) open_q A
 
-    clock : p.clock ≤ q.clock
+    pub clock : p.clock ≤ q.clock
     clock = marks.clock (let near : TimersAreNear p = holds_p TimersAreNear (timers_run_out values start turns).each in let low = near.clock in omega (arith, low))
 
     pub numbered : (f : Flight Carried) → IsUnderWay f p → f.number < 2 ^ 64 - 1

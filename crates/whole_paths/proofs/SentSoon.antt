@@ -32,7 +32,7 @@ module _ {C : Type 0} where
   sent_counts strip alter A carried size now link = refl
   sent_counts strip alter B carried size now link = refl
 
-  with_copies : (strip alter : Side → C → C) (from : Side) (carried : C) (size now : ℕ) (link : LinkState C) → (after_send strip alter from carried size now link).under_way
+  pub with_copies : (strip alter : Side → C → C) (from : Side) (carried : C) (size now : ℕ) (link : LinkState C) → (after_send strip alter from carried size now link).under_way
       ≡ with_flights (peer from) (next_number from link) (as_it_arrives strip alter from carried now link) (arrivals (fate_at from (next_number from link) size now link) (first_arrival from (next_number from link) size now link)) link.under_way
   with_copies strip alter A carried size now link = refl
   with_copies strip alter B carried size now link = refl

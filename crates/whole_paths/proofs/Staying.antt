@@ -59,13 +59,13 @@ use Rattle.whole_paths.proofs.Waiting.{gone_stays, path_far}
 
 -- ---- octets by position
 
-place_drop : (n k i : ℕ) (places : List (Option ℕ)) → i ≡ n + k → place_at k (drop n places) ≡ place_at i places
+pub place_drop : (n k i : ℕ) (places : List (Option ℕ)) → i ≡ n + k → place_at k (drop n places) ≡ place_at i places
 place_drop zero k i places is = ap (λ j. place_at j places) (omega (arith, is))
 place_drop (suc n) k i [] is = refl
 place_drop (suc n) k zero (place ∷ places) is = absurd (omega (arith, is))
 place_drop (suc n) k (suc i) (place ∷ places) is = place_drop n k i places (omega (arith, is))
 
-inside : (pos : ℕ) (v : Receiving) → v.edge ≤ pos → octet_at pos v ≡ place_at (pos - v.edge) v.places
+pub inside : (pos : ℕ) (v : Receiving) → v.edge ≤ pos → octet_at pos v ≡ place_at (pos - v.edge) v.places
 inside pos v high = ap (λ b. if b then None else place_at (pos - v.edge) v.places) (le-ltb pos v.edge high)
 
 -- RCV.NXT moves over a part of what is kept

@@ -114,11 +114,14 @@ pub record IsAnswerFor (s : Side) (position : ℕ) (p : PathState Carried) (f : 
   -- the side's RCV.NXT isn't past it, and what the side has stands before it
   pub from : (end_at s p).tcp.recv.edge ≤ f.carried.segment.position
   pub up_to_next : f.carried.segment.position ≤ (end_at (peer s) p).tcp.send.nxt
+  pub room : f.carried.segment.position ≤ (end_at s p).tcp.recv.edge + 1048576
   pub kept : (pos octet : ℕ) → octet_at pos (end_at s p).tcp.recv ≡ Some octet → pos < f.carried.segment.position
-  pub held : (pos octet : ℕ) → octet_at pos (after_keep_held (end_at s p).tcp.recv) ≡ Some octet → pos < f.carried.segment.position
+  pub held : (pos octet : ℕ) → octet_at pos (after_keep_held (end_at s p).tcp.recv) ≡ Some octet
+      → (pos < f.carried.segment.position) ⊎ (is_fin_passed (end_at s p).tcp ≡ true)
   pub heard : (pos : ℕ) → (end_at s p).tcp.fin_at ≡ Some pos → pos < f.carried.segment.position
-  -- and each segment under way to it that goes past its position acknowledges as much
+  -- and each segment under way to it with octets or a FIN past its position acknowledges as much
   pub overtaken : (g : Flight Carried) → IsUnderWay g p → g.to ≡ s → g.carried.segment.rst ≡ false
+      → 0 < length g.carried.segment.payload + one_if g.carried.segment.fin
       → f.carried.segment.position < g.carried.segment.position + length g.carried.segment.payload + one_if g.carried.segment.fin
       → (n : ℕ) × (g.carried.segment.acknowledged ≡ Some n) × (position ≤ n)
 
@@ -160,18 +163,28 @@ pub record RecordsStayWell (s : Side) (p q : PathState Carried) : Type 0 where
   -- all stay well, or one was harmed
   pub well : Every (IsWell s p) (end_at s p).tcp.send.records → (is_harmed s p q ≡ true) ⊎ Every (IsWell s q) (end_at s q).tcp.send.records
 
--- of what a side is told
-pub record StaysTold (s : Side) (p q : PathState Carried) : Type 0 where
+-- The peer sent no more than the side's window has room for. That is so unless it sent its FIN behind a full window.
+abbrev pub LeavesRoomFor : Side → PathState Carried → Type 0
+LeavesRoomFor s p = (end_at (peer s) p).tcp.send.nxt ≤ (end_at s p).tcp.recv.edge + 1048576
+
+-- of the answers of a side's peer, as the path becomes another one
+pub record AnswersStay (s : Side) (p q : PathState Carried) : Type 0 where
   -- what is told by a tick is told by that tick still
   pub comes : (position by : ℕ) → IsToldBy s position by p → IsToldBy s position by q
   -- what is owed is owed still, or goes in the turn, or was harmed
-  pub owed : (end_at (peer s) p).tcp.due.ack ≡ true → ((end_at (peer s) q).tcp.due.ack ≡ true) ⊎ ((is_harmed (peer s) p q ≡ true)
-      ⊎ IsToldBy s (end_at (peer s) q).tcp.recv.edge (p.clock + 400) q)
+  pub owed : LeavesRoomFor s p → (end_at (peer s) p).tcp.due.ack ≡ true
+      → ((end_at (peer s) q).tcp.due.ack ≡ true) ⊎ ((is_harmed (peer s) p q ≡ true) ⊎ IsToldBy s (end_at (peer s) p).tcp.recv.edge (p.clock + 400) q)
+
+-- of what a side is told
+pub record StaysTold (s : Side) (p q : PathState Carried) : Type 0 where
+  pub comes : (position by : ℕ) → IsToldBy s position by p → IsToldBy s position by q
+  pub owed : LeavesRoomFor s p → (end_at (peer s) p).tcp.due.ack ≡ true
+      → ((end_at (peer s) q).tcp.due.ack ≡ true) ⊎ ((is_harmed (peer s) p q ≡ true) ⊎ IsToldBy s (end_at (peer s) p).tcp.recv.edge (p.clock + 400) q)
   -- where more came an acknowledgement is owed, or the FIN came
   pub more : (end_at (peer s) p).tcp.recv.edge < (end_at (peer s) q).tcp.recv.edge
       → ((end_at (peer s) q).tcp.due.ack ≡ true) ⊎ (is_fin_passed (end_at (peer s) q).tcp ≡ true)
   -- the end is told soon still, or an answer was harmed
-  pub soon : IsToldSoon s p → (is_harmed (peer s) p q ≡ true) ⊎ IsToldSoon s q
+  pub soon : LeavesRoomFor s p → IsToldSoon s p → (is_harmed (peer s) p q ≡ true) ⊎ IsToldSoon s q
 
 module _ (start : Start) (turns : List Turn) (turn : Turn) where
   -- a turn of a mild connection, before which and after which both ends of path 0 are open
@@ -184,6 +197,11 @@ module _ (start : Start) (turns : List Turn) (turn : Turn) where
 abbrev pub EachRecordStaysWell : Type 0
 EachRecordStaysWell = (start : Start) (turns : List Turn) (turn : Turn) (h : IsOpenTurn start turns turn) (s : Side)
     → RecordsStayWell s h.before.path h.after.path
+
+-- each answer comes soon
+abbrev pub EachAnswerComesSoon : Type 0
+EachAnswerComesSoon = (start : Start) (turns : List Turn) (turn : Turn) (h : IsOpenTurn start turns turn) (s : Side)
+    → AnswersStay s h.before.path h.after.path
 
 -- each is told soon
 abbrev pub EachIsToldSoon : Type 0

@@ -14,7 +14,7 @@ ghost use Rattle.whole_paths.specs.GoingOn.{RoundsBeginToGoOn, RoundsGoOn, Steps
 ghost use Rattle.whole_paths.specs.Halted.{WhoHaltsGoesOnHalting};
 ghost use Rattle.whole_paths.specs.Lanes.Laws.{LossyLanesEnd, LossyLanesFinish};
 ghost use Rattle.whole_paths.specs.LastFin.{FinsAreLast};
-ghost use Rattle.whole_paths.specs.Mending.{EachRecordStaysWell};
+ghost use Rattle.whole_paths.specs.Mending.{EachAnswerComesSoon, EachRecordStaysWell};
 ghost use Rattle.whole_paths.specs.Mild.{IsPromisedMildly, KeysAreKnown, LinksAreMild, MappingIsKept, MildScriptsStartMildly, NeverBreaks};
 ghost use Rattle.whole_paths.specs.OnePathScripts.{EndsAsItBegins, MildScriptsBeginWithOnePath, OnlyWaysStay, BriefPathsEnd, WaysStay, WhatIsThereInTimeIsDelivered};
 ghost use Rattle.whole_paths.specs.OpenAsks.{OpenAsksAreInTime, OpenAsksGoOn, OpenEndsHardlyGoAwry};
@@ -140,6 +140,15 @@ pub fn no_round_counts()
 /// meanwhile (`comes`); and one that is sent in the turn is there within 400 ticks, or harmed (`sent`).
 pub fn each_record_stays_well()
     ensures { EachRecordStaysWell }
+{}
+
+/// A law: an acknowledgement that an end owes goes, and is harmed or heard within 400 ticks, by each turn of a mild connection between open ends.
+///
+/// It is owed still, or goes in the turn and acknowledges all that came to the end by then, where its peer's window has room for all that the end
+/// sent (`owed`). From then on its peer heard so much, or the answer is under way to it, and comes by the same tick (`comes`): one that is overtaken
+/// by octets or a FIN needn't be heard, since what overtook it acknowledges as much.
+pub fn each_answer_comes_soon()
+    ensures { EachAnswerComesSoon }
 {}
 
 /// A law: a wait for a record of data goes on between open ends of a mild connection until the record is acknowledged, or something is
