@@ -16,6 +16,11 @@ mod Moments
 mod OwnFlows
 mod TokenFlows
 mod KnownKeys
+mod KeyDuties
+mod Learning
+mod KeyHears
+mod KeyRuns
+mod LateJoins
 mod Telling
 mod OwnPositions
 mod OwnOptions
@@ -31,6 +36,9 @@ mod FineMoments
 mod FineKept
 mod MapKept
 mod OwnTrace
+mod TokenSegments
+mod TokenState
+mod TokenPackets
 mod Kept
 mod FineTrace
 mod MapPlaces

@@ -1,5 +1,5 @@
 //! What is read in a capture of ours, as clauses of functions that do nothing.
-ghost use Rattle.judge_rules.specs.declared.finding.Rule.TheVariants.{AddressHmac, DataFin, Fail, FastCloseKey, Form, Infinite, JoinHmac, Keys, Within};
+ghost use Rattle.judge_rules.specs.declared.finding.Rule.TheVariants.{AddressHmac, DataFin, Fail, FastCloseKey, Form, Infinite, JoinHmac, Keys, Token, Within};
 ghost use Rattle.own_runs.specs.Packets.{CapturesAreTheirPackets};
 ghost use Rattle.own_runs.specs.Runs.{NoRunBreaks, NoWholeRunBreaks};
 ghost use Rattle.own_runs.specs.Segments.{SegmentsAreFound, WrittenSegmentsAreFound};
@@ -29,15 +29,16 @@ pub fn traces_are_their_segments()
 {}
 
 /// A law: in the capture of a run of ours no side is told to break a rule of the judge's on options: each option reads (`form`), MP_CAPABLE
-/// shows the known keys (`keys`, RFC 8684, section 3.1), a join the HMACs of both keys and nonces (`join_hmac`, section 3.2), an ADD_ADDR that
-/// of its address (`address_hmac`, section 3.4.1), and MP_FASTCLOSE the key of its receiver (`fast_close_key`, section 3.5). Nor is payload
-/// sent outside of a mapping of its segment (`within`, section 3.3.1).
+/// shows the known keys (`keys`, RFC 8684, section 3.1), a join the token of a key that was shown before it (`token`, section 3.2) and the
+/// HMACs of both keys and nonces (`join_hmac`, section 3.2), an ADD_ADDR that of its address (`address_hmac`, section 3.4.1), and MP_FASTCLOSE
+/// the key of its receiver (`fast_close_key`, section 3.5). Nor is payload sent outside of a mapping of its segment (`within`, section 3.3.1).
 ///
 /// The capture is that of a trace (`traces_are_their_segments`), with sums checked. It holds of every list of turns, lawful or not, whatever the
 /// script takes away or alters, where the numbers of the start fit, and wherever the capture is said to be taken.
 pub fn own_runs_break_no_rule()
     ensures form { NoRunBreaks Form }
     ensures keys { NoRunBreaks Keys }
+    ensures token { NoRunBreaks Token }
     ensures join_hmac { NoRunBreaks JoinHmac }
     ensures address_hmac { NoRunBreaks AddressHmac }
     ensures fast_close_key { NoRunBreaks FastCloseKey }
