@@ -10,6 +10,8 @@ mod Nonces
 mod Syns
 mod Speaking
 mod Offering
+mod Bearing
+mod Numbered
 mod Carrying
 mod Placing
 mod Moments
@@ -28,9 +30,8 @@ mod MapPositions
 mod SentGrows
 mod Reached
 mod FineMoments
-mod FineKept
 mod MapKept
 mod OwnTrace
 mod Kept
-mod FineTrace
 mod MapPlaces
+mod MapTrace
