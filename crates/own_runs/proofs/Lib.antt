@@ -10,6 +10,8 @@ mod Nonces
 mod Syns
 mod Speaking
 mod Offering
+mod Bearing
+mod Numbered
 mod Carrying
 mod Placing
 mod Moments
@@ -33,12 +35,11 @@ mod MapPositions
 mod SentGrows
 mod Reached
 mod FineMoments
-mod FineKept
 mod MapKept
 mod OwnTrace
 mod TokenSegments
 mod TokenState
 mod TokenPackets
 mod Kept
-mod FineTrace
 mod MapPlaces
+mod MapTrace

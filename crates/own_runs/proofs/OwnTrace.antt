@@ -367,8 +367,11 @@ module _ (Q : ℕ → Side → PlainSegment → Type 0) (start : Start) (x : Sen
   number A = sym (ap (λ (o : Option PathPlan). unwrap_or (option_map (λ plan. plan.initial_a) o) 0) s.there)
   number B = sym (ap (λ (o : Option PathPlan). unwrap_or (option_map (λ plan. plan.initial_b) o) 0) s.there)
 
-  seq_is : segment.head.seq ≡ (own_initial own x.path x.from + sg.position) % 2 ^ 32
+  pub seq_is : segment.head.seq ≡ (own_initial own x.path x.from + sg.position) % 2 ^ 32
   seq_is = ap (λ (h : Head). h.seq) (heads_are c.spelling x.from sg) ∙ ap (λ (n : ℕ). (n + sg.position) % 2 ^ 32) (number x.from)
+
+  pub payload_same : segment.payload ≡ sg.payload
+  payload_same = payload_is c.spelling x.from sg
 
   octets_are : length segment.payload ≡ length sg.payload
   octets_are = ap (λ (octets : List ℕ). length octets) (payload_is c.spelling x.from sg)
@@ -422,14 +425,14 @@ module _ (Q : ℕ → Side → PlainSegment → Type 0) (start : Start) (x : Sen
     answers = λ syn of_b o opened. subst (λ (a : Option Answered). IfSome a (AnswerIs own x.path o)) (sym (answer_are c.spelling x.from sg says.tells.sayable fits o)) (answers_so (plain syn) of_b o opened);
   }
 
-  -- by its sender, its path and its options
-  pub from_is : is_own.from ≡ x.from
-  unfolding is_own
-  from_is = refl
-
+  -- by its path, its sender and its options
   pub path_is : is_own.path ≡ x.path
   unfolding is_own
   path_is = refl
+
+  pub from_is : is_own.from ≡ x.from
+  unfolding is_own
+  from_is = refl
 
   pub values_are : is_own.values ≡ map (said_option (path_begins start x.path s.plan).profile.spelling x.from) s.segment.options
   unfolding is_own

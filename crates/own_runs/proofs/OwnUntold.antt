@@ -87,7 +87,7 @@ near_so base top seq p is =
     by n ahead false false e is = back_so base top seq n p ahead (ltb-false (top + n) (2 ^ 32) e) (some_is is)
 
 -- a segment's position has its number
-numbered : (base : ℕ) (lane : LaneValue) (seq len p : ℕ) → position_of base lane seq len ≡ Some p → (base + p) % 2 ^ 32 ≡ seq % 2 ^ 32
+pub numbered : (base : ℕ) (lane : LaneValue) (seq len p : ℕ) → position_of base lane seq len ≡ Some p → (base + p) % 2 ^ 32 ≡ seq % 2 ^ 32
 numbered base lane seq len p is = by (position_near (2 ^ 32) base lane.top seq) refl is
   where
     by : (o : Option ℕ) → position_near (2 ^ 32) base lane.top seq ≡ o → option_and_then (λ position. if nat_le (position + len) (2 ^ 61) then Some position else None) o ≡ Some p
