@@ -52,7 +52,8 @@ module _ {C : Type 0} where
     pub altered : Bool
     pub whole : StripsNothing p.link.lines → stripped ≡ false
     pub plain : AltersNothing p.link.lines → altered ≡ false
-    pub carried : copy.carried ≡ changed (k.strips p.profile.spelling s) (k.alters p.profile.spelling s) stripped altered (k.makes p.profile.spelling s x)
+    pub carried : copy.carried
+        ≡ changed (k.strips p.profile.spelling s) (k.alters p.profile.spelling s) stripped altered (k.makes p.profile.spelling s x)
 
   -- The link takes a segment: it is harmed, or comes within 400 ticks, twice the longest delay. So it is of the first 2^64 - 2 of a side.
   abbrev pub SegmentsComeSoon : Codec C → PathState C → PathState C → Type 0
@@ -115,8 +116,9 @@ pub record IsAnswerFor (s : Side) (position : ℕ) (p : PathState Carried) (f : 
   pub kept : (pos octet : ℕ) → octet_at pos (end_at s p).tcp.recv ≡ Some octet → pos < f.carried.segment.position
   pub held : (pos octet : ℕ) → octet_at pos (after_keep_held (end_at s p).tcp.recv) ≡ Some octet → pos < f.carried.segment.position
   pub heard : (pos : ℕ) → (end_at s p).tcp.fin_at ≡ Some pos → pos < f.carried.segment.position
-  -- and each segment under way to it with a position there or later acknowledges as much
-  pub overtaken : (g : Flight Carried) → IsUnderWay g p → g.to ≡ s → f.carried.segment.position < g.carried.segment.position + length g.carried.segment.payload + one_if g.carried.segment.fin
+  -- and each segment under way to it that goes past its position acknowledges as much
+  pub overtaken : (g : Flight Carried) → IsUnderWay g p → g.to ≡ s → g.carried.segment.rst ≡ false
+      → f.carried.segment.position < g.carried.segment.position + length g.carried.segment.payload + one_if g.carried.segment.fin
       → (n : ℕ) × (g.carried.segment.acknowledged ≡ Some n) × (position ≤ n)
 
 -- The end heard that its octets before this position came, or an answer that says so comes by this tick.
@@ -176,11 +178,13 @@ module _ (start : Start) (turns : List Turn) (turn : Turn) where
 
 -- S2: each record stays well
 abbrev pub EachRecordStaysWell : Type 0
-EachRecordStaysWell = (start : Start) (turns : List Turn) (turn : Turn) (h : IsOpenTurn start turns turn) (s : Side) → RecordsStayWell s h.before.path h.after.path
+EachRecordStaysWell = (start : Start) (turns : List Turn) (turn : Turn) (h : IsOpenTurn start turns turn) (s : Side)
+    → RecordsStayWell s h.before.path h.after.path
 
 -- S3: each is told soon
 abbrev pub EachIsToldSoon : Type 0
-EachIsToldSoon = (start : Start) (turns : List Turn) (turn : Turn) (h : IsOpenTurn start turns turn) (s : Side) → StaysTold s h.before.path h.after.path
+EachIsToldSoon = (start : Start) (turns : List Turn) (turn : Turn) (h : IsOpenTurn start turns turn) (s : Side)
+    → StaysTold s h.before.path h.after.path
 
 -- ---- path 0
 
@@ -188,5 +192,6 @@ module _ (start : Start) where
   -- so many harms are mended after these turns: each, if all is well; or each but one
   pub data AreMended (harms : ℕ) (turns : List Turn) : Type 0 where
     none : harms ≡ 0 → AreMended harms turns
-    all : (p : PathState Carried) → IsPathAt 0 (reached values start turns) p → IsMended p → harms ≤ harmed_so_far values start turns → AreMended harms turns
+    all : (p : PathState Carried) → IsPathAt 0 (reached values start turns) p → IsMended p
+        → harms ≤ harmed_so_far values start turns → AreMended harms turns
     but_one : harms < harmed_so_far values start turns → AreMended harms turns
