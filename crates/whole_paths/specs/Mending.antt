@@ -9,6 +9,7 @@ use Rattle.stream_lanes.specs.Words.{Every, Has}
 use Rattle.subflow_recv.specs.Receiving.{octet_at, after_keep_held}
 use Rattle.subflow_send.specs.Records.{Record, end_of}
 use Rattle.subflow_send.specs.declared.record.RecordKind.TheVariants.{Data}
+use Rattle.subflow_tcp.specs.State.{is_fin_passed}
 use Rattle.path_core.specs.Codec.{Codec}
 use Rattle.path_core.specs.End.{PathEnd}
 use Rattle.path_core.specs.Handover.{handed}
@@ -22,13 +23,14 @@ use Rattle.world_laws.specs.NeverFalls.{StripsNothing}
 use Rattle.world_laws.specs.Openings.{Start}
 use Rattle.world_laws.specs.RoundDone.{reached}
 use Rattle.world_laws.specs.Worlds.{Turn, WorldState}
-use Rattle.whole_paths.specs.AsFar.{stage}
 use Rattle.whole_paths.specs.Brought.{IsThere}
 use Rattle.whole_paths.specs.Copies.{IsUnderWay}
 use Rattle.whole_paths.specs.Courses.{harmed_so_far}
+use Rattle.whole_paths.specs.Exchanges.{IsSentWhole}
 use Rattle.whole_paths.specs.Finish.{IsPathAt, is_harmed}
 use Rattle.whole_paths.specs.Flights.{IsCopyOf}
 use Rattle.whole_paths.specs.Kept.{IsSameRecord}
+use Rattle.whole_paths.specs.Mapped.{IsMapped}
 use Rattle.whole_paths.specs.Mild.{IsMildStart}
 use Rattle.whole_paths.specs.News.{one_if}
 use Rattle.whole_paths.specs.OpenCourses.{IsOpenAfter}
@@ -75,17 +77,16 @@ pub record WhatIsSentComesSoon {C : Type 0} (k : Codec C) : Type 0 where
 abbrev pub IsRecordOf : PathEnd → Record → Type 0
 IsRecordOf e r = Has (λ (x : Record). x ≡ r) e.tcp.send.records
 
--- each octet of the record came to the peer
+-- each octet of the record came to the peer, with its mapping
 abbrev pub IsAllThereOf : Side → Record → PathState Carried → Type 0
-IsAllThereOf s r p = (pos : ℕ) → r.pos ≤ pos → pos < end_of r → (octet : ℕ) × IsThere (peer s) pos octet p
+IsAllThereOf s r p = (pos : ℕ) → r.pos ≤ pos → pos < end_of r → ((octet : ℕ) × IsThere (peer s) pos octet p) × IsMapped (peer s) pos p
 
--- a copy of it is under way from an end that has both SYNs, and comes by this tick
+-- a copy of it is under way, with its own mapping, and comes by this tick
 pub record ComesBy (s : Side) (r : Record) (by : ℕ) (p : PathState Carried) : Type 0 where
   pub copy : Flight Carried
   pub there : IsUnderWay copy p
   pub of_it : IsCopyOf values s r p copy
-  pub opened : 2 ≤ stage of_it.sender.tcp.state
-  pub edge : 0 < of_it.sender.tcp.recv.edge
+  pub whole : IsSentWhole p.profile s r of_it.sender of_it.stripped of_it.altered
   pub soon : copy.tick ≤ by
 
 -- it came, or it comes by this tick
@@ -126,15 +127,17 @@ pub data IsToldBy (s : Side) (position by : ℕ) (p : PathState Carried) : Type 
   heard : position ≤ (end_at s p).tcp.send.una → IsToldBy s position by p
   comes : (copy : Flight Carried) → IsUnderWay copy p → IsAnswerFor s position p copy → copy.tick ≤ by → IsToldBy s position by p
 
--- how far the peer is: it owes the acknowledgement, or the end is told within 400 ticks
+-- how far the peer is: it owes the acknowledgement, or the end is told within 400 ticks; no more is asked once the peer is past its FIN
 pub data IsToldSoon (s : Side) (p : PathState Carried) : Type 0 where
+  past_fin : is_fin_passed (end_at (peer s) p).tcp ≡ true → IsToldSoon s p
   owed : (end_at (peer s) p).tcp.due.ack ≡ true → IsToldSoon s p
   told : IsToldBy s (end_at (peer s) p).tcp.recv.edge (p.clock + 400) p → IsToldSoon s p
 
--- No segment is to be mended: each record of either end is well, and was never the first one as the timer ran out; and each end is told soon.
+-- No segment is to be mended: each record of either end is well, and none of data was the first one as the timer ran out; and each end is told
+-- soon.
 pub record IsMended (p : PathState Carried) : Type 0 where
   pub records : (s : Side) → Every (IsWell s p) (end_at s p).tcp.send.records
-  pub first : (s : Side) → Every (λ (r : Record). r.sending.first_at_expiry ≡ false) (end_at s p).tcp.send.records
+  pub first : (s : Side) → Every (λ (r : Record). r.kind ≡ Data → r.sending.first_at_expiry ≡ false) (end_at s p).tcp.send.records
   pub told : (s : Side) → IsToldSoon s p
 
 -- ---- by turns between open ends
@@ -164,8 +167,9 @@ pub record StaysTold (s : Side) (p q : PathState Carried) : Type 0 where
   -- what is owed is owed still, or goes in the turn, or was harmed
   pub owed : (end_at (peer s) p).tcp.due.ack ≡ true → ((end_at (peer s) q).tcp.due.ack ≡ true) ⊎ ((is_harmed (peer s) p q ≡ true)
       ⊎ IsToldBy s (end_at (peer s) q).tcp.recv.edge (p.clock + 400) q)
-  -- where more came an acknowledgement is owed
-  pub more : (end_at (peer s) p).tcp.recv.edge < (end_at (peer s) q).tcp.recv.edge → (end_at (peer s) q).tcp.due.ack ≡ true
+  -- where more came an acknowledgement is owed, or the FIN came
+  pub more : (end_at (peer s) p).tcp.recv.edge < (end_at (peer s) q).tcp.recv.edge
+      → ((end_at (peer s) q).tcp.due.ack ≡ true) ⊎ (is_fin_passed (end_at (peer s) q).tcp ≡ true)
   -- the end is told soon still, or an answer was harmed
   pub soon : IsToldSoon s p → (is_harmed (peer s) p q ≡ true) ⊎ IsToldSoon s q
 
