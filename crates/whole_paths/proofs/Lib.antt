@@ -32,7 +32,9 @@ pub mod Duties
 pub mod Exchanges
 pub mod ExpiriesInARow
 pub mod Deaths
+pub mod Debts
 pub mod FewLosses
+pub mod FinPlaces
 pub mod Finished
 pub mod FinishedThere
 pub mod Flying
@@ -67,10 +69,12 @@ pub mod OnlyPaths
 pub mod OpenAsks
 pub mod OpenAsksGoOn
 pub mod OpenPieces
+pub mod OpenTurns
 pub mod OverOctets
 pub mod Owing
 pub mod MappedCopies
 pub mod Mapping
+pub mod Mends
 pub mod Mild
 pub mod Moving
 pub mod PaidRounds
@@ -79,6 +83,7 @@ pub mod Paying
 pub mod Pieces
 pub mod Probes
 pub mod Reasons
+pub mod RecordsGo
 pub mod Received
 pub mod Refusals
 pub mod Reached
@@ -89,6 +94,7 @@ pub mod Running
 pub mod Saying
 pub mod SegmentsRead
 pub mod Sent
+pub mod SentAgain
 pub mod SentByTurns
 pub mod Settling
 pub mod OpeningStates
@@ -106,6 +112,7 @@ pub mod ThereInTime
 pub mod Timing
 pub mod Treating
 pub mod Unharmed
+pub mod Unmended
 pub mod Unmapped
 pub mod Turns
 pub mod Unbroken
@@ -134,6 +141,7 @@ pub mod WholeCourses
 pub mod Listening
 pub mod SynAcks
 pub mod Syns
+pub mod FirstLost
 pub mod FirstPieces
 pub mod WholeMappings
 pub mod ReadModes

@@ -1,0 +1,56 @@
+-- How a side's first record is mended that may be lost: SND.UNA rises past it, or the timer runs out, and it goes again.
+use Rattle.std.specs.Prelude.{ℕ, suc, ◌+◌, ◌≡◌, ◌<◌, ◌≤◌, ◌⊎◌, true, List, ◌∷◌, ◌++◌, [], length}
+use Rattle.sides.specs.declared.side.Side.{Side}
+use Rattle.sides.specs.Side.{peer}
+use Rattle.stream_lanes.specs.Words.{Has}
+use Rattle.subflow_send.specs.Records.{Record, end_of}
+use Rattle.path_core.specs.State.{PathState, end_at}
+use Rattle.path_core.specs.Values.{Carried}
+use Rattle.world_laws.specs.Openings.{Start}
+use Rattle.world_laws.specs.Worlds.{Turn}
+use Rattle.whole_paths.specs.Finish.{is_harmed}
+use Rattle.whole_paths.specs.Flights.{IsFirst}
+use Rattle.whole_paths.specs.Mending.{IsOpenTurn, IsToldSoon}
+use Rattle.whole_paths.specs.Mends.{MendsSoon}
+use Rattle.whole_paths.specs.Unmended.{AreWellBut, OwesBy}
+use Rattle.whole_paths.specs.Waits.{IsNews, RunsTo}
+
+-- so many debts of a side, one of them for its first record, whose timer runs to this tick
+pub record FirstIsLost (s : Side) (debts by : ℕ) (p : PathState Carried) : Type 0 where
+  pub first : Record
+  pub is_first : IsFirst first (end_at s p)
+  pub lost : List ℕ
+  pub among : Has (λ n. n ≡ first.pos) lost
+  pub well : AreWellBut s lost p
+  pub untold : ℕ
+  pub told : IsToldSoon (peer s) p ⊎ (untold ≡ 1)
+  pub few : length lost + untold ≤ debts
+  pub runs : RunsTo by (end_at s p)
+
+-- The timer ran out: of the side's records the first one alone may be lost, which goes before the clock is past this tick.
+pub record FirstGoes (s : Side) (debts by : ℕ) (p : PathState Carried) : Type 0 where
+  pub mends : MendsSoon s p
+  pub in_time : p.clock ≤ by
+  pub untold : ℕ
+  pub told : IsToldSoon (peer s) p ⊎ (untold ≡ 1)
+  pub few : suc untold ≤ debts
+
+-- one debt of the side is paid by this tick
+pub data MendsFirst (s : Side) (debts by : ℕ) (p : PathState Carried) : Type 0 where
+  waits : FirstIsLost s debts by p → MendsFirst s debts by p
+  goes : FirstGoes s debts by p → MendsFirst s debts by p
+
+-- what becomes of it, as the path becomes another one
+pub data MendsFirstOn (s : Side) (debts by : ℕ) (p q : PathState Carried) : Type 0 where
+  on : MendsFirst s debts by q → MendsFirstOn s debts by p q
+  -- a debt is paid
+  fewer : (less : ℕ) → less < debts → OwesBy s less q → MendsFirstOn s debts by p q
+  -- a segment is harmed
+  harmed : (t : Side) → is_harmed t p q ≡ true → MendsFirstOn s debts by p q
+  -- there is news, by which the timer may have started anew, and the first record isn't acknowledged whole
+  news : (first : Record) → IsFirst first (end_at s q) → IsNews (end_at s p) (end_at s q) → MendsFirstOn s debts by p q
+
+-- by a turn of a mild connection between open ends
+abbrev pub LostRecordsAreMended : Type 0
+LostRecordsAreMended = (start : Start) (turns : List Turn) (turn : Turn) (h : IsOpenTurn start turns turn) (s : Side) (debts by : ℕ) → MendsFirst s debts by h.before.path
+    → MendsFirstOn s debts by h.before.path h.after.path
