@@ -14,15 +14,13 @@ use Rattle.path_agenda.specs.Agenda.{emission}
 use Rattle.path_agenda.specs.declared.duty.Duty.TheVariants as duties
 use Rattle.path_agenda.specs.declared.duty.AskDuty.TheVariants as ask_duties
 use Rattle.path_agenda.specs.declared.duty.SendDuty.TheVariants as send_duties
-use Rattle.path_core.specs.End.{PathEnd}
 use Rattle.path_core.specs.State.{PathState, end_at}
 use Rattle.path_core.specs.Values.{Carried, values}
 use Rattle.path_core.specs.declared.events.Event.TheVariants as happenings
 use Rattle.world_laws.specs.declared.member.Member.TheVariants.{Path}
-use Rattle.world_laws.specs.Actors.{Actor, ActorCrew}
-use Rattle.world_laws.specs.Openings.{Start}
+use Rattle.world_laws.specs.Actors.{ActorCrew}
 use Rattle.world_laws.specs.RoundDone.{reached}
-use Rattle.world_laws.specs.Worlds.{Turn, WorldState}
+use Rattle.world_laws.specs.Worlds.{WorldState}
 use Rattle.whole_paths.specs.Expiries.{GoesAgain, IsToSendAgain, PathsGoAgain, RunsOut}
 use Rattle.whole_paths.specs.Finish.{is_harmed}
 use Rattle.whole_paths.specs.FirstLost.{FirstGoes, FirstIsLost, LostRecordsAreMended, MendsFirst, MendsFirstOn}
@@ -31,14 +29,14 @@ use Rattle.whole_paths.specs.FirstLost.{MendsFirstOn as mending}
 use Rattle.whole_paths.specs.Flights.{IsFirst}
 use Rattle.whole_paths.specs.InTime.{ComesFrom}
 use Rattle.whole_paths.specs.Kept.{AreKept, EndsKeepWhatWaits, IsSameRecord, KeepsWhatWaits}
-use Rattle.whole_paths.specs.Mending.{EachIsToldSoon, EachRecordStaysWell, IsOpenTurn, IsRecordOf, IsToldSoon, IsWell, RecordsStayWell, WasSent, WhatIsSentComesSoon}
+use Rattle.whole_paths.specs.Mending.{EachIsToldSoon, EachRecordStaysWell, IsRecordOf, IsToldSoon, IsWell, RecordsStayWell, WasSent, WhatIsSentComesSoon}
 use Rattle.whole_paths.specs.Mending.{IsWell as is_well}
-use Rattle.whole_paths.specs.Mends.{MendsByExpiry, MendsSoon}
+use Rattle.whole_paths.specs.Mends.{MendsByExpiry}
 use Rattle.whole_paths.specs.Unmended.{AreWellBut, OwesNoMore}
-use Rattle.whole_paths.specs.Waits.{IsNews, RunsTo, TimersWaitOn, WaitsOn}
+use Rattle.whole_paths.specs.Waits.{RunsTo, TimersWaitOn, WaitsOn}
 use Rattle.whole_paths.specs.Waits.{WaitsOn as wait}
 use Rattle.whole_paths.proofs.Exchanges.{Shown, each_shown}
-use Rattle.whole_paths.proofs.Flying.{Frames, FramesStay, first_stays, frames_stay, timer_from}
+use Rattle.whole_paths.proofs.Flying.{Frames, FramesStay, frames_stay, timer_from}
 use Rattle.whole_paths.proofs.InTime.{nothing_is_overdue, timer_behind}
 use Rattle.whole_paths.proofs.Keeping.{what_waits_is_kept}
 use Rattle.whole_paths.proofs.Mends.{what_runs_out_is_mended}

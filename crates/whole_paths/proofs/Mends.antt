@@ -1,5 +1,5 @@
 -- An expiry mends what a side sent: as the first record goes again, each other one is to be sent.
-use Rattle.std.proofs.Common.{◌≡◌, refl, sym, subst, ap, ◌∙◌, ◌⊎◌, inl, inr, ⊎_elim, ℕ, zero, suc, ◌+◌, ◌-◌, ◌^◌, ◌==◌, ◌<◌, ◌≤◌, arith, Bool, true, false, true≢false, not, ◌&&◌, if◌then◌else◌, Option, Some, None, List, [], ◌∷◌, ◌++◌}
+use Rattle.std.proofs.Common.{◌≡◌, refl, sym, subst, ap, ◌∙◌, ◌⊎◌, inl, inr, ⊎_elim, ℕ, zero, suc, ◌+◌, ◌-◌, ◌^◌, ◌==◌, ◌<◌, ◌≤◌, arith, Bool, true, false, not, ◌&&◌, if◌then◌else◌, Some, None, List, [], ◌∷◌}
 use Rattle.std.specs.List.{slice_get}
 use Rattle.std.proofs.lemmas.Option.{same_Some}
 use Rattle.sides.specs.declared.side.Side.{Side}
@@ -25,9 +25,8 @@ use Rattle.link_model.specs.Steps.{changed}
 use Rattle.world_laws.specs.Actors.{ActorCrew}
 use Rattle.world_laws.specs.Members.{HoldsOfKind}
 use Rattle.world_laws.specs.NeverFalls.{StripsNothing}
-use Rattle.world_laws.specs.Openings.{Start}
 use Rattle.world_laws.specs.RoundDone.{reached}
-use Rattle.world_laws.specs.Worlds.{Turn, WorldState}
+use Rattle.world_laws.specs.Worlds.{WorldState}
 use Rattle.whole_paths.specs.AsFar.{stage}
 use Rattle.whole_paths.specs.Came.{HasCome}
 use Rattle.whole_paths.specs.Due.{CopiesArriveSo}
@@ -36,13 +35,13 @@ use Rattle.whole_paths.specs.Expiries.{GoesAgain, IsSaidAt, IsSegmentOf, IsToSen
 use Rattle.whole_paths.specs.Finish.{is_harmed}
 use Rattle.whole_paths.specs.InTime.{ComesFrom}
 use Rattle.whole_paths.specs.Kept.{IsSameRecord}
-use Rattle.whole_paths.specs.Mending.{CopiesAreNumbered, ComesBy, IsOpenTurn, IsRecordOf, IsSentSoon, IsWell, WhatIsSentComesSoon}
+use Rattle.whole_paths.specs.Mending.{CopiesAreNumbered, ComesBy, IsRecordOf, IsSentSoon, IsWell, WhatIsSentComesSoon}
 use Rattle.whole_paths.specs.Mending.{IsThereBy as there_by}
 use Rattle.whole_paths.specs.Mending.{IsWell as is_well}
 use Rattle.whole_paths.specs.Mends.{MendsByExpiry, MendsSoon, WhatRunsOutIsMended}
 use Rattle.whole_paths.specs.Mild.{EndsGoByMappings}
 use Rattle.whole_paths.specs.Sent.{WasSent}
-use Rattle.whole_paths.specs.SentAgain.{HasTheSameRecords, OthersAreUnsent, PathsSendAllAgain, SendsAllAgain}
+use Rattle.whole_paths.specs.SentAgain.{OthersAreUnsent, PathsSendAllAgain, SendsAllAgain}
 use Rattle.whole_paths.specs.Straying.{IsOpen}
 use Rattle.whole_paths.specs.Unmended.{AreWellBut}
 use Rattle.whole_paths.proofs.Came.{what_is_acknowledged_came}

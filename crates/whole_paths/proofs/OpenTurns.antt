@@ -1,5 +1,5 @@
 -- What laws of one turn, and of one moment, say of path 0 where its ends are open before the turn and after it.
-use Rattle.std.proofs.Common.{◌≡◌, sym, subst, ap, ◌∙◌, ℕ, Some, List, [], ◌∷◌, ◌++◌}
+use Rattle.std.proofs.Common.{◌≡◌, sym, subst, ap, ◌∙◌, Some, List, [], ◌∷◌}
 use Rattle.std.specs.List.{slice_get}
 use Rattle.std.proofs.lemmas.Option.{same_Some}
 use Rattle.path_core.specs.State.{PathState}

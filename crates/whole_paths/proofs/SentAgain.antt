@@ -1,12 +1,11 @@
 -- An expiry lets each record behind the first one be sent again.
-use Rattle.std.proofs.Common.{◌≡◌, refl, sym, subst, ap, ◌∙◌, inl, inr, ℕ, zero, suc, ◌<◌, nat_le, arith, Bool, true, false, true≢false, ◌||◌, if◌then◌else◌, Some, List, [], ◌∷◌, map}
+use Rattle.std.proofs.Common.{◌≡◌, refl, sym, subst, ap, ◌∙◌, inl, inr, ℕ, zero, suc, ◌<◌, nat_le, arith, Bool, true, false, ◌||◌, if◌then◌else◌, Some, List, [], ◌∷◌, map}
 use Rattle.std.specs.List.{slice_get}
 use Rattle.std.proofs.lemmas.Bool.{leb-true}
 use Rattle.std.proofs.lemmas.Option.{same_Some}
 use Rattle.sides.specs.declared.side.Side.{Side}
 use Rattle.subflow_send.specs.Records.{Record}
 use Rattle.subflow_send.specs.Rules.{expired_records, first_sent, unsent_again}
-use Rattle.subflow_tcp.specs.declared.segments.Occasion.{Occasion}
 use Rattle.subflow_tcp.specs.declared.segments.Occasion.TheVariants as to_send
 use Rattle.subflow_tcp.specs.Emitting.{after_sending}
 use Rattle.subflow_tcp.specs.Expiring.{after_expiry, is_sixth}
@@ -14,7 +13,7 @@ use Rattle.subflow_tcp.specs.State.{has_records}
 use Rattle.subflow_tcp.specs.Taking.{after_death}
 use Rattle.actor_desk.specs.Words.{is_nil}
 use Rattle.actor_desk.specs.declared.ask.Reply.{Reply}
-use Rattle.path_agenda.specs.Agenda.{emission, expired}
+use Rattle.path_agenda.specs.Agenda.{emission}
 use Rattle.path_agenda.specs.declared.duty.Duty.{Duty}
 use Rattle.path_agenda.specs.declared.duty.Duty.TheVariants as duties
 use Rattle.path_agenda.specs.declared.duty.AskDuty.TheVariants as ask_duties

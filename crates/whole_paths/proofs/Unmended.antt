@@ -1,9 +1,8 @@
 -- No more of a path's segments is to be mended than before, but one for each segment that is harmed.
-use Rattle.std.proofs.Common.{◌≡◌, refl, sym, subst, ap, ◌∙◌, ◌⊎◌, inl, inr, ⊎_elim, ℕ, zero, suc, ◌+◌, ◌<◌, ◌≤◌, arith, Bool, true, false, true≢false, if◌then◌else◌, Option, Some, None, List, [], ◌∷◌, ◌++◌, length}
+use Rattle.std.proofs.Common.{◌≡◌, refl, sym, subst, ap, ◌∙◌, ◌⊎◌, inl, inr, ⊎_elim, ℕ, suc, ◌+◌, ◌<◌, ◌≤◌, arith, Bool, true, false, true≢false, Option, Some, None, List, [], ◌∷◌, ◌++◌, length}
 use Rattle.std.specs.Prelude.{IfSome}
 use Rattle.std.specs.List.{slice_get}
 use Rattle.std.proofs.lemmas.Bool.{cases_lt}
-use Rattle.std.proofs.lemmas.Option.{same_Some}
 use Rattle.sides.specs.declared.side.Side.{Side}
 use Rattle.sides.specs.declared.side.Side.TheVariants.{A, B}
 use Rattle.sides.specs.Side.{peer}
@@ -14,17 +13,13 @@ use Rattle.subflow_send.specs.declared.record.RecordKind.TheVariants as kinds
 use Rattle.subflow_send.specs.Records.{Record, end_of}
 use Rattle.subflow_tcp.specs.declared.handshake.State.{State as EndPhase}
 use Rattle.subflow_tcp.specs.declared.handshake.State.TheVariants as phase
-use Rattle.subflow_tcp.specs.State.{is_fin_passed}
 use Rattle.subflow_tcp.specs.States.{is_dead}
 use Rattle.path_core.specs.End.{PathEnd}
 use Rattle.path_core.specs.Looking.{first_sends, segment_sent}
 use Rattle.path_core.specs.State.{PathState, end_at}
 use Rattle.path_core.specs.Values.{Carried, values}
 use Rattle.world_laws.proofs.Numbers.TellSmall.{RecordKindTells}
-use Rattle.world_laws.proofs.Weaving.WholeRounds.{run_append}
-use Rattle.world_laws.specs.declared.member.Member.TheVariants.{App, Path}
-use Rattle.world_laws.specs.Actors.{Actor, ActorCrew}
-use Rattle.world_laws.specs.Members.{HoldsOfKind}
+use Rattle.world_laws.specs.declared.member.Member.TheVariants.{Path}
 use Rattle.world_laws.specs.Openings.{PathPlan, Start, opened_world}
 use Rattle.world_laws.specs.RoundDone.{reached}
 use Rattle.world_laws.specs.Worlds.{Turn, WorldState, after_turn}

@@ -1,9 +1,9 @@
 -- How a side's first record is mended that may be lost: SND.UNA rises past it, or the timer runs out, and it goes again.
-use Rattle.std.specs.Prelude.{ℕ, suc, ◌+◌, ◌≡◌, ◌<◌, ◌≤◌, ◌⊎◌, true, List, ◌∷◌, ◌++◌, [], length}
+use Rattle.std.specs.Prelude.{ℕ, suc, ◌+◌, ◌≡◌, ◌<◌, ◌≤◌, ◌⊎◌, true, List, length}
 use Rattle.sides.specs.declared.side.Side.{Side}
 use Rattle.sides.specs.Side.{peer}
 use Rattle.stream_lanes.specs.Words.{Has}
-use Rattle.subflow_send.specs.Records.{Record, end_of}
+use Rattle.subflow_send.specs.Records.{Record}
 use Rattle.path_core.specs.State.{PathState, end_at}
 use Rattle.path_core.specs.Values.{Carried}
 use Rattle.world_laws.specs.Openings.{Start}

@@ -1,12 +1,12 @@
 -- What an expiry mends of what a side sent: as the first record goes again, each other one is to be sent.
-use Rattle.std.specs.Prelude.{ℕ, ◌≡◌, ◌<◌, ◌⊎◌, true, List, [], ◌∷◌, ◌++◌}
+use Rattle.std.specs.Prelude.{ℕ, ◌≡◌, ◌<◌, ◌⊎◌, true, List, [], ◌∷◌}
 use Rattle.sides.specs.declared.side.Side.{Side}
 use Rattle.subflow_send.specs.Records.{Record}
 use Rattle.path_core.specs.State.{PathState, end_at}
 use Rattle.path_core.specs.Values.{Carried}
 use Rattle.world_laws.specs.Openings.{Start}
 use Rattle.world_laws.specs.Worlds.{Turn}
-use Rattle.whole_paths.specs.Expiries.{IsToSend, IsToSendAgain, RunsOut}
+use Rattle.whole_paths.specs.Expiries.{IsToSendAgain, RunsOut}
 use Rattle.whole_paths.specs.Finish.{is_harmed}
 use Rattle.whole_paths.specs.Mending.{IsOpenTurn}
 use Rattle.whole_paths.specs.SentAgain.{OthersAreUnsent}
