@@ -141,6 +141,7 @@ pub mod WholeCourses
 pub mod Listening
 pub mod SynAcks
 pub mod Syns
+pub mod FirstAwaited
 pub mod FirstLost
 pub mod FirstPieces
 pub mod WholeMappings

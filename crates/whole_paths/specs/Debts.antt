@@ -8,6 +8,7 @@ use Rattle.whole_paths.specs.Courses.{BeginsARound, TakesAStep, course_of, harme
 use Rattle.whole_paths.specs.Delivery.{AllIsThere}
 use Rattle.whole_paths.specs.OpenCourses.{IsOpenAfter}
 use Rattle.whole_paths.specs.PaidRounds.{AWaitBegins}
+use Rattle.whole_paths.specs.Rounds.{System}
 use Rattle.whole_paths.specs.SharpCourses.{GoesOnAs, IsPaid, price, top, units_after}
 
 module _ (start : Start) (plan : PathPlan) (most : ℕ) (Owes : ℕ → List Turn → Type 0) where
@@ -68,7 +69,8 @@ module _ (start : Start) (plan : PathPlan) (most : ℕ) (Owes : ℕ → List Tur
       pub mends_on : (debts x : ℕ) (v u : List Turn) → Stepping v u → Mends debts x v → MendsOn debts x v u
       pub mends_next : (debts x : ℕ) (v u : List Turn) → Beginning v u → Mends debts x v → MendsOn debts x v u
       pub in_time : (debts x : ℕ) (v u : List Turn) → Beginning v u → Mends debts x v → round_end values start v ≤ x
-      pub begins : (debts : ℕ) (v u : List Turn) → Beginning v u → Owes (suc debts) u → Owes debts u ⊎ Mends (suc debts) (round_end values start v + long_wait) u
+      pub begins : (debts : ℕ) (v u : List Turn) → Beginning v u → Owes (suc debts) u
+          → Owes debts u ⊎ Mends (suc debts) (round_end values start v + long_wait) u
 
     -- the next event is waited for by this tick, or will be as the next round begins
     pub data AwaitsEvent (debts x : ℕ) (turns : List Turn) : Type 0 where
@@ -100,10 +102,13 @@ module _ (start : Start) (plan : PathPlan) (most : ℕ) (Owes : ℕ → List Tur
       abbrev pub Paid : ℕ → List Turn → Type 0
       Paid = IsPaid start plan most AreMended AwaitsEither
 
+      abbrev pub the_course : System
+      the_course = course_of values start (IsOpenAfter start) most (λ turns. AllIsThere (reached values start turns)) AwaitsEither
+
       -- what is left to be shown of short waits: they begin where there is no debt
       pub record ShortWaits : Type 0 where
         pub on : (n x : ℕ) (v u : List Turn) → Stepping v u → Short n x v → Goes n x u
         pub next : (n x : ℕ) (v u : List Turn) → Beginning v u → Short n x v → Goes n x u
         pub due : (n x : ℕ) (v u : List Turn) → Beginning v u → Short n x v → x < round_end values start v → Paid n u
         pub begins : (n : ℕ) (v u : List Turn) → Beginning v u → Owes 0 u → Paid n u → AllIsThere (reached values start u)
-            ⊎ AWaitBegins (course_of values start (IsOpenAfter start) most (λ turns. AllIsThere (reached values start turns)) AwaitsEither) (top start plan most AreMended AwaitsEither) n v u
+            ⊎ AWaitBegins the_course (top start plan most AreMended AwaitsEither) n v u

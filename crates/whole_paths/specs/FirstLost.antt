@@ -1,5 +1,5 @@
 -- How a side's first record is mended that may be lost: SND.UNA rises past it, or the timer runs out, and it goes again.
-use Rattle.std.specs.Prelude.{ℕ, suc, ◌+◌, ◌≡◌, ◌<◌, ◌≤◌, ◌⊎◌, true, List, length}
+use Rattle.std.specs.Prelude.{ℕ, suc, ◌+◌, ◌≡◌, ◌<◌, ◌≤◌, ◌⊎◌, true, List, [], ◌∷◌, length}
 use Rattle.sides.specs.declared.side.Side.{Side}
 use Rattle.sides.specs.Side.{peer}
 use Rattle.stream_lanes.specs.Words.{Has}
@@ -12,6 +12,7 @@ use Rattle.whole_paths.specs.Finish.{is_harmed}
 use Rattle.whole_paths.specs.Flights.{IsFirst}
 use Rattle.whole_paths.specs.Mending.{IsOpenTurn, IsToldSoon}
 use Rattle.whole_paths.specs.Mends.{MendsSoon}
+use Rattle.whole_paths.specs.OpenCourses.{IsOpenAfter}
 use Rattle.whole_paths.specs.Unmended.{AreWellBut, OwesBy}
 use Rattle.whole_paths.specs.Waits.{IsNews, RunsTo}
 
@@ -52,5 +53,16 @@ pub data MendsFirstOn (s : Side) (debts by : ℕ) (p q : PathState Carried) : Ty
 
 -- by a turn of a mild connection between open ends
 abbrev pub LostRecordsAreMended : Type 0
-LostRecordsAreMended = (start : Start) (turns : List Turn) (turn : Turn) (h : IsOpenTurn start turns turn) (s : Side) (debts by : ℕ) → MendsFirst s debts by h.before.path
-    → MendsFirstOn s debts by h.before.path h.after.path
+LostRecordsAreMended = (start : Start) (turns : List Turn) (turn : Turn) (h : IsOpenTurn start turns turn) (s : Side) (debts by : ℕ)
+    → MendsFirst s debts by h.before.path → MendsFirstOn s debts by h.before.path h.after.path
+
+-- Where a turn is over such a wait begins with a debt for the first record, and ends within a minute; and none ends before the round does.
+pub record FirstIsAwaited (s : Side) (debts : ℕ) (p : PathState Carried) : Type 0 where
+  pub begins : (first : Record) (others : List Record) → (end_at s p).tcp.send.records ≡ first ∷ others
+      → (h : OwesBy s debts p) → Has (λ n. n ≡ first.pos) h.lost → (by : ℕ) × (by ≤ p.clock + 60000) × MendsFirst s debts by p
+  pub in_time : (by : ℕ) → MendsFirst s debts by p → p.until ≤ by
+
+-- of path 0, at each moment at which it is open and its turn is over
+abbrev pub LostRecordsAreAwaited : Type 0
+LostRecordsAreAwaited = (start : Start) (turns : List Turn) (h : IsOpenAfter start turns) → h.path.agenda ≡ []
+    → (s : Side) (debts : ℕ) → FirstIsAwaited s debts h.path

@@ -18,12 +18,13 @@ pub record MendsSoon (s : Side) (p : PathState Carried) : Type 0 where
   pub others : OthersAreUnsent (end_at s p)
   pub well : (first : Record) (others : List Record) → (end_at s p).tcp.send.records ≡ first ∷ others → AreWellBut s (first.pos ∷ []) p
 
--- As the path becomes another one, unless it stays as it is: so it is once the timer ran out, as long as the first record doesn't go; and as that goes
--- it is harmed once more, or each record is well.
+-- As the path becomes another one, unless it stays as it is: so it is once the timer ran out, as long as the first record doesn't go; and as that
+-- goes it is harmed once more, or each record is well.
 pub record MendsByExpiry (s : Side) (p q : PathState Carried) : Type 0 where
   pub fires : (tick : ℕ) → RunsOut s tick p → (end_at s p).tcp.timing.expiries < 5 → (q ≡ p) ⊎ MendsSoon s q
   pub waits : MendsSoon s p → (q ≡ p) ⊎ (MendsSoon s q ⊎ ((is_harmed s p q ≡ true) ⊎ AreWellBut s [] q))
 
 -- by a turn of a mild connection between open ends
 abbrev pub WhatRunsOutIsMended : Type 0
-WhatRunsOutIsMended = (start : Start) (turns : List Turn) (turn : Turn) (h : IsOpenTurn start turns turn) (s : Side) → MendsByExpiry s h.before.path h.after.path
+WhatRunsOutIsMended = (start : Start) (turns : List Turn) (turn : Turn) (h : IsOpenTurn start turns turn) (s : Side)
+    → MendsByExpiry s h.before.path h.after.path

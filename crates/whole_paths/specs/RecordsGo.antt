@@ -25,8 +25,8 @@ module _ {C : Type 0} where
   -- As the path becomes another one: each record of data that an end sent it had sent before, or it is that of the segment which went. So it is once
   -- the end's SYN is acknowledged.
   abbrev pub RecordsGoAlone : PathState C → PathState C → Type 0
-  RecordsGoAlone p q = (s : Side) → 0 < (end_at s p).tcp.send.una → (t : Record) → IsRecordOf (end_at s q) t → t.kind ≡ Data → t.sending.unsent ≡ false
-      → WasSent (end_at s p) t ⊎ GoesNext s t p
+  RecordsGoAlone p q = (s : Side) → 0 < (end_at s p).tcp.send.una → (t : Record) → IsRecordOf (end_at s q) t → t.kind ≡ Data
+      → t.sending.unsent ≡ false → WasSent (end_at s p) t ⊎ GoesNext s t p
 
   -- as the path becomes this actor
   abbrev pub PathsGoAlone : Actor C → Actor C → Type 0

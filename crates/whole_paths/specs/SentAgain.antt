@@ -22,7 +22,8 @@ pub record HasTheSameRecords (e f : PathEnd) : Type 0 where
       → (t : Record) × (slice_get e.tcp.send.records place ≡ Some t) × IsSameRecord t r
 
 module _ {C : Type 0} where
-  -- So it is once the timer ran out, unless that was the sixth time in a row, and stays so as the first record goes again; or the path stays as it is.
+  -- So it is once the timer ran out, unless that was the sixth time in a row, and stays so as the first record goes again; or the path stays as it
+  -- is.
   pub record SendsAllAgain (p q : PathState C) : Type 0 where
     pub fires : (s : Side) (tick : ℕ) → RunsOut s tick p → (end_at s p).tcp.timing.expiries < 5 → (q ≡ p) ⊎ OthersAreUnsent (end_at s q)
     pub gives_back : (s : Side) → p.agenda ≡ expired s → OthersAreUnsent (end_at s p) → OthersAreUnsent (end_at s q)

@@ -52,7 +52,8 @@ pub record OwesNoMore (s : Side) (p q : PathState Carried) : Type 0 where
 
 -- by a turn of a mild connection between open ends
 abbrev pub HarmsAloneAreOwed : Type 0
-HarmsAloneAreOwed = (start : Start) (turns : List Turn) (turn : Turn) (h : IsOpenTurn start turns turn) (s : Side) → OwesNoMore s h.before.path h.after.path
+HarmsAloneAreOwed = (start : Start) (turns : List Turn) (turn : Turn) (h : IsOpenTurn start turns turn) (s : Side)
+    → OwesNoMore s h.before.path h.after.path
 
 -- by each step, and as a round begins
 abbrev pub DebtsGoOn : Type 0
