@@ -26,6 +26,7 @@ pub mod DataAcksHeard
 pub mod Courses
 pub mod DataAcksNow
 pub mod DataAcksOwed
+pub mod DataLast
 pub mod Delivery
 pub mod Due
 pub mod Duties
@@ -38,6 +39,7 @@ pub mod FinPlaces
 pub mod Finished
 pub mod FinishedThere
 pub mod Flying
+pub mod Gaps
 pub mod GoesOn
 pub mod GoingOn
 pub mod Halting
@@ -54,6 +56,7 @@ pub mod KnownEnds
 pub mod KnownModes
 pub mod Lanes
 pub mod Links
+pub mod Marking
 pub mod Opening
 pub mod OpeningConfirmed
 pub mod OpeningKeys
@@ -85,6 +88,7 @@ pub mod Probes
 pub mod Reasons
 pub mod RecordsGo
 pub mod Received
+pub mod RecordsWell
 pub mod Refusals
 pub mod Reached
 pub mod Resending
@@ -96,6 +100,7 @@ pub mod SegmentsRead
 pub mod Sent
 pub mod SentAgain
 pub mod SentByTurns
+pub mod SentSoon
 pub mod Settling
 pub mod OpeningStates
 pub mod OpeningWaits

@@ -66,7 +66,7 @@ module _ {C : Type 0} where
   pub record LinksAreNumbered (w : WorldState C) : Type 0 where
     pub each : (actor : ℕ) (c : ActorCrew C) → slice_get w.crew actor ≡ Some c → HoldsOfKind (λ app. Unit {0}) CopiesAreNumbered c.member
 
--- S1: what is sent comes soon
+-- what is sent comes soon, or is harmed
 pub record WhatIsSentComesSoon {C : Type 0} (k : Codec C) : Type 0 where
   pub numbered : Always k (λ start w. LinksAreNumbered w)
   pub comes : (p q : PathState C) → CopiesAreNumbered p → SegmentsComeSoon k p q
@@ -149,7 +149,7 @@ pub record WasSent (e : PathEnd) (t : Record) : Type 0 where
   pub same : IsSameRecord record_before t
   pub sent : record_before.sending.unsent ≡ false
 
--- S2, of a side's records, as the path becomes another one
+-- of a side's records, as the path becomes another one
 pub record RecordsStayWell (s : Side) (p q : PathState Carried) : Type 0 where
   pub clock : p.clock ≤ q.clock
   -- a record that was sent, and is there by a tick, is there by that tick still, though it be acknowledged meanwhile
@@ -160,7 +160,7 @@ pub record RecordsStayWell (s : Side) (p q : PathState Carried) : Type 0 where
   -- all stay well, or one was harmed
   pub well : Every (IsWell s p) (end_at s p).tcp.send.records → (is_harmed s p q ≡ true) ⊎ Every (IsWell s q) (end_at s q).tcp.send.records
 
--- S3, of what a side is told
+-- of what a side is told
 pub record StaysTold (s : Side) (p q : PathState Carried) : Type 0 where
   -- what is told by a tick is told by that tick still
   pub comes : (position by : ℕ) → IsToldBy s position by p → IsToldBy s position by q
@@ -180,12 +180,12 @@ module _ (start : Start) (turns : List Turn) (turn : Turn) where
     pub before : IsOpenAfter start turns
     pub after : IsOpenAfter start (turns ++ turn ∷ [])
 
--- S2: each record stays well
+-- each record stays well
 abbrev pub EachRecordStaysWell : Type 0
 EachRecordStaysWell = (start : Start) (turns : List Turn) (turn : Turn) (h : IsOpenTurn start turns turn) (s : Side)
     → RecordsStayWell s h.before.path h.after.path
 
--- S3: each is told soon
+-- each is told soon
 abbrev pub EachIsToldSoon : Type 0
 EachIsToldSoon = (start : Start) (turns : List Turn) (turn : Turn) (h : IsOpenTurn start turns turn) (s : Side)
     → StaysTold s h.before.path h.after.path
