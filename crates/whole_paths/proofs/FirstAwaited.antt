@@ -1,5 +1,5 @@
 -- Where a turn is over the timer of a side runs whose first record may be lost.
-use Rattle.std.proofs.Common.{◌≡◌, refl, sym, subst, ap, ◌∙◌, ◌⊎◌, inl, inr, ℕ, ◌+◌, ◌≤◌, arith, Bool, true, false, true≢false, Option, Some, None, List, [], ◌∷◌}
+use Rattle.std.proofs.Common.{◌≡◌, refl, sym, subst, ap, ◌∙◌, ◌⊎◌, inl, inr, ℕ, ◌+◌, ◌≤◌, arith, Bool, true, false, true≢false, Option, Some, None, List, [], ◌∷◌, length}
 use Rattle.std.specs.Prelude.{IfSome, IsSome}
 use Rattle.std.specs.List.{slice_get}
 use Rattle.sides.specs.declared.side.Side.{Side}
@@ -23,7 +23,7 @@ use Rattle.whole_paths.specs.InTime.{ComesFrom}
 use Rattle.whole_paths.specs.Reasons.{IsOutstanding, IsTimedWhereItWaits}
 use Rattle.whole_paths.specs.Straying.{IsOpen}
 use Rattle.whole_paths.specs.Timers.{TimersAreNear}
-use Rattle.whole_paths.specs.Unmended.{OwesBy}
+use Rattle.whole_paths.specs.Unmended.{AreWellBut}
 use Rattle.whole_paths.specs.Waits.{IsSettledAtTheEnd}
 use Rattle.whole_paths.proofs.Flying.{same_record}
 use Rattle.whole_paths.proofs.InTime.{nothing_is_overdue}
@@ -38,9 +38,9 @@ module _ (p : PathState Carried) (over : p.agenda ≡ []) (is_open : IsOpen p) (
   is_near tick A runs = (subst (λ o. IfSome o (λ t. t ≤ p.clock + 60000)) runs near.a.timer, subst (λ o. IfSome o (λ t. p.until ≤ t)) runs past.timer_a)
   is_near tick B runs = (subst (λ o. IfSome o (λ t. t ≤ p.clock + 60000)) runs near.b.timer, subst (λ o. IfSome o (λ t. p.until ≤ t)) runs past.timer_b)
 
-  begins : (first : Record) (others : List Record) → (end_at s p).tcp.send.records ≡ first ∷ others → (h : OwesBy s debts p) → Has (λ n. n ≡ first.pos) h.lost
+  begins : (first : Record) (others : List Record) → (end_at s p).tcp.send.records ≡ first ∷ others → (lost : List ℕ) → length lost ≤ debts → AreWellBut s lost p → Has (λ n. n ≡ first.pos) lost
       → (by : ℕ) × (by ≤ p.clock + 60000) × MendsFirst s debts by p
-  begins first others is h among = by (end_at s p).tcp.timing.timer refl (timed over s (living_open (end_at s p).tcp.state (is_open.past s) (is_open.living s)) (IsOutstanding.on_subflow first others is))
+  begins first others is lost few well among = by (end_at s p).tcp.timing.timer refl (timed over s (living_open (end_at s p).tcp.state (is_open.past s) (is_open.living s)) (IsOutstanding.on_subflow first others is))
     where
       by : (o : Option ℕ) → (end_at s p).tcp.timing.timer ≡ o → IsSome o → (by : ℕ) × (by ≤ p.clock + 60000) × MendsFirst s debts by p
       by None runs some = absurd (true≢false (sym some))
@@ -50,12 +50,10 @@ module _ (p : PathState Carried) (over : p.agenda ≡ []) (is_open : IsOpen p) (
         stage.waits (record {
           first = first;
           is_first = record { first = first; others = others; records = is; same = same_record first };
-          lost = h.lost;
+          lost = lost;
           among = among;
-          well = h.well;
-          untold = h.untold;
-          told = h.told;
-          few = h.few;
+          well = well;
+          few = few;
           runs = record { timer = runs; settled = settled over s (is_open.living s); first = first; others = others; records = is; living = living_open (end_at s p).tcp.state (is_open.past s) (is_open.living s) };
         }),
       )

@@ -32,7 +32,7 @@ use Rattle.whole_paths.specs.Kept.{AreKept, EndsKeepWhatWaits, IsSameRecord, Kee
 use Rattle.whole_paths.specs.Mending.{EachIsToldSoon, EachRecordStaysWell, IsRecordOf, IsToldSoon, IsWell, RecordsStayWell, WasSent, WhatIsSentComesSoon}
 use Rattle.whole_paths.specs.Mending.{IsWell as is_well}
 use Rattle.whole_paths.specs.Mends.{MendsByExpiry}
-use Rattle.whole_paths.specs.Unmended.{AreWellBut, OwesNoMore}
+use Rattle.whole_paths.specs.Unmended.{AreWellBut, LosesNoMore}
 use Rattle.whole_paths.specs.Waits.{RunsTo, TimersWaitOn, WaitsOn}
 use Rattle.whole_paths.specs.Waits.{WaitsOn as wait}
 use Rattle.whole_paths.proofs.Exchanges.{Shown, each_shown}
@@ -44,7 +44,8 @@ use Rattle.whole_paths.proofs.OpenTurns.{of_after, of_before, with_both}
 use Rattle.whole_paths.proofs.Reached.{EndsAreReached, Joined, Line, each_is_reached}
 use Rattle.whole_paths.proofs.RecordsGo.{none_at}
 use Rattle.whole_paths.proofs.Resending.{what_runs_out_goes_again}
-use Rattle.whole_paths.proofs.Unmended.{data_filled, harms_alone_are_owed, there_so}
+use Rattle.whole_paths.proofs.Losing.{data_filled, harms_alone_lose_records, there_so}
+use Rattle.whole_paths.proofs.RecordsWell.{each_record_stays_well}
 use Rattle.whole_paths.proofs.Waiting.{no_timer_is_put_off}
 
 -- ---- positions that may be lost
@@ -102,7 +103,7 @@ behind nxt (r ∷ rs) from h (suc i) t there = let is = h.0 in let rest = behind
 
 -- ---- a turn of a path
 
-module _ (s : Side) (debts by_then : ℕ) (p q : PathState Carried) (records : RecordsStayWell s p q) (no_more : OwesNoMore s p q) (mends : MendsByExpiry s p q) (again : GoesAgain values p q)
+module _ (s : Side) (debts by_then : ℕ) (p q : PathState Carried) (records : RecordsStayWell s p q) (loses : LosesNoMore s p q) (mends : MendsByExpiry s p q) (again : GoesAgain values p q)
     (timers : TimersWaitOn (Path p) (Path q)) (kept : KeepsWhatWaits (end_at s p) (end_at s q)) (frames : Frames p q) (past : ComesFrom p.clock p) (living : is_dead (end_at s q).tcp.state ≡ false)
     (reached_p : EndsAreReached p) (reached_q : EndsAreReached q) (shown_p : Shown p) (shown_q : Shown q) where
   abbrev Goes : Type 0
@@ -147,9 +148,6 @@ module _ (s : Side) (debts by_then : ℕ) (p q : PathState Carried) (records : R
   same_path : q ≡ p → MendsFirst s debts by_then p → Goes
   same_path same h = mending.on (subst (MendsFirst s debts by_then) (sym same) h)
 
-  told_still : is_harmed s p q ≡ false → (untold : ℕ) → IsToldSoon (peer s) p ⊎ (untold ≡ 1) → IsToldSoon (peer s) q ⊎ (untold ≡ 1)
-  told_still unharmed untold told = ⊎_elim (λ is. inl (no_more.told unharmed is)) (λ one. inr one) told
-
   -- ---- the timer runs
 
   module _ (h : FirstIsLost s debts by_then p) (unharmed : is_harmed s p q ≡ false) where
@@ -158,12 +156,10 @@ module _ (s : Side) (debts by_then : ℕ) (p q : PathState Carried) (records : R
 
     -- SND.UNA is at its end, or past it: no other record stands at its position
     is_acked : end_of h.first ≤ (end_at s q).tcp.send.una → Goes
-    is_acked reached_end = mending.fewer (length (without h.first.pos h.lost) + h.untold)
-        (let less = shorter h.first.pos h.lost h.among.at h.among.item h.among.there h.among.holds in let few = h.few in omega (arith, less, few))
-        (record { lost = without h.first.pos h.lost; well = well; untold = h.untold; told = told_still unharmed h.untold h.told; few = le_refl (length (without h.first.pos h.lost) + h.untold) })
+    is_acked reached_end = mending.fewer (without h.first.pos h.lost) (let less = shorter h.first.pos h.lost h.among.at h.among.item h.among.there h.among.holds in let few = h.few in omega (arith, less, few)) well
       where
         still : AreWellBut s h.lost q
-        still = no_more.well unharmed h.lost h.well
+        still = loses.unharmed unharmed h.lost h.well
 
         -- a record of the end's that stood here before stands behind it
         apart : (t : Record) → IsRecordOf (end_at s q) t → WasSent (end_at s p) t → t.pos ≡ h.first.pos → ⊥
@@ -236,9 +232,7 @@ module _ (s : Side) (debts by_then : ℕ) (p q : PathState Carried) (records : R
       is_first = first;
       lost = h.lost;
       among = h.among;
-      well = no_more.well unharmed h.lost h.well;
-      untold = h.untold;
-      told = told_still unharmed h.untold h.told;
+      well = loses.unharmed unharmed h.lost h.well;
       few = h.few;
       runs = runs;
     })))
@@ -258,9 +252,7 @@ module _ (s : Side) (debts by_then : ℕ) (p q : PathState Carried) (records : R
             (λ soon. mending.on (stage.goes (record {
               mends = soon;
               in_time = (let early = timer_behind s (happenings.Fires s at) by_then p out.next h.runs.timer in let from = timer_from s by_then p past h.runs.timer in omega (arith, clock, early, from));
-              untold = h.untold;
-              told = told_still unharmed h.untold h.told;
-              few = (let some = some_among h.first.pos h.lost h.among in let few = h.few in omega (arith, some, few));
+              some = (let some = some_among h.first.pos h.lost h.among in let few = h.few in omega (arith, some, few));
             })))
             (mends.fires at out low)
 
@@ -287,13 +279,11 @@ module _ (s : Side) (debts by_then : ℕ) (p q : PathState Carried) (records : R
         (λ soon. mending.on (stage.goes (record {
           mends = soon;
           in_time = (let in_time = h.in_time in let same = clock h.mends.again in omega (arith, in_time, same));
-          untold = h.untold;
-          told = told_still unharmed h.untold h.told;
-          few = h.few;
+          some = h.some;
         })))
         (λ y. ⊎_elim
         (λ harmed. mending.harmed s harmed)
-        (λ well. mending.fewer h.untold (let few = h.few in omega (arith, few)) (record { lost = []; well = well; untold = h.untold; told = told_still unharmed h.untold h.told; few = omega arith }))
+        (λ well. mending.fewer [] h.some well)
         y)
         x)
         (mends.waits h.mends)
@@ -311,28 +301,27 @@ module _ (s : Side) (debts by_then : ℕ) (p q : PathState Carried) (records : R
 
 -- ---- a turn of a connection
 
-module _ (soon : WhatIsSentComesSoon values) (well : EachRecordStaysWell) (told : EachIsToldSoon) where
-  pub lost_records_are_mended : LostRecordsAreMended
-  lost_records_are_mended start turns turn h s debts by_then stands = first_mends s debts by_then p q (well start turns turn h s) (harms_alone_are_owed well told start turns turn h s)
-      (what_runs_out_is_mended soon start turns turn h s) (with_both start turns turn h (PathsGoAgain values) (what_runs_out_goes_again values w turn 2 crew there))
-      (with_both start turns turn h TimersWaitOn ((no_timer_is_put_off values).waits w turn 2 crew there)) (with_both start turns turn h EndsKeepWhatWaits (what_waits_is_kept values w (turn ∷ []) 2 crew there) s)
-      (with_both start turns turn h FramesStay (frames_stay values w turn 2 crew there)) (of_before start turns turn h (λ x. ComesFrom x.clock x) ((nothing_is_overdue values start turns).each 2 crew there))
-      (h.after.is_open.living s) (of_before start turns turn h EndsAreReached ((each_is_reached values start turns).each 2 crew there))
-      (of_after start turns turn h EndsAreReached ((each_is_reached values start (turns ++ turn ∷ [])).each 2 h.after.here.crew h.after.here.there))
-      (of_before start turns turn h Shown (each_shown start turns h.mild.plain.size h.mild.fit 2 crew there))
-      (of_after start turns turn h Shown (each_shown start (turns ++ turn ∷ []) h.mild.plain.size h.mild.fit 2 h.after.here.crew h.after.here.there)) stands
-    where
-      p : PathState Carried
-      p = h.before.path
+pub lost_records_are_mended : LostRecordsAreMended
+lost_records_are_mended start turns turn h s debts by_then stands = first_mends s debts by_then p q (each_record_stays_well start turns turn h s) (harms_alone_lose_records start turns turn h s)
+    (what_runs_out_is_mended start turns turn h s) (with_both start turns turn h (PathsGoAgain values) (what_runs_out_goes_again values w turn 2 crew there))
+    (with_both start turns turn h TimersWaitOn ((no_timer_is_put_off values).waits w turn 2 crew there)) (with_both start turns turn h EndsKeepWhatWaits (what_waits_is_kept values w (turn ∷ []) 2 crew there) s)
+    (with_both start turns turn h FramesStay (frames_stay values w turn 2 crew there)) (of_before start turns turn h (λ x. ComesFrom x.clock x) ((nothing_is_overdue values start turns).each 2 crew there))
+    (h.after.is_open.living s) (of_before start turns turn h EndsAreReached ((each_is_reached values start turns).each 2 crew there))
+    (of_after start turns turn h EndsAreReached ((each_is_reached values start (turns ++ turn ∷ [])).each 2 h.after.here.crew h.after.here.there))
+    (of_before start turns turn h Shown (each_shown start turns h.mild.plain.size h.mild.fit 2 crew there))
+    (of_after start turns turn h Shown (each_shown start (turns ++ turn ∷ []) h.mild.plain.size h.mild.fit 2 h.after.here.crew h.after.here.there)) stands
+  where
+    p : PathState Carried
+    p = h.before.path
 
-      q : PathState Carried
-      q = h.after.path
+    q : PathState Carried
+    q = h.after.path
 
-      w : WorldState Carried
-      w = reached values start turns
+    w : WorldState Carried
+    w = reached values start turns
 
-      crew : ActorCrew Carried
-      crew = h.before.here.crew
+    crew : ActorCrew Carried
+    crew = h.before.here.crew
 
-      there : slice_get w.crew 2 ≡ Some crew
-      there = h.before.here.there
+    there : slice_get w.crew 2 ≡ Some crew
+    there = h.before.here.there

@@ -144,6 +144,7 @@ pub mod LastFin
 pub mod ShutWindows
 pub mod WholeCourses
 pub mod Listening
+pub mod Losing
 pub mod SynAcks
 pub mod Syns
 pub mod FirstAwaited

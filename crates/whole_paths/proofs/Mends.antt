@@ -56,7 +56,8 @@ use Rattle.whole_paths.proofs.RecordsGo.{none_at}
 use Rattle.whole_paths.proofs.Resending.{what_runs_out_goes_again}
 use Rattle.whole_paths.proofs.Sent.{what_came_was_sent}
 use Rattle.whole_paths.proofs.SentAgain.{each_expiry_sends_all_again}
-use Rattle.whole_paths.proofs.Unmended.{back, sent_whole}
+use Rattle.whole_paths.proofs.SentSoon.{what_is_sent_comes_soon}
+use Rattle.whole_paths.proofs.Losing.{back, sent_whole}
 
 -- ---- but for the first record each is well
 
@@ -181,43 +182,42 @@ module _ (soon : WhatIsSentComesSoon values) (s : Side) (p q : PathState Carried
 
 -- ---- a turn of a connection
 
-module _ (soon : WhatIsSentComesSoon values) where
-  pub what_runs_out_is_mended : WhatRunsOutIsMended
-  what_runs_out_is_mended start turns turn h s = mends soon s p q
-      (with_both start turns turn h FramesStay (frames_stay values w turn 2 crew there)) (with_both start turns turn h (PathsGoAgain values) (what_runs_out_goes_again values w turn 2 crew there))
-      (with_both start turns turn h PathsSendAllAgain (each_expiry_sends_all_again values w turn 2 crew there)) known h.before.faithful (h.before.few s) h.before.is_open
-      (of_path EndsGoByMappings ((mapping_is_kept start turns h.mild).each 2 crew there)) (of_path CopiesAreNumbered ((soon.numbered start turns).each 2 crew there))
-    where
-      p : PathState Carried
-      p = h.before.path
+pub what_runs_out_is_mended : WhatRunsOutIsMended
+what_runs_out_is_mended start turns turn h s = mends (what_is_sent_comes_soon values) s p q
+    (with_both start turns turn h FramesStay (frames_stay values w turn 2 crew there)) (with_both start turns turn h (PathsGoAgain values) (what_runs_out_goes_again values w turn 2 crew there))
+    (with_both start turns turn h PathsSendAllAgain (each_expiry_sends_all_again values w turn 2 crew there)) known h.before.faithful (h.before.few s) h.before.is_open
+    (of_path EndsGoByMappings ((mapping_is_kept start turns h.mild).each 2 crew there)) (of_path CopiesAreNumbered (((what_is_sent_comes_soon values).numbered start turns).each 2 crew there))
+  where
+    p : PathState Carried
+    p = h.before.path
 
-      q : PathState Carried
-      q = h.after.path
+    q : PathState Carried
+    q = h.after.path
 
-      w : WorldState Carried
-      w = reached values start turns
+    w : WorldState Carried
+    w = reached values start turns
 
-      crew : ActorCrew Carried
-      crew = h.before.here.crew
+    crew : ActorCrew Carried
+    crew = h.before.here.crew
 
-      there : slice_get w.crew 2 ≡ Some crew
-      there = h.before.here.there
+    there : slice_get w.crew 2 ≡ Some crew
+    there = h.before.here.there
 
-      of_path : (P : PathState Carried → Type 0) → HoldsOfKind (λ app. Unit {0}) P crew.member → P p
-      of_path P held = of_before start turns turn h P held
+    of_path : (P : PathState Carried → Type 0) → HoldsOfKind (λ app. Unit {0}) P crew.member → P p
+    of_path P held = of_before start turns turn h P held
 
-      shown : Shown p
-      shown = of_path Shown (each_shown start turns h.mild.plain.size h.mild.fit 2 crew there)
+    shown : Shown p
+    shown = of_path Shown (each_shown start turns h.mild.plain.size h.mild.fit 2 crew there)
 
-      known : Known p
-      known = record {
-        tells = shown.tells;
-        behind = shown.behind;
-        edge = shown.edge;
-        reached = of_path EndsAreReached ((each_is_reached values start turns).each 2 crew there);
-        came = of_path HasCome ((what_is_acknowledged_came start turns).each 2 crew there);
-        was_sent = of_path WasSent ((what_came_was_sent start turns h.mild.plain.size).each 2 crew there);
-        link = of_path (λ x. LinkIs x.link) ((each_link values start turns).each 2 crew there);
-        alike = of_path CopiesArriveSo ((copies_arrive_as_sent values start turns).each 2 crew there);
-        past = of_path (λ x. ComesFrom x.clock x) ((nothing_is_overdue values start turns).each 2 crew there);
-      }
+    known : Known p
+    known = record {
+      tells = shown.tells;
+      behind = shown.behind;
+      edge = shown.edge;
+      reached = of_path EndsAreReached ((each_is_reached values start turns).each 2 crew there);
+      came = of_path HasCome ((what_is_acknowledged_came start turns).each 2 crew there);
+      was_sent = of_path WasSent ((what_came_was_sent start turns h.mild.plain.size).each 2 crew there);
+      link = of_path (λ x. LinkIs x.link) ((each_link values start turns).each 2 crew there);
+      alike = of_path CopiesArriveSo ((copies_arrive_as_sent values start turns).each 2 crew there);
+      past = of_path (λ x. ComesFrom x.clock x) ((nothing_is_overdue values start turns).each 2 crew there);
+    }

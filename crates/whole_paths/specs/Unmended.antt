@@ -1,5 +1,5 @@
 -- What of a path's segments is still to be mended, counted: records of data that may be lost, and acknowledgements.
-use Rattle.std.specs.Prelude.{ℕ, ◌+◌, ◌≡◌, ◌≤◌, ◌⊎◌, false, List, length}
+use Rattle.std.specs.Prelude.{ℕ, ◌+◌, ◌≡◌, ◌≤◌, ◌⊎◌, true, false, List, length}
 use Rattle.sides.specs.declared.side.Side.{Side}
 use Rattle.sides.specs.declared.side.Side.TheVariants.{A, B}
 use Rattle.sides.specs.Side.{peer}
@@ -43,14 +43,25 @@ pub record Owes (start : Start) (debts : ℕ) (turns : List Turn) : Type 0 where
   pub here : IsPathAt 0 (reached values start turns) path
   pub owes : OwesAt debts path
 
--- As the path becomes another one no more is to be mended of what the side sends, but for one if a segment of it is harmed. Where none is, no more
--- records may be lost, and the peer is told what it was.
-pub record OwesNoMore (s : Side) (p q : PathState Carried) : Type 0 where
-  pub owes : (debts : ℕ) → OwesBy s debts p → OwesBy s (debts + one_if (is_harmed s p q)) q
-  pub well : is_harmed s p q ≡ false → (lost : List ℕ) → AreWellBut s lost p → AreWellBut s lost q
-  pub told : is_harmed s p q ≡ false → IsToldSoon (peer s) p → IsToldSoon (peer s) q
+-- ---- by a turn
+
+-- As the path becomes another one no more records may be lost, but for one if a segment of the side is harmed; none where the end owes an
+-- acknowledgement, which goes alone.
+pub record LosesNoMore (s : Side) (p q : PathState Carried) : Type 0 where
+  pub unharmed : is_harmed s p q ≡ false → (lost : List ℕ) → AreWellBut s lost p → AreWellBut s lost q
+  pub owing : (end_at s p).tcp.due.ack ≡ true → (lost : List ℕ) → AreWellBut s lost p → AreWellBut s lost q
+  pub one_more : (lost : List ℕ) → AreWellBut s lost p → (more : List ℕ) × (length more ≤ length lost + one_if (is_harmed s p q)) × AreWellBut s more q
 
 -- by a turn of a mild connection between open ends
+abbrev pub HarmsAloneLoseRecords : Type 0
+HarmsAloneLoseRecords = (start : Start) (turns : List Turn) (turn : Turn) (h : IsOpenTurn start turns turn) (s : Side)
+    → LosesNoMore s h.before.path h.after.path
+
+-- No more is to be mended of what the side sends, but for one if a segment of it is harmed; and where none is, the peer is told what it was.
+pub record OwesNoMore (s : Side) (p q : PathState Carried) : Type 0 where
+  pub owes : (debts : ℕ) → OwesBy s debts p → OwesBy s (debts + one_if (is_harmed s p q)) q
+  pub told : is_harmed s p q ≡ false → IsToldSoon (peer s) p → IsToldSoon (peer s) q
+
 abbrev pub HarmsAloneAreOwed : Type 0
 HarmsAloneAreOwed = (start : Start) (turns : List Turn) (turn : Turn) (h : IsOpenTurn start turns turn) (s : Side)
     → OwesNoMore s h.before.path h.after.path
