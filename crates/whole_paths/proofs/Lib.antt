@@ -33,7 +33,9 @@ pub mod Duties
 pub mod Exchanges
 pub mod ExpiriesInARow
 pub mod Deaths
+pub mod Debts
 pub mod FewLosses
+pub mod FinPlaces
 pub mod Finished
 pub mod FinishedThere
 pub mod Flying
@@ -70,10 +72,12 @@ pub mod OnlyPaths
 pub mod OpenAsks
 pub mod OpenAsksGoOn
 pub mod OpenPieces
+pub mod OpenTurns
 pub mod OverOctets
 pub mod Owing
 pub mod MappedCopies
 pub mod Mapping
+pub mod Mends
 pub mod Mild
 pub mod Moving
 pub mod PaidRounds
@@ -82,6 +86,7 @@ pub mod Paying
 pub mod Pieces
 pub mod Probes
 pub mod Reasons
+pub mod RecordsGo
 pub mod Received
 pub mod RecordsWell
 pub mod Refusals
@@ -93,6 +98,7 @@ pub mod Running
 pub mod Saying
 pub mod SegmentsRead
 pub mod Sent
+pub mod SentAgain
 pub mod SentByTurns
 pub mod SentSoon
 pub mod Settling
@@ -111,6 +117,7 @@ pub mod ThereInTime
 pub mod Timing
 pub mod Treating
 pub mod Unharmed
+pub mod Unmended
 pub mod Unmapped
 pub mod Turns
 pub mod Unbroken
@@ -137,8 +144,11 @@ pub mod LastFin
 pub mod ShutWindows
 pub mod WholeCourses
 pub mod Listening
+pub mod Losing
 pub mod SynAcks
 pub mod Syns
+pub mod FirstAwaited
+pub mod FirstLost
 pub mod FirstPieces
 pub mod WholeMappings
 pub mod ReadModes

@@ -56,9 +56,11 @@ ghost use Rattle.whole_paths.specs.Owed.{WhatIsOwedComes};
 ghost use Rattle.whole_paths.specs.Passed.{WhatIsInOrderIsPassed};
 ghost use Rattle.whole_paths.specs.Probes.{EachProbeIsAnswered};
 ghost use Rattle.whole_paths.specs.Reasons.{WhoWaitsHasATimer};
+ghost use Rattle.whole_paths.specs.RecordsGo.{EachRecordGoesAlone};
 ghost use Rattle.whole_paths.specs.Received.{HoldsOfOnlyPaths, WhatIsGrantedIsReceived, WhatIsPassedIsPlaced, WhatIsPassedIsReceived};
 ghost use Rattle.whole_paths.specs.Room.{WhoIsDoneMayAsk};
 ghost use Rattle.whole_paths.specs.Running.{TimersRunOn};
+ghost use Rattle.whole_paths.specs.SentAgain.{EachExpirySendsAllAgain};
 ghost use Rattle.whole_paths.specs.Saying.{EachSegmentSaysWhatCame};
 ghost use Rattle.whole_paths.specs.Sent.{WhatCameWasSent};
 ghost use Rattle.whole_paths.specs.SentByTurns.{EachTurnSendsOneAtMost};
@@ -182,6 +184,24 @@ pub fn no_timer_is_put_off()
 pub fn expiries_alone_count()
     ensures octets { ExpiriesAloneCount octets }
     ensures values { ExpiriesAloneCount values }
+{}
+
+/// A law: an end sends the one record of data whose segment goes, and no other (RFC 9293, section 3.10.7.4).
+///
+/// By any turn a record of data that an end has sent it had sent before, or the segment that goes next on the path is that record's. It is said of
+/// an end whose SYN is acknowledged.
+pub fn each_record_goes_alone()
+    ensures octets { EachRecordGoesAlone octets }
+    ensures values { EachRecordGoesAlone values }
+{}
+
+/// A law: once a timer ran out, each record of its end is to be sent again (RFC 6298, section 5, rule 5.4): the first one at once
+/// (`what_runs_out_goes_again`), and each other one is marked as to be sent, until the first one has gone. As that goes no record comes or is let go.
+///
+/// It is said of an expiry that isn't the sixth in a row, which ends the end.
+pub fn each_expiry_sends_all_again()
+    ensures octets { EachExpirySendsAllAgain octets }
+    ensures values { EachExpirySendsAllAgain values }
 {}
 
 /// A law: an end dies by the sixth expiry in a row, by the line by which its path dies, by a reset that counts (RFC 9293, section
