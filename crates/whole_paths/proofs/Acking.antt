@@ -89,7 +89,7 @@ use Rattle.whole_paths.proofs.Waiting.{gone_stays}
 -- ---- all below a position
 
 -- each is so, or something else is
-all_or : (A : ℕ → Type 0) (E : Type 0) (n : ℕ) → ((pos : ℕ) → pos < n → A pos ⊎ E) → ((pos : ℕ) → pos < n → A pos) ⊎ E
+pub all_or : (A : ℕ → Type 0) (E : Type 0) (n : ℕ) → ((pos : ℕ) → pos < n → A pos ⊎ E) → ((pos : ℕ) → pos < n → A pos) ⊎ E
 all_or A E zero each = inl (λ pos low. absurd (omega (arith, low)))
 all_or A E (suc n) each = ⊎_elim
     (λ below. ⊎_elim (λ last. inl (λ pos low. ⊎_elim (below pos) (λ over. subst A (let same : n ≡ pos = omega (arith, low, over) in same) last) (cases_lt pos n))) (λ e. inr e) (each n (omega arith)))
@@ -193,12 +193,12 @@ answering_due s high = ap (λ b. (owing_answer b s.due).ack) (opened s.state hig
     opened _ high = refl
 
 -- an octet of the payload
-octet_of : (payload : List ℕ) (at pos : ℕ) → at ≤ pos → pos < at + length payload → payload_octet pos at payload ≡ Some (get_or payload (pos - at) 0)
+pub octet_of : (payload : List ℕ) (at pos : ℕ) → at ≤ pos → pos < at + length payload → payload_octet pos at payload ≡ Some (get_or payload (pos - at) 0)
 octet_of payload at pos low high = ap (λ b. if b then None else slice_get payload (pos - at)) (le-ltb pos at low) ∙ slice_get-get_or payload (pos - at) 0 (omega (arith, low, high))
 
 module _ {C : Type 0} where
   -- with a mapping there is a piece, and in plain TCP without one; with checksums one that is whole, unless it fails its check
-  piece_some : (s : Side) (octet position : ℕ) (p : PathState C) → (end_at s p).tcp.recv.edge < position → ((pos : ℕ) → (end_at s p).tcp.recv.edge ≤ pos → pos < position → IsSome (octet_at pos (end_at s p).tcp.recv)) → AreLive (end_at s p).receiving.mappings (end_at s p).tcp.recv.edge
+  pub piece_some : (s : Side) (octet position : ℕ) (p : PathState C) → (end_at s p).tcp.recv.edge < position → ((pos : ℕ) → (end_at s p).tcp.recv.edge ≤ pos → pos < position → IsSome (octet_at pos (end_at s p).tcp.recv)) → AreLive (end_at s p).receiving.mappings (end_at s p).tcp.recv.edge
       → octet_at (end_at s p).tcp.recv.edge (end_at s p).tcp.recv ≡ Some octet → IsSome (mapping_at (end_at s p).receiving.mappings (end_at s p).tcp.recv.edge)
       → (end_at s p).modes.peer_infinite ≡ None → piece_of s p ≡ None → IsSome (failing_mapping p.profile (end_at s p)) ⊎ IsPartial s position p
   piece_some s octet position p behind octets live at some finite none = by_mode e.modes.identity refl
@@ -253,11 +253,11 @@ module _ {C : Type 0} where
 
   -- ---- before it is kept and known nothing is sent but a reset
 
-  keep_resets : (s : Side) (ds : List Duty) (p : PathState C) → IsToKeep s ds → IfSome (first_sends ds p) (Resets p)
+  pub keep_resets : (s : Side) (ds : List Duty) (p : PathState C) → IsToKeep s ds → IfSome (first_sends ds p) (Resets p)
   keep_resets s [] p keep = absurd keep
   keep_resets s (d ∷ ds) p keep = silent_resets d p (before_silent d keep.1.0)
 
-  learn_resets : (s : Side) (items : List Heard) (ds : List Duty) (p : PathState C) → IsToLearn s items ds → IfSome (first_sends ds p) (Resets p)
+  pub learn_resets : (s : Side) (items : List Heard) (ds : List Duty) (p : PathState C) → IsToLearn s items ds → IfSome (first_sends ds p) (Resets p)
   learn_resets s items [] p learn = absurd learn
   learn_resets s items (duties.Step (step_duties.Heard t index) ∷ ds) p learn = silent_resets (duties.Step (step_duties.Heard t index)) p refl
   learn_resets s items (d ∷ ds) p learn = silent_resets d p (before_silent d learn.1.0)

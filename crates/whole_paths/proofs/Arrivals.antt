@@ -109,7 +109,7 @@ unrepeated : (b : Bool) (c : Copy) → c.syn ≡ false → (not b && (c.syn && (
 unrepeated true c syn = refl
 unrepeated false c syn = ap (λ b. b && (not c.rst && (is_none c.acknowledged && is_at 0 c.position))) syn
 
-within_so : (edge pos len octets : ℕ) → 0 < len → edge < pos + len → pos + len ≤ edge + 1048576 → (is_in_window edge pos || (ends_in_window edge pos len || is_at_right_edge edge pos octets)) ≡ true
+pub within_so : (edge pos len octets : ℕ) → 0 < len → edge < pos + len → pos + len ≤ edge + 1048576 → (is_in_window edge pos || (ends_in_window edge pos len || is_at_right_edge edge pos octets)) ≡ true
 within_so edge pos len octets some new last = elim (is_in_window edge pos) as (λ b. (b || (ends_in_window edge pos len || is_at_right_edge edge pos octets)) ≡ true)
     [ true ↦ refl | false ↦ ap (λ b. b || is_at_right_edge edge pos octets) ends ]
   where
@@ -164,13 +164,13 @@ module _ (c : Profile) (t : Side) (next place pos len : ℕ) (checksum : Option 
   abbrev option : HeardOption
   option = Dss (Some (Some next)) (Some (Bytes (Some place) (Some pos) len false checksum))
 
-  kept : KeptMapping
+  pub kept : KeptMapping
   kept = kept_of c t place pos len false (checksum_heard checksum)
 
   pub held_one : flat_map (held_in c t) (option ∷ []) ≡ kept_of c t place pos len false (checksum_heard checksum) ∷ []
   held_one = ap (λ b. (if b then kept_of c t place pos len false (checksum_heard checksum) ∷ [] else []) ++ []) fits
 
-  says_one : (window : ℕ) → list_any says_mapping (flat_map (items_in false t window) (option ∷ [])) ≡ true
+  pub says_one : (window : ℕ) → list_any says_mapping (flat_map (items_in false t window) (option ∷ [])) ≡ true
   says_one window =
       ap (λ b. list_any says_mapping ((ack_items (Some (Some next)) window ++ (if b then says.Mapping false ∷ [] else [])) ++ [])) fits
       ∙ list_any-append says_mapping (ack_items (Some (Some next)) window ++ (says.Mapping false ∷ [])) []
@@ -183,19 +183,19 @@ module _ (c : Profile) (t : Side) (next place pos len : ℕ) (checksum : Option 
 -- ---- a copy
 
 module _ (x : PlainSegment) (p : PathState Carried) (a : Arrival x p) (piece : IsPiece x) where
-  abbrev to : Side
+  abbrev pub to : Side
   to = a.due.to
 
-  abbrev e : PathEnd
+  abbrev pub e : PathEnd
   e = end_at to p
 
-  abbrev said : HeardSegment
+  abbrev pub said : HeardSegment
   said = options_heard e (meant x)
 
-  len_so : occupied (copy_of said) ≡ length x.payload
+  pub len_so : occupied (copy_of said) ≡ length x.payload
   len_so = ap (λ b. length x.payload + (one_if b + one_if x.fin)) piece.syn ∙ ap (λ b. length x.payload + (one_if false + one_if b)) piece.fin ∙ omega arith
 
-  abbrev copy : Comes values p
+  abbrev pub copy : Comes values p
   copy = record {
     others = a.others;
     first = a.first;
@@ -205,7 +205,7 @@ module _ (x : PlainSegment) (p : PathState Carried) (a : Arrival x p) (piece : I
     heard = ap (λ (o : Option (Flight Carried)). heard_in values to o p) a.there ∙ ap (λ (c : Carried). Some (meant (as_arrived c))) a.carried;
   }
 
-  is_to : (m : Meaning) → meaning_of (copy_of said) e.tcp ≡ m → IsTo values p copy (judged.As m)
+  pub is_to : (m : Meaning) → meaning_of (copy_of said) e.tcp ≡ m → IsTo values p copy (judged.As m)
   is_to m is = ap (λ j. judged_of j said.rst (items_of j to said) (meaning_of (copy_of said) e.tcp) e) a.joined ∙ ap (λ m. judged.As m) is
 
   in_order : Takes x e → ComesInOrder x p

@@ -59,7 +59,7 @@ module _ {C : Type 0} where
       by true more = put P f (g ∷ fs) here h
       by false more = put P g (with_flight f fs) (h.each 0 g refl) more
 
-  with_all : (P : Flight C → Type 0) (to : Side) (number : ℕ) (carried : C) → ((tick : ℕ) → P (record { tick = tick; to = to; number = number; carried = carried })) → (ticks : List ℕ) (fs : List (Flight C))
+  pub with_all : (P : Flight C → Type 0) (to : Side) (number : ℕ) (carried : C) → ((tick : ℕ) → P (record { tick = tick; to = to; number = number; carried = carried })) → (ticks : List ℕ) (fs : List (Flight C))
       → Every P fs → Every P (with_flights to number carried ticks fs)
   with_all P to number carried new [] fs h = h
   with_all P to number carried new (tick ∷ ticks) fs h = with_all P to number carried new ticks _ (with_one P (record { tick = tick; to = to; number = number; carried = carried }) fs (new tick) h)

@@ -103,7 +103,7 @@ first_stays r e f kept h =
         }))
         k
 
-same_segment : (r x : Record) (segment : PlainSegment) → IsSameRecord r x → IsSegmentOf x segment → IsSegmentOf r segment
+pub same_segment : (r x : Record) (segment : PlainSegment) → IsSameRecord r x → IsSegmentOf x segment → IsSegmentOf r segment
 same_segment r x segment same h = record {
   position = h.position ∙ same.pos;
   syn = subst (λ kind. segment.syn ≡ is_syn kind) same.kind h.syn;
@@ -124,7 +124,7 @@ same_options c s e r kind sending kinds.Data =
     by (Some peer) = refl
 same_options c s e r kind sending kinds.Fin = refl
 
-same_said : (c : Profile) (s : Side) (e : PathEnd) (r x : Record) (segment : PlainSegment) → IsSameRecord r x → IsSaidAt c s x e segment → IsSaidAt c s r e segment
+pub same_said : (c : Profile) (s : Side) (e : PathEnd) (r x : Record) (segment : PlainSegment) → IsSameRecord r x → IsSaidAt c s x e segment → IsSaidAt c s r e segment
 same_said c s e r x segment same h = record {
   options = h.options
       ∙ ap (λ kind. record_options kind c s x e) same.kind

@@ -26,6 +26,7 @@ pub mod DataAcksHeard
 pub mod Courses
 pub mod DataAcksNow
 pub mod DataAcksOwed
+pub mod DataLast
 pub mod Delivery
 pub mod Due
 pub mod Duties
@@ -36,6 +37,7 @@ pub mod FewLosses
 pub mod Finished
 pub mod FinishedThere
 pub mod Flying
+pub mod Gaps
 pub mod GoesOn
 pub mod GoingOn
 pub mod Halting
@@ -52,6 +54,7 @@ pub mod KnownEnds
 pub mod KnownModes
 pub mod Lanes
 pub mod Links
+pub mod Marking
 pub mod Opening
 pub mod OpeningConfirmed
 pub mod OpeningKeys
@@ -80,6 +83,7 @@ pub mod Pieces
 pub mod Probes
 pub mod Reasons
 pub mod Received
+pub mod RecordsWell
 pub mod Refusals
 pub mod Reached
 pub mod Resending
@@ -90,6 +94,7 @@ pub mod Saying
 pub mod SegmentsRead
 pub mod Sent
 pub mod SentByTurns
+pub mod SentSoon
 pub mod Settling
 pub mod OpeningStates
 pub mod OpeningWaits

@@ -84,7 +84,7 @@ unpassed : (at : Option ℕ) (edge : ℕ) → at ≡ None → is_behind at edge 
 unpassed at edge none behind = true≢false (sym behind ∙ ap (λ o. is_behind o edge) none)
 
 -- and where it is past one that stands right before SND.NXT all came
-passed_all : (at : Option ℕ) (edge nxt : ℕ) → IfSome at (λ position. suc position ≡ nxt) → is_behind at edge ≡ true → nxt ≤ edge
+pub passed_all : (at : Option ℕ) (edge nxt : ℕ) → IfSome at (λ position. suc position ≡ nxt) → is_behind at edge ≡ true → nxt ≤ edge
 passed_all None edge nxt is behind = absurd (true≢false (sym behind))
 passed_all (Some position) edge nxt is behind = let more = ltb-true position edge behind in omega (arith, more, is)
 

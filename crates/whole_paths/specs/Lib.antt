@@ -44,6 +44,7 @@ pub mod KnownEnds
 pub mod KnownModes
 pub mod Lanes
 pub mod Mapped
+pub mod Mending
 pub mod Opening
 pub mod News
 pub mod Offered

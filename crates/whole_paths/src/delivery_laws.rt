@@ -14,6 +14,7 @@ ghost use Rattle.whole_paths.specs.GoingOn.{RoundsBeginToGoOn, RoundsGoOn, Steps
 ghost use Rattle.whole_paths.specs.Halted.{WhoHaltsGoesOnHalting};
 ghost use Rattle.whole_paths.specs.Lanes.Laws.{LossyLanesEnd, LossyLanesFinish};
 ghost use Rattle.whole_paths.specs.LastFin.{FinsAreLast};
+ghost use Rattle.whole_paths.specs.Mending.{EachRecordStaysWell};
 ghost use Rattle.whole_paths.specs.Mild.{IsPromisedMildly, KeysAreKnown, LinksAreMild, MappingIsKept, MildScriptsStartMildly, NeverBreaks};
 ghost use Rattle.whole_paths.specs.OnePathScripts.{EndsAsItBegins, MildScriptsBeginWithOnePath, OnlyWaysStay, BriefPathsEnd, WaysStay, WhatIsThereInTimeIsDelivered};
 ghost use Rattle.whole_paths.specs.OpenAsks.{OpenAsksAreInTime, OpenAsksGoOn, OpenEndsHardlyGoAwry};
@@ -130,6 +131,15 @@ pub fn what_holds_up_counts()
 /// A law: where each turn is over, nothing is counted as the next round begins.
 pub fn no_round_counts()
     ensures { NoRoundCounts }
+{}
+
+/// A law: a record of data that is well stays well by each turn of a mild connection between open ends, or a segment of its side is harmed.
+///
+/// Such a record is to be sent; or each of its octets came to the peer, with its mapping; or a copy of it is under way that comes within 400 ticks,
+/// twice the longest delay. One that comes by a tick, or came, is there by that tick still, also behind a gap, and though it is acknowledged
+/// meanwhile (`comes`); and one that is sent in the turn is there within 400 ticks, or harmed (`sent`).
+pub fn each_record_stays_well()
+    ensures { EachRecordStaysWell }
 {}
 
 /// A law: a wait for a record of data goes on between open ends of a mild connection until the record is acknowledged, or something is

@@ -46,6 +46,7 @@ ghost use Rattle.whole_paths.specs.KnownEnds.{EndsAreKnown, WhatIsClosedIsAcknow
 ghost use Rattle.whole_paths.specs.KnownModes.{EndsKnowWhatWas, NoEndKnowsOfAFallback};
 ghost use Rattle.whole_paths.specs.Mapped.{WhatIsToldIsKnown};
 ghost use Rattle.whole_paths.specs.Opening.{EachHandshakeCounts, EachSynCounts};
+ghost use Rattle.whole_paths.specs.Mending.{WhatIsSentComesSoon};
 ghost use Rattle.whole_paths.specs.NeverAborted.{NoSideIsStopped};
 ghost use Rattle.whole_paths.specs.News.{EachGainCounts, EachNewsCounts, NewsIsBounded, NewsNeverFalls};
 ghost use Rattle.whole_paths.specs.Offered.{WhatIsTakenIsOffered};
@@ -649,6 +650,16 @@ pub fn what_waits_is_kept()
 pub fn each_segment_uses_a_line_or_comes()
     ensures comes { EachUsesALineOrComes (List ℕ) }
     ensures at_once { PlainDirectionsHandOnAtOnce (List ℕ) }
+{}
+
+/// A law: a segment that the link of a path takes is harmed, or a copy of it is under way that comes within 400 ticks, twice the longest delay.
+///
+/// A segment is harmed where no copy with its number comes so early. The numbers of copies under way are those of segments that were sent
+/// (`numbered`), so that one with the next number carries what the link makes of the segment (`comes`): that itself, where no line takes options
+/// away or alters payload. So it is with the first 2^64 - 2 segments of a side.
+pub fn what_is_sent_comes_soon()
+    ensures octets { WhatIsSentComesSoon octets }
+    ensures values { WhatIsSentComesSoon values }
 {}
 
 /// A law: by whatever turn, a copy that is under way on a path is under way still, or it was the path's next event and so arrives, or that
