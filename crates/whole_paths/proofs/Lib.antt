@@ -153,3 +153,13 @@ pub mod FirstPieces
 pub mod WholeMappings
 pub mod ReadModes
 pub mod NeverAborted
+pub mod PassedPlaces
+pub mod PositionCounts
+pub mod SentInOrder
+pub mod Unroomy
+pub mod Pushed
+pub mod RoundSteps
+pub mod SegmentRounds
+pub mod ReadSegments
+pub mod EndRounds
+pub mod UnitRounds

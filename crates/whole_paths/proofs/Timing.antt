@@ -168,10 +168,10 @@ module _ {C : Type 0} where
       [ None ↦ refl | Some heard ↦ refl ]
   happens_clock k (happenings.Fires s tick) r p = refl
 
-  -- the clock goes on, to the round's end at most, which stays
+  -- the clock goes on, and stays before the round's end, which stays
   record Ticks (p q : PathState C) : Type 0 where
     clock : p.clock ≤ q.clock
-    most : p.clock ≤ p.until → q.clock ≤ p.until
+    most : p.clock < p.until → q.clock < p.until
     until : q.until ≡ p.until
 
   stands_still : (p q : PathState C) → q.clock ≡ p.clock → q.until ≡ p.until → Ticks p q
@@ -233,8 +233,8 @@ module _ {C : Type 0} where
   next_near : (p : PathState C) → TimersAreNear p → TimersAreNear (next_round p)
   next_near p h = begins_near (record p { clock = p.until; until = p.until + 100 }) (record {
     clock = omega arith;
-    a = later p.clock p.until p.a.tcp.timing h.clock h.a;
-    b = later p.clock p.until p.b.tcp.timing h.clock h.b;
+    a = later p.clock p.until p.a.tcp.timing (let early = h.clock in omega (arith, early)) h.a;
+    b = later p.clock p.until p.b.tcp.timing (let early = h.clock in omega (arith, early)) h.b;
   })
 
   -- ---- the world

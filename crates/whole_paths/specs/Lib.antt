@@ -106,3 +106,9 @@ pub mod FirstPieces
 pub mod WholeMappings
 pub mod ReadModes
 pub mod NeverAborted
+pub mod PositionCounts
+pub mod SentInOrder
+pub mod Pushed
+pub mod SegmentRounds
+pub mod EndRounds
+pub mod UnitRounds

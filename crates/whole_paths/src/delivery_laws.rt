@@ -1,13 +1,13 @@
 //! What mild connections do whose path stays whole, as clauses of functions that do nothing.
 ghost use Rattle.path_core.specs.Octets.{octets};
 ghost use Rattle.path_core.specs.Values.{values};
-ghost use Rattle.world_laws.specs.Promises.{HoldsAnyway};
 ghost use Rattle.whole_paths.specs.AnswerWaits.{AnswersAreAwaitedAlways};
 ghost use Rattle.whole_paths.specs.AskStages.{OpenAsksAreAnswered};
 ghost use Rattle.whole_paths.specs.AwaitedThere.{WhatIsAwaitedIsThere};
 ghost use Rattle.whole_paths.specs.DataLeft.{WhatIsLeftIsData};
 ghost use Rattle.whole_paths.specs.Deliveries.{WhoIsToldHasAll};
 ghost use Rattle.whole_paths.specs.Delivery.{WhatIsFinishedIsThere, WhatIsThereIsDelivered, WhatIsThereStays};
+ghost use Rattle.whole_paths.specs.EndRounds.{AnEndIsTold};
 ghost use Rattle.whole_paths.specs.EndedStreams.{WhatEndedIsAcknowledged};
 ghost use Rattle.whole_paths.specs.Finish.{HarmsUseLines, BriefPathsDeliver};
 ghost use Rattle.whole_paths.specs.FirstLost.{LostRecordsAreAwaited, LostRecordsAreMended};
@@ -26,15 +26,22 @@ ghost use Rattle.whole_paths.specs.OpeningWaits.{EndsOpenOrArePast, OpeningsAreA
 ghost use Rattle.whole_paths.specs.Outstanding.{WhatIsOutstandingIsAwaited};
 ghost use Rattle.whole_paths.specs.OverOctets.{FewLossesFinishAsOverValues, OctetsAreAsFarAsValues, OnePathEndsAsOverValues, BriefPathsDeliverAsOverValues, WholePathsDeliverAsOverValues};
 ghost use Rattle.whole_paths.specs.Overruns.{NoEndOverruns};
+ghost use Rattle.whole_paths.specs.PositionCounts.{PositionsCountBytes};
+ghost use Rattle.whole_paths.specs.Pushed.{WhatHasRoomIsSent, WhatIsUnsentWaitsForRoom};
+ghost use Rattle.whole_paths.specs.Received.{HoldsOfOnlyPaths};
 ghost use Rattle.whole_paths.specs.RecordWaits.{NoRoundCounts, RecordsAreAwaitedAlways};
+ghost use Rattle.whole_paths.specs.SegmentRounds.{ASegmentIsRead, EachRoundReads, EachRoundWrites, FourRoundsBring, FourRoundsTell};
 ghost use Rattle.whole_paths.specs.SenderWaits.{SendersAreAwaited};
+ghost use Rattle.whole_paths.specs.SentInOrder.{EachIsSentInOrder};
 ghost use Rattle.whole_paths.specs.ShutWaits.{ShutWindowsOpenInTime};
 ghost use Rattle.whole_paths.specs.ShutWindows.{ShutWindowsHaveRoom};
 ghost use Rattle.whole_paths.specs.StayingWhole.{WholePathsStayWhole};
 ghost use Rattle.whole_paths.specs.Straying.{OpenEndsHardlyStray, SendersHardlyStray, WholePathsAreOpen};
 ghost use Rattle.whole_paths.specs.Unmended.{HarmsAloneLoseRecords};
+ghost use Rattle.whole_paths.specs.UnitRounds.{AUnitIsMade, ShortWaitsGoOn};
 ghost use Rattle.whole_paths.specs.Unstopped.{MildPathsAreNeverStopped};
 ghost use Rattle.whole_paths.specs.WindowWaits.{WindowsAreAwaitedAlways};
+ghost use Rattle.world_laws.specs.Promises.{HoldsAnyway};
 
 /// A law: where no line takes options away, alters payload or lets a side close at once, both sides go by mappings of pieces, always.
 ///
@@ -113,6 +120,77 @@ pub fn what_is_left_is_data()
 /// positions past SND.UNA at most, and one more once the FIN is sent (RFC 5681, section 2).
 pub fn no_end_overruns()
     ensures { NoEndOverruns }
+{}
+
+/// A law: on the only path of a mild connection positions count bytes, whatever is lost, late or repeated (RFC 8684, section 3.3.1).
+///
+/// SND.NXT lies behind all bytes of the side's stream that the path took. RCV.NXT of the peer's end lies behind all that the peer's side
+/// received, and as long as the end sent no FIN just behind them.
+pub fn positions_count_bytes()
+    ensures { HoldsOfOnlyPaths values PositionsCountBytes }
+{}
+
+/// A law: records are sent in order, always: each record behind one that is to be sent is to be sent, too, or has no octets, as a FIN hasn't.
+///
+/// So no more octets are under way than lie between SND.UNA and the first position that is to be sent (RFC 5681, section 2, FlightSize), once
+/// SND.UNA lies before the end of the first record.
+pub fn records_are_sent_in_order()
+    ensures octets { EachIsSentInOrder octets }
+    ensures values { EachIsSentInOrder values }
+{}
+
+/// A law: where the turn of a path is over, the first record that is to be sent, of an end that may still send its FIN, is longer than there is
+/// room in the congestion window (RFC 5681, section 3.1).
+pub fn what_is_unsent_waits_for_room()
+    ensures octets { WhatIsUnsentWaitsForRoom octets }
+    ensures values { WhatIsUnsentWaitsForRoom values }
+{}
+
+/// A law: as the turn of the only path of a mild connection is over, an open end that sent no FIN has sent all for which there is room.
+///
+/// There is no room for another full segment in its congestion window, counted from SND.UNA up to which all is sent (RFC 5681, section 2); or all
+/// is sent that was written as the round began and lies before the edge that the peer's window had then (RFC 9293, section 3.8.6).
+pub fn what_has_room_is_sent()
+    ensures { WhatHasRoomIsSent }
+{}
+
+/// A law: in each round of a mild connection over one path an application writes its file, or as much as a side buffers past what was acknowledged as the
+/// round began; and the peer's reader reads all that had come in order then.
+pub fn each_round_writes_and_reads()
+    ensures writes { EachRoundWrites }
+    ensures reads { EachRoundReads }
+{}
+
+/// A law: where nothing is to be mended, all that an open end sent comes within four rounds (`brought`), and as soon the end is told how far the peer
+/// was (`told`); so the peer's reader reads a full segment more in twelve rounds (`read`), or all of the stream.
+///
+/// It is said of a mild connection over one path with segments of 1,460 octets at most, between moments at which the path is open, whose records stay
+/// well and whose ends are told soon. For `read` nothing is to be mended as the rounds begin and after seven of them, the congestion window
+/// holds two full segments then, and what the peer could tell of the stream is heard in the first five: the Data ACK, and a window that takes a full
+/// segment. Then come a round in which the application writes, one in which the end sends, four in which that comes, and one in which it is read.
+pub fn a_segment_is_read()
+    ensures brought { FourRoundsBring }
+    ensures told { FourRoundsTell }
+    ensures read { ASegmentIsRead }
+{}
+
+/// A law: where nothing is to be mended, and all of a stream is read, the peer's side knows where it ends in eleven rounds (RFC 8684, section 3.3.3).
+///
+/// It is said of a mild connection over one path, between moments at which the path is open, whose ends are told soon, and where all of the stream is
+/// acknowledged in the first five rounds. Then it is closed in the next one, and in the one after that its end sends the DATA_FIN, or the
+/// peer's side knows the end. That the DATA_FIN which is sent so comes in four more rounds is a premise.
+pub fn an_end_is_told()
+    ensures { AnEndIsTold }
+{}
+
+/// A law: in thirteen rounds in which nothing is to be mended a stream goes on by a full segment or by its end, or both streams are all there.
+///
+/// It is said of any way in which all is well: nothing of path 0 is to be mended then, and both congestion windows hold two full segments. A wait
+/// for such rounds begins with each of them, and it goes on by each turn as long as all is well. What the peer could tell is heard in
+/// five rounds, and a DATA_FIN comes in four: these are premises.
+pub fn a_unit_is_made()
+    ensures waits { ShortWaitsGoOn }
+    ensures made { AUnitIsMade }
 {}
 
 /// A law: where no line of a script speaks of a direction, each segment of a path that is harmed uses a line by which one is lost or late.

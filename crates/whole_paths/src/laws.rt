@@ -139,7 +139,7 @@ pub fn each_gain_counts()
 /// A law: no timer of a path ever waits for more than a minute (RFC 6298, section 2).
 ///
 /// At every moment each timer that runs, at either end of each path, runs out 60,000 ticks after the path's tick at most; a timeout is
-/// never below 1,000 ticks, nor above 60,000; and the tick isn't past the end of the round.
+/// never below 1,000 ticks, nor above 60,000; and the tick lies before the end of the round.
 pub fn timers_run_out()
     ensures octets { Always octets (λ start w. TimersRunOut w) }
     ensures values { Always values (λ start w. TimersRunOut w) }
@@ -695,7 +695,7 @@ pub fn no_side_is_stopped()
     ensures { NoSideIsStopped }
 {}
 
-/// A law: with checksums, up to the end of the first record of data of an end of path 0 of a mild connection, the mapping at its peer's RCV.NXT
+/// A law: with checksums, up to the end of each record of data of an end of path 0 of a mild connection, the mapping at its peer's RCV.NXT
 /// begins there, and ends there or before.
 ///
 /// So octets that came in order are passed with checksums too, as soon as their record is whole (RFC 8684, section 3.3.1): RCV.NXT stands at the
