@@ -32,6 +32,13 @@ pub mod Duties
 pub mod Exchanges
 pub mod ExpiriesInARow
 pub mod Deaths
+pub mod ComingCopies
+pub mod OwedGoes
+pub mod SetTimers
+pub mod ToldResets
+pub mod OpensAtOnce
+pub mod MildDeaths
+pub mod NoResets
 pub mod FewLosses
 pub mod Finished
 pub mod FinishedThere

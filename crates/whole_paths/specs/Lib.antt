@@ -31,6 +31,10 @@ pub mod Exchanges
 pub mod Expiries
 pub mod ExpiriesInARow
 pub mod Deaths
+pub mod ComingCopies
+pub mod OwedGoes
+pub mod SetTimers
+pub mod MildDeaths
 pub mod Finish
 pub mod Flights
 pub mod GoingOn
