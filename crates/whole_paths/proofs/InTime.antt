@@ -473,14 +473,14 @@ module _ {C : Type 0} where
   passed_same d p = unhappened (side_of d) (writes d) p _ refl (passes_no_more d p)
 
   -- a line is taken, or A joins; neither comes again
-  record Fewer (p q : PathState C) : Type 0 where
-    lines : (q.lines ≡ p.lines) ⊎ (q.lines ≡ tail_of p.lines)
-    joined : (q.joined_at ≡ p.joined_at) ⊎ (q.joined_at ≡ None)
+  pub record Fewer (p q : PathState C) : Type 0 where
+    pub lines : (q.lines ≡ p.lines) ⊎ (q.lines ≡ tail_of p.lines)
+    pub joined : (q.joined_at ≡ p.joined_at) ⊎ (q.joined_at ≡ None)
 
   same_fewer : (p q : PathState C) → Same p q → Fewer p q
   same_fewer p q x = record { lines = inl x.lines; joined = inl x.joined }
 
-  happens_fewer : (k : Codec C) (event : Event) (r : Reply) (p : PathState C) → Fewer p (happens_if k (Some event) r p)
+  pub happens_fewer : (k : Codec C) (event : Event) (r : Reply) (p : PathState C) → Fewer p (happens_if k (Some event) r p)
   happens_fewer k (happenings.Joins tick) r p = by (is_never r)
     where
       q : PathState C

@@ -32,6 +32,8 @@ pub mod Duties
 pub mod Exchanges
 pub mod ExpiriesInARow
 pub mod Deaths
+pub mod FewLossesEnd
+pub mod OpenCopies
 pub mod ComingCopies
 pub mod OwedGoes
 pub mod SetTimers

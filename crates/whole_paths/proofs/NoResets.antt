@@ -392,7 +392,7 @@ pub record Ready (six : SixBooks) (p : PathState Carried) : Type 0 where
 abbrev pub IsUnstopped : PathState Carried → Type 0
 IsUnstopped p = (s : Side) → p.agenda ≡ stops s → ⊥
 
-living_or : (p : PathState Carried) → IsGone p ⊎ ((s : Side) → is_dead (end_at s p).tcp.state ≡ false)
+pub living_or : (p : PathState Carried) → IsGone p ⊎ ((s : Side) → is_dead (end_at s p).tcp.state ≡ false)
 living_or p = by (is_dead p.a.tcp.state) (is_dead p.b.tcp.state) refl refl
   where
     by : (a b : Bool) → is_dead p.a.tcp.state ≡ a → is_dead p.b.tcp.state ≡ b → IsGone p ⊎ ((s : Side) → is_dead (end_at s p).tcp.state ≡ false)

@@ -31,6 +31,7 @@ pub mod Exchanges
 pub mod Expiries
 pub mod ExpiriesInARow
 pub mod Deaths
+pub mod FewLossesEnd
 pub mod ComingCopies
 pub mod OwedGoes
 pub mod SetTimers
