@@ -34,6 +34,15 @@ pub mod Exchanges
 pub mod ExpiriesInARow
 pub mod Deaths
 pub mod Debts
+pub mod FewLossesEnd
+pub mod OpenCopies
+pub mod ComingCopies
+pub mod OwedGoes
+pub mod SetTimers
+pub mod ToldResets
+pub mod OpensAtOnce
+pub mod MildDeaths
+pub mod NoResets
 pub mod FewLosses
 pub mod FinPlaces
 pub mod Finished

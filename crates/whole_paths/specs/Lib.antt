@@ -32,6 +32,11 @@ pub mod Expiries
 pub mod ExpiriesInARow
 pub mod Deaths
 pub mod Debts
+pub mod FewLossesEnd
+pub mod ComingCopies
+pub mod OwedGoes
+pub mod SetTimers
+pub mod MildDeaths
 pub mod Finish
 pub mod Flights
 pub mod GoingOn

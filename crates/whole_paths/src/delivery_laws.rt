@@ -18,6 +18,8 @@ ghost use Rattle.whole_paths.specs.LastFin.{FinsAreLast};
 ghost use Rattle.whole_paths.specs.Mending.{EachRecordStaysWell};
 ghost use Rattle.whole_paths.specs.Mends.{WhatRunsOutIsMended};
 ghost use Rattle.whole_paths.specs.Mild.{IsPromisedMildly, KeysAreKnown, LinksAreMild, MappingIsKept, MildScriptsStartMildly, NeverBreaks};
+ghost use Rattle.whole_paths.specs.MildDeaths.{MildEndsDieOfExpiries};
+ghost use Rattle.whole_paths.specs.OwedGoes.{WhatIsOwedGoes};
 ghost use Rattle.whole_paths.specs.OnePathScripts.{EndsAsItBegins, MildScriptsBeginWithOnePath, OnlyWaysStay, BriefPathsEnd, WaysStay, WhatIsThereInTimeIsDelivered};
 ghost use Rattle.whole_paths.specs.OnlyPaths.{long_patience};
 ghost use Rattle.whole_paths.specs.OpenAsks.{OpenAsksAreInTime, OpenAsksGoOn, OpenEndsHardlyGoAwry};
@@ -75,6 +77,23 @@ pub fn mild_links_change_nothing()
 pub fn mild_scripts_never_break()
     ensures values { IsPromisedMildly values (λ start w. NeverBreaks w) }
     ensures octets { IsPromisedMildly octets (λ start w. NeverBreaks w) }
+{}
+
+/// A law: in a mild connection an end of path 0 dies by its sixth expiry in a row, by the line by which the path dies, or as a side took the
+/// path's address back (RFC 8684, section 3.4.2), as long as its peer lives too.
+///
+/// By each turn by which one of them is dead that both lived before, one of these came next. Nothing else kills one: no reset is under way
+/// between two ends that live, none is refused, and no mapping clashes or is missing.
+pub fn mild_ends_die_of_expiries()
+    ensures { MildEndsDieOfExpiries }
+{}
+
+/// A law: as long as both ends of path 0 of a mild connection live, what an end owes its peer goes: an acknowledgement of what came, at
+/// SND.NXT, or the SYN/ACK (RFC 9293, section 3.10.7.4).
+///
+/// By each turn it is owed still, or the link takes it at the same tick, or an end is dead.
+pub fn what_is_owed_goes()
+    ensures { WhatIsOwedGoes }
 {}
 
 /// A law: in a mild connection over one path no send book is aborted, or given to one path alone, no reassembly book is aborted, and no reader

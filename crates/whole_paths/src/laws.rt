@@ -20,6 +20,7 @@ ghost use Rattle.whole_paths.specs.ClosingAsked.{EachDataFinComes};
 ghost use Rattle.whole_paths.specs.ClosingFin.{EachFinIsPassed};
 ghost use Rattle.whole_paths.specs.ClosingKnown.{EachEndIsToldFirst, WhatIsHeardIsWanted, WhoHeardTheEndKnowsIt};
 ghost use Rattle.whole_paths.specs.ClosingOwed.{WhatWantsAnAnswerIsOwedOne};
+ghost use Rattle.whole_paths.specs.ComingCopies.{EachCopyThatComesCounts};
 ghost use Rattle.whole_paths.specs.Copies.{CopiesLeaveByArriving};
 ghost use Rattle.whole_paths.specs.DataAcks.{EachSegmentHasADataAck};
 ghost use Rattle.whole_paths.specs.DataAcksAsked.{WhatIsAskedComes};
@@ -40,7 +41,7 @@ ghost use Rattle.whole_paths.specs.Flights.{WhatWaitsComes};
 ghost use Rattle.whole_paths.specs.Harms.{EachUsesALineOrComes, PlainDirectionsHandOnAtOnce};
 ghost use Rattle.whole_paths.specs.Hearing.{EachAcknowledgementCounts};
 ghost use Rattle.whole_paths.specs.InHand.{WhatIsInHandIsAcknowledged};
-ghost use Rattle.whole_paths.specs.InTime.{NothingIsOverdue};
+ghost use Rattle.whole_paths.specs.InTime.{EventsComeInOrder, NothingIsOverdue};
 ghost use Rattle.whole_paths.specs.Kept.{WhatWaitsIsKept};
 ghost use Rattle.whole_paths.specs.KnownEnds.{EndsAreKnown, WhatIsClosedIsAcknowledged};
 ghost use Rattle.whole_paths.specs.KnownModes.{EndsKnowWhatWas, NoEndKnowsOfAFallback};
@@ -64,6 +65,7 @@ ghost use Rattle.whole_paths.specs.SentAgain.{EachExpirySendsAllAgain};
 ghost use Rattle.whole_paths.specs.Saying.{EachSegmentSaysWhatCame};
 ghost use Rattle.whole_paths.specs.Sent.{WhatCameWasSent};
 ghost use Rattle.whole_paths.specs.SentByTurns.{EachTurnSendsOneAtMost};
+ghost use Rattle.whole_paths.specs.SetTimers.{EachTimerRunsForASecond};
 ghost use Rattle.whole_paths.specs.Shut.{WhatIsLeftIsPastTheEdge};
 ghost use Rattle.whole_paths.specs.SynAcks.{EachSynAckIsAnswered};
 ghost use Rattle.whole_paths.specs.Syns.{EachSynComes};
@@ -202,6 +204,27 @@ pub fn each_record_goes_alone()
 pub fn each_expiry_sends_all_again()
     ensures octets { EachExpirySendsAllAgain octets }
     ensures values { EachExpirySendsAllAgain values }
+{}
+
+/// A law: an acceptable copy that comes ends the expiries in a row of its end (RFC 6298, section 5), and one that lies outside the window, is a
+/// SYN, or acknowledges what wasn't sent, is owed an acknowledgement in its turn, or the SYN/ACK (RFC 9293, section 3.10.7.4).
+pub fn each_copy_that_comes_counts()
+    ensures { EachCopyThatComesCounts }
+{}
+
+/// A law: a timer that is set runs for a second at least (RFC 6298, section 2, rule 2.4).
+///
+/// By each turn the timer of an end runs on to its tick, or to one that is 1,000 ticks past the clock at least; or it doesn't run.
+pub fn each_timer_runs_for_a_second()
+    ensures octets { EachTimerRunsForASecond octets }
+    ensures values { EachTimerRunsForASecond values }
+{}
+
+/// A law: what comes next on a path is the earliest of all that waits to happen there: of its lines, of the copies under way, of both timers,
+/// and of a join.
+pub fn events_come_in_order()
+    ensures octets { EventsComeInOrder octets }
+    ensures values { EventsComeInOrder values }
 {}
 
 /// A law: an end dies by the sixth expiry in a row, by the line by which its path dies, by a reset that counts (RFC 9293, section
