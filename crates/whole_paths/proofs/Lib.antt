@@ -138,3 +138,13 @@ pub mod FirstPieces
 pub mod WholeMappings
 pub mod ReadModes
 pub mod NeverAborted
+pub mod UnderWay
+pub mod ByTurns
+pub mod Rising
+pub mod Early
+pub mod EarlySegments
+pub mod Handshaking
+pub mod FirstSigns
+pub mod SignWaits
+pub mod OpeningCourses
+pub mod OpeningEnds

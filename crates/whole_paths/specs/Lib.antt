@@ -99,3 +99,7 @@ pub mod FirstPieces
 pub mod WholeMappings
 pub mod ReadModes
 pub mod NeverAborted
+pub mod Rising
+pub mod FirstSigns
+pub mod SignWaits
+pub mod OpeningCourses
