@@ -172,3 +172,13 @@ pub mod SegmentRounds
 pub mod ReadSegments
 pub mod EndRounds
 pub mod UnitRounds
+pub mod UnderWay
+pub mod ByTurns
+pub mod Rising
+pub mod Early
+pub mod EarlySegments
+pub mod Handshaking
+pub mod FirstSigns
+pub mod SignWaits
+pub mod OpeningCourses
+pub mod OpeningEnds

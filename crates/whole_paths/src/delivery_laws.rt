@@ -12,6 +12,8 @@ ghost use Rattle.whole_paths.specs.EndedStreams.{WhatEndedIsAcknowledged};
 ghost use Rattle.whole_paths.specs.Finish.{HarmsUseLines, BriefPathsDeliver};
 ghost use Rattle.whole_paths.specs.FirstLost.{LostRecordsAreAwaited, LostRecordsAreMended};
 ghost use Rattle.whole_paths.specs.GoingOn.{RoundsBeginToGoOn, RoundsGoOn, StepsLetItGoOn};
+ghost use Rattle.whole_paths.specs.FirstSigns.{EachFirstSignComes};
+ghost use Rattle.whole_paths.specs.GoingOn.{EndsGoOn, RoundsBeginToGoOn, RoundsGoOn, StepsLetItGoOn};
 ghost use Rattle.whole_paths.specs.Halted.{WhoHaltsGoesOnHalting};
 ghost use Rattle.whole_paths.specs.Lanes.Laws.{LossyLanesEnd, LossyLanesFinish};
 ghost use Rattle.whole_paths.specs.LastFin.{FinsAreLast};
@@ -23,8 +25,13 @@ ghost use Rattle.whole_paths.specs.OwedGoes.{WhatIsOwedGoes};
 ghost use Rattle.whole_paths.specs.OnePathScripts.{EndsAsItBegins, MildScriptsBeginWithOnePath, OnlyWaysStay, BriefPathsEnd, WaysStay, WhatIsThereInTimeIsDelivered};
 ghost use Rattle.whole_paths.specs.OnlyPaths.{long_patience};
 ghost use Rattle.whole_paths.specs.OpenAsks.{OpenAsksAreInTime, OpenAsksGoOn, OpenEndsHardlyGoAwry};
+ghost use Rattle.whole_paths.specs.OnePathScripts.{for_all_news, EndsAsItBegins, MildScriptsBeginWithOnePath, OnlyWaysStay, BriefPathsEnd, WaysStay, WhatIsThereInTimeIsDelivered};
+ghost use Rattle.whole_paths.specs.OpenAsks.{OpenAsksAreInTime, OpenAsksGoOn, OpenEndsHardlyGoAwry};
+ghost use Rattle.whole_paths.specs.OnlyPaths.{long_patience, news_within};
+ghost use Rattle.whole_paths.specs.OverOctets.{FewLossesFinishAsOverValues, OctetsAreAsFarAsValues, OnePathEndsAsOverValues, BriefPathsDeliverAsOverValues, WholePathsDeliverAsOverValues};
 ghost use Rattle.whole_paths.specs.OpenCourses.{WhatHoldsUpCounts};
-ghost use Rattle.whole_paths.specs.OpeningWaits.{EndsOpenOrArePast, OpeningsAreAwaited};
+ghost use Rattle.whole_paths.specs.OpeningCourses.{DeliversWithin, OpensWithin};
+ghost use Rattle.whole_paths.specs.OpeningWaits.{EndsOpenOrArePast, LivingEndsOpenOrArePast, OpeningsAreAwaited};
 ghost use Rattle.whole_paths.specs.Outstanding.{WhatIsOutstandingIsAwaited};
 ghost use Rattle.whole_paths.specs.OverOctets.{FewLossesFinishAsOverValues, OctetsAreAsFarAsValues, OnePathEndsAsOverValues, BriefPathsDeliverAsOverValues, WholePathsDeliverAsOverValues};
 ghost use Rattle.whole_paths.specs.Overruns.{NoEndOverruns};
@@ -37,6 +44,7 @@ ghost use Rattle.whole_paths.specs.SenderWaits.{SendersAreAwaited};
 ghost use Rattle.whole_paths.specs.SentInOrder.{EachIsSentInOrder};
 ghost use Rattle.whole_paths.specs.ShutWaits.{ShutWindowsOpenInTime};
 ghost use Rattle.whole_paths.specs.ShutWindows.{ShutWindowsHaveRoom};
+ghost use Rattle.whole_paths.specs.SignWaits.{FirstSignsAreAwaited};
 ghost use Rattle.whole_paths.specs.StayingWhole.{WholePathsStayWhole};
 ghost use Rattle.whole_paths.specs.Straying.{OpenEndsHardlyStray, SendersHardlyStray, WholePathsAreOpen};
 ghost use Rattle.whole_paths.specs.Unmended.{HarmsAloneLoseRecords};
@@ -260,16 +268,36 @@ pub fn senders_are_awaited()
     ensures { SendersAreAwaited }
 {}
 
+/// A law: B's DATA_FIN comes to A on path 0 of a mild connection, whatever is lost, where B has no record, and shows A its first DSS, by which A
+/// may send one (RFC 8684, sections 3.1 and 3.3.3).
+///
+/// As a turn is over, B may send a DSS, and its DATA_FIN isn't acknowledged, such a copy is on its way to A's RCV.NXT, for a minute and the
+/// longest time that a segment is under way, or what counts comes between; it is never late.
+pub fn each_first_sign_comes()
+    ensures { EachFirstSignComes }
+{}
+
+/// A law: a wait for the first sign of Multipath TCP goes on on path 0 of a mild connection, while no end of it is dead, until something is
+/// counted, and it is never late (RFC 8684, section 3.1).
+///
+/// B is to hear both keys, by A's first piece (`each_first_piece_comes`), or A its first DSS, by B's DATA_FIN (`each_first_sign_comes`); where B
+/// has a record that is awaited (`senders_are_awaited`). As a round is over the wait begins, for a minute and the longest time there and back.
+pub fn first_signs_are_awaited()
+    ensures { FirstSignsAreAwaited }
+{}
+
 /// A law: while path 0 of a mild connection opens, and no end of it is dead, a SYN is awaited, or the answer to B's SYN/ACK that comes again,
 /// until something is counted (RFC 9293, section 3.5).
 ///
-/// As a round is over with an end that opens, or B half-open and A past the handshake, the wait begins (`each_syn_comes`, `each_syn_ack_is_answered`), for a minute and
-/// the longest time there and back; it is never late. Where A's end has finished all of its stream is with the peer.
-/// At each moment an end of a path opens so, or both are past the handshake, or A's waits for its tick, or one is past it whose peer hasn't its
-/// SYN (`which`).
+/// As a round is over with an end that opens, or B half-open and A past the handshake, the wait begins (`each_syn_comes`,
+/// `each_syn_ack_is_answered`), for a minute and the longest time there and back; it is never late. Where A's end has finished all of its stream
+/// is with the peer. At each moment an end of a path opens so, or both are past the handshake, or A's waits for its tick, or one is past it whose
+/// peer hasn't its SYN (`which`). On path 0, while neither of its ends is dead, an end opens so, or both are past the handshake (`living`): no
+/// end goes further than its peer's SYN lets it.
 pub fn openings_are_awaited()
     ensures waits { OpeningsAreAwaited }
     ensures which { EndsOpenOrArePast }
+    ensures living { LivingEndsOpenOrArePast }
 {}
 
 /// A law: what an open end of the only path of a mild connection asks for, the Data ACK of its DATA_FIN or of a piece (`each_ask_is_answered`),
@@ -367,17 +395,19 @@ pub fn what_is_outstanding_is_awaited()
     ensures { WhatIsOutstandingIsAwaited }
 {}
 
-/// A law: in a mild connection over one path, where nothing is outstanding at an end, it goes on within two rounds, unless all of both
-/// streams is with the peers.
+/// A law: in a mild connection over one path, where nothing is outstanding at an end, it goes on within two rounds, unless all of both streams is
+/// with the peers.
 ///
 /// As a round begins all of both is there, or of a stream not all is (`begins`); steps leave that so (`steps`). As that round ends, or the next
 /// one, with both ends open: more is written or received, a stream was closed, or a side learned where its peer's ends, which counts
 /// (`each_gain_counts`); or something is outstanding at an end, and bytes aren't acknowledged, if that is a window; or all that was written as
-/// the first of the two rounds began is acknowledged, and in the second one more is written, or the stream is closed (`rounds`).
+/// the first of the two rounds began is acknowledged, and in the second one more is written, or the stream is closed (`rounds`). From the side
+/// that goes on, it is enough that its own end is open (`ends`).
 pub fn who_waits_for_nothing_goes_on()
     ensures begins { RoundsBeginToGoOn }
     ensures steps { StepsLetItGoOn }
     ensures rounds { RoundsGoOn }
+    ensures ends { EndsGoOn }
 {}
 
 /// A law: in a mild connection over one path, whenever an end heard that its DATA_FIN is acknowledged, or sent its FIN and isn't dead, its
@@ -455,6 +485,19 @@ pub fn whole_paths_deliver()
     ensures ends_values { BriefPathsEnd values long_patience }
     ensures octets { BriefPathsDeliver octets long_patience }
     ensures values { BriefPathsDeliver values long_patience }
+{}
+
+/// A law: over one path both files are delivered, or an end of the path died, after rounds enough from the beginning of the connection, where its
+/// ends open firmly, however much is lost, late or repeated (`delivers`).
+///
+/// After half of these rounds the path is whole, or all of both streams is with the peers, or an end died (`opens`). That the ends open firmly is
+/// a premise: A may send a DSS only once B may, and where A's end has finished, or all of B's stream is with A, A may; A's first piece waits
+/// until B may send one; and until A may, an end of B's without a record was granted nothing and knows of no shut window (RFC 8684, section 3.1).
+/// It is said of mild connections over one path with buffers of 4,096 octets at least, over segments as values, and of fewer than 2^64 - 1 turns.
+/// Enough rounds are as many as in `whole_paths_deliver`, twice.
+pub fn firm_openings_deliver()
+    ensures opens { OpensWithin (for_all_news news_within) }
+    ensures delivers { DeliversWithin (for_all_news news_within) }
 {}
 
 /// A law: on a lane that loses segments all is acknowledged, or the end gave up, after five rounds or so for each segment and two

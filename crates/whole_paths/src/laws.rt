@@ -60,6 +60,7 @@ ghost use Rattle.whole_paths.specs.Reasons.{WhoWaitsHasATimer};
 ghost use Rattle.whole_paths.specs.RecordsGo.{EachRecordGoesAlone};
 ghost use Rattle.whole_paths.specs.Received.{HoldsOfOnlyPaths, WhatIsGrantedIsReceived, WhatIsPassedIsPlaced, WhatIsPassedIsReceived};
 ghost use Rattle.whole_paths.specs.Room.{WhoIsDoneMayAsk};
+ghost use Rattle.whole_paths.specs.Rising.{EndsOpenByCopies};
 ghost use Rattle.whole_paths.specs.Running.{TimersRunOn};
 ghost use Rattle.whole_paths.specs.SentAgain.{EachExpirySendsAllAgain};
 ghost use Rattle.whole_paths.specs.Saying.{EachSegmentSaysWhatCame};
@@ -739,6 +740,14 @@ pub fn copies_arrive_as_sent()
 pub fn ends_go_by_the_handshake()
     ensures octets { EndsGoByTheHandshake octets }
     ensures values { EndsGoByTheHandshake values }
+{}
+
+/// A law: by whatever turns, an end that isn't past the handshake stays in its state, or is dead, or a copy comes to it that takes it further:
+/// the SYN to a listening end, the SYN/ACK to the one that sent its SYN, or a segment that is taken (RFC 9293, section 3.10.7). On a path that
+/// joins, that may be the answer of the control book.
+pub fn ends_open_by_copies()
+    ensures octets { EndsOpenByCopies octets }
+    ensures values { EndsOpenByCopies values }
 {}
 
 /// A law: the SYN of A on path 0 comes to B while that listens, and the SYN/ACK of B to A while A waits for it, whatever is lost: an end goes
