@@ -177,8 +177,9 @@ module _ {C : Type 0} where
   next_runs : (p : PathState C) → TimersAreNear p → (s : Side) → RunsForASecond s p (next_round p)
   next_runs p h s =
       let since : Since x (next_round p) = begins_lasts (λ p q. Since p q) since_lasts x in
+      let up : p.clock ≤ p.until = (let early = h.clock in omega (arith, early)) in
       subst (λ o. IfSome (Timer s (next_round p)) (λ tick. (o ≡ Some tick) ⊎ ((next_round p).clock + 1000 ≤ tick))) (same s)
-      (since.runs (record { clock = omega arith; a = later p.clock p.until p.a.tcp.timing h.clock h.a; b = later p.clock p.until p.b.tcp.timing h.clock h.b }) s)
+      (since.runs (record { clock = omega arith; a = later p.clock p.until p.a.tcp.timing up h.a; b = later p.clock p.until p.b.tcp.timing up h.b }) s)
     where
       x : PathState C
       x = record p { clock = p.until; until = p.until + 100 }
