@@ -21,7 +21,7 @@ use Rattle.control_book.specs.declared.call.ControlCall.{ControlCall}
 use Rattle.control_book.specs.Calls.{can_ask}
 use Rattle.control_book.specs.Control.{Control}
 use Rattle.control_book.specs.Replies as control
-use Rattle.linked_increase.specs.Places.{row_of}
+use Rattle.linked_increase.specs.Paths.{row_of}
 use Rattle.control_book.specs.Laws.{RowsAreRight}
 use Rattle.control_book.proofs.RowsRight.{right_once, rows_stay_right, rows_can_grow}
 use Rattle.actor_desk.specs.declared.ask.Ask.{Ask}

@@ -22,14 +22,14 @@ impl Ask {
 }
 
 impl Reply {
-    /// An equal reply. It takes memory only for bytes that are granted or read.
+    /// An equal reply. It takes memory only for bytes that are granted or read, and for rows.
     pub fn copy(&self) -> Result<Reply, AllocError>
         ensures { IfOk result (λ copy. copy ≡ self.now) }
     {
         match self {
             Reply::Send(reply) => Ok(Reply::Send(reply.copy()?)),
             Reply::Reassembly(reply) => Ok(Reply::Reassembly(reply.copy()?)),
-            Reply::Control(reply) => Ok(Reply::Control(*reply)),
+            Reply::Control(reply) => Ok(Reply::Control(reply.copy()?)),
             Reply::Done => Ok(Reply::Done),
         }
     }

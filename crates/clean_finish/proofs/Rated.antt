@@ -2,7 +2,7 @@
 use Rattle.clean_finish.proofs.Words.{◌≡◌, refl, sym, subst, ap, ◌∙◌, ℕ, ◌+◌, ◌≤◌, false, inl, Option, None, List, ◌∷◌, arith, Some, IfSome, Side, peer}
 use Rattle.clean_finish.proofs.Words.{Control, after_rate, RegistryPath, with_row, Congestion, grown_by, after_growth, Told, Grows, same_grows, ack_grows, Duty}
 use Rattle.clean_finish.proofs.Words.{AskDuty, Profile, PathEnd, Setting, Lane, EndIs, last_told, row_seen, ControlIs, Keys, dss_from, Facing, Half}
-use Rattle.linked_increase.specs.Places.{row_of}
+use Rattle.linked_increase.specs.Paths.{row_of}
 use Rattle.loss_recovery.specs.declared.windows.Pending.{Pending}
 use Rattle.clean_finish.proofs.Passing.{free_drops}
 

@@ -3,7 +3,7 @@ use Rattle.std.specs.Prelude.{ℕ, ◌==◌, Bool, true, false, not, ◌&&◌, �
 use Rattle.key_material.specs.declared.address.Address.{Address}
 use Rattle.key_material.specs.KeyDigest.{token_of}
 use Rattle.key_material.specs.AddressHmac.{add_addr64_of}
-use Rattle.linked_increase.specs.Places.{row_of}
+use Rattle.linked_increase.specs.Paths.{row_of}
 use Rattle.fallback_state.specs.declared.fall.Mode.{Mode}
 use Rattle.fallback_state.specs.declared.fall.Mode.TheVariants as mode
 use Rattle.fallback_state.specs.declared.fall.Event.{Event}

@@ -1,6 +1,6 @@
 -- What each call changes in a side's control book: one definition for each.
 use Rattle.std.specs.Prelude.{ℕ, ◌==◌, Bool, true, false, not, ◌&&◌, ◌||◌, if◌then◌else◌, List, [], ◌∷◌, Some, None, is_some, fold, slice_set}
-use Rattle.linked_increase.specs.Places.{row_of}
+use Rattle.linked_increase.specs.Paths.{row_of}
 use Rattle.key_material.specs.declared.address.Address.{Address}
 use Rattle.key_material.specs.declared.address.Address.TheVariants.{V4}
 use Rattle.key_material.specs.KeyDigest.{token_of}

@@ -40,6 +40,7 @@ pub struct Notices {
 /// The control book of one side.
 #[derive(Drop)]
 pub struct ControlBook {
+    alloc: Global,
     /// Which side this is.
     side: Side,
     /// Its key, and the peer's.
@@ -81,6 +82,7 @@ impl ControlBook {
         ensures { IfOk result (λ book. book ≡ new_control side key) }
     {
         Ok(ControlBook {
+            alloc,
             side,
             keys: Keys {
                 own: key,
@@ -202,10 +204,11 @@ impl ControlBook {
         ControlReply::Fallen(self.fall.mode)
     }
 
-    fn rate_reply(&self, path: u8, window: u32, rtt: u32) -> ControlReply
-        ensures { result ≡ rate_reply path window rtt self.now }
+    fn rate_reply(&self, path: u8, window: u32, rtt: u32) -> Result<ControlReply, AllocError>
+        ensures { IfOk result (λ reply. reply ≡ rate_reply path window rtt self.now) }
     {
-        ControlReply::Rows(rows_with(&self.paths, Row { path, window, rtt }))
+        let rows = rows_with(self.alloc, &self.paths, Row { path, window, rtt })?;
+        Ok(ControlReply::Rows(rows))
     }
 
     fn is_right(&self, id: u8, address: &Address, port: u16, hmac: u64) -> bool
@@ -406,24 +409,24 @@ impl ControlBook {
     ghost use Rattle.control_book.specs.Steps.{after};
 
     /// What the call is answered.
-    fn reply(&self, call: &ControlCall) -> ControlReply
-        ensures { result ≡ reply_to self.now call.now }
+    fn reply(&self, call: &ControlCall) -> Result<ControlReply, AllocError>
+        ensures { IfOk result (λ reply. reply ≡ reply_to self.now call.now) }
     {
         match *call {
-            ControlCall::Look { path } => self.look_reply(path),
-            ControlCall::Keys { own, .. } => self.keys_reply(own),
-            ControlCall::Fell { path, event } => self.fell_reply(path, event),
-            ControlCall::JoinBegin { .. } => self.join_begin_reply(),
-            ControlCall::JoinHeard { token, .. } => self.join_heard_reply(token),
+            ControlCall::Look { path } => Ok(self.look_reply(path)),
+            ControlCall::Keys { own, .. } => Ok(self.keys_reply(own)),
+            ControlCall::Fell { path, event } => Ok(self.fell_reply(path, event)),
+            ControlCall::JoinBegin { .. } => Ok(self.join_begin_reply()),
+            ControlCall::JoinHeard { token, .. } => Ok(self.join_heard_reply(token)),
             ControlCall::Rate { path, window, rtt } => self.rate_reply(path, window, rtt),
             ControlCall::Heard {
                 id,
                 address,
                 port,
                 hmac,
-            } => self.address_reply(id, address, port, hmac),
-            ControlCall::FastHeard { key } => self.fast_heard_reply(key),
-            _ => ControlReply::Noted,
+            } => Ok(self.address_reply(id, address, port, hmac)),
+            ControlCall::FastHeard { key } => Ok(self.fast_heard_reply(key)),
+            _ => Ok(ControlReply::Noted),
         }
     }
 
@@ -483,11 +486,21 @@ impl Book for ControlBook {
     }
 
     fn answer(&self, call: &ControlCall) -> Result<ControlReply, AllocError> {
-        Ok(self.reply(call))
+        self.reply(call)
     }
 
     fn apply(&mut self, call: &ControlCall) -> Result<ControlReply, AllocError> {
-        let reply = self.reply(call);
+        let reply = self.reply(call)?;
+        self.change(call)?;
+        Ok(reply)
+    }
+
+    fn apply_answered(
+        &mut self,
+        call: &ControlCall,
+        answered: &ControlReply,
+    ) -> Result<ControlReply, AllocError> {
+        let reply = answered.copy()?;
         self.change(call)?;
         Ok(reply)
     }

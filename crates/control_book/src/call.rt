@@ -1,6 +1,9 @@
+ghost use Rattle.std.specs.Prelude.{◌≡◌, IfOk};
+
 use fallback_state::{Event, Mode, Verdict};
 use key_material::Address;
 use linked_increase::Rows;
+use std::alloc::AllocError;
 
 /// What the control book of a side can be asked. A path is its number, below 16.
 #[derive(Clone, Copy)]
@@ -98,7 +101,7 @@ pub enum Notice {
 }
 
 /// What the control book answers.
-#[derive(Clone, Copy)]
+#[derive(Drop)]
 pub enum ControlReply {
     /// To a look: how the side stands, whether the path is granted nothing as another one is no backup, whether no other
     /// path lives or opens, and the path's notice.
@@ -147,4 +150,40 @@ pub enum ControlReply {
     OtherKey {
         own: u64,
     },
+}
+
+impl ControlReply {
+    /// An equal reply. It takes memory only for rows.
+    pub fn copy(&self) -> Result<Self, AllocError>
+        ensures { IfOk result (λ copy. copy ≡ self.now) }
+    {
+        Ok(match *self {
+            ControlReply::Standing {
+                mode,
+                standby,
+                sole,
+                notice,
+            } => ControlReply::Standing {
+                mode,
+                standby,
+                sole,
+                notice,
+            },
+            ControlReply::Noted => ControlReply::Noted,
+            ControlReply::KeysDiffer { own } => ControlReply::KeysDiffer { own },
+            ControlReply::Verdict(verdict) => ControlReply::Verdict(verdict),
+            ControlReply::Begin { own, peer } => ControlReply::Begin { own, peer },
+            ControlReply::NotYet => ControlReply::NotYet,
+            ControlReply::Never(mode) => ControlReply::Never(mode),
+            ControlReply::UnknownToken { own } => ControlReply::UnknownToken { own },
+            ControlReply::NotConfirmed => ControlReply::NotConfirmed,
+            ControlReply::Fallen(mode) => ControlReply::Fallen(mode),
+            ControlReply::Rows(ref rows) => ControlReply::Rows(rows.copy()?),
+            ControlReply::Echo => ControlReply::Echo,
+            ControlReply::BadHmac => ControlReply::BadHmac,
+            ControlReply::Known => ControlReply::Known,
+            ControlReply::Stopped => ControlReply::Stopped,
+            ControlReply::OtherKey { own } => ControlReply::OtherKey { own },
+        })
+    }
 }

@@ -1,11 +1,12 @@
 //! The paths of a side: which of them live, which are to be told what.
-ghost use Rattle.std.specs.Prelude.{◌≡◌, ◌+◌, ◌<◌, ◌≤◌, ◌∷◌, [], ◌++◌, length, IfSome, slice_set};
+ghost use Rattle.std.specs.Prelude.{◌≡◌, ◌+◌, ◌<◌, ◌≤◌, ◌∷◌, [], ◌++◌, length, IfSome, IfOk, slice_set};
 ghost use Rattle.std.specs.List.{list_any, filter_map};
 ghost use Rattle.control_book.specs.Registry.{every_path, idle, is_living, is_standing, state_of, lives, stands, stands_beside, sole, lowest_living, serves_beside, standby, told_row, rows_with, with_phase, with_row, with_removed, opening_paths};
 
 use address_manager::AddressManager;
 use key_material::Address;
 use linked_increase::{Row, Rows};
+use std::alloc::{AllocError, Global};
 
 /// How far a path is.
 #[derive(Clone, Copy)]
@@ -171,24 +172,29 @@ fn told_row(paths: &[PathState], came: Row, path: u8) -> Option<Row>
 }
 
 /// The rows of all living paths, and the one that just came.
-pub(crate) fn rows_with(paths: &[PathState], came: Row) -> Rows
-    ensures { result ≡ rows_with paths.now came }
+pub(crate) fn rows_with(alloc: Global, paths: &[PathState], came: Row) -> Result<Rows, AllocError>
+    ensures { IfOk result (λ rows. rows ≡ rows_with paths.now came) }
 {
-    rows_among(paths, came, &every_path())
+    rows_among(alloc, paths, came, &every_path())
 }
 
 /// The rows of the living paths among these, and the one that just came.
-fn rows_among(paths: &[PathState], came: Row, among: &[u8]) -> Rows
+fn rows_among(
+    alloc: Global,
+    paths: &[PathState],
+    came: Row,
+    among: &[u8],
+) -> Result<Rows, AllocError>
     requires { length among.now ≤ 16 }
-    ensures { result ≡ filter_map (told_row paths.now came) among.now }
+    ensures { IfOk result (λ rows. rows ≡ filter_map (told_row paths.now came) among.now) }
 {
-    let mut rows = Rows::new();
+    let mut rows = Rows::new(alloc);
     for path in among {
         if let Some(row) = told_row(paths, came, *path) {
-            rows.push(row);
+            rows.push(row)?;
         }
     }
-    rows
+    Ok(rows)
 }
 
 /// Puts the path into another phase.

@@ -1,4 +1,3 @@
-pub mod Padding
 pub mod RowsEquality
 pub mod Fractions
 pub mod Leading

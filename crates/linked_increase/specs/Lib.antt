@@ -1,4 +1,3 @@
-pub mod Places
 pub mod Fraction
 pub mod Paths
 pub mod Exact

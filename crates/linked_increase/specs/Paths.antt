@@ -4,6 +4,10 @@ use Rattle.std.specs.List.{reduce}
 use Rattle.linked_increase.specs.declared.rows.Row.{Row}
 use Rattle.linked_increase.specs.Fraction.{Fraction, ratio, IsAtMost, is_below, is_level}
 
+-- the row of these numbers
+abbrev pub row_of : ℕ → ℕ → ℕ → Row
+row_of path window rtt = record { path = path; window = window; rtt = rtt }
+
 -- a row that can be linked: a window of at most 2^20 octets, a round-trip time of at most a minute
 pub record IsInRange (row : Row) : Type 0 where
   pub some_window : 0 < row.window

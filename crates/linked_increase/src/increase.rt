@@ -26,8 +26,7 @@ pub fn alpha(rows: &Rows) -> u128
     ensures at_least { floor_of (times (whole 512) (exact_alpha rows.now)) ≤ result }
     ensures bound { result ≤ 2 ^ 53 }
 {
-    let listed = rows.listed();
-    let rows = listed.as_slice();
+    let rows = rows.listed();
     let lead = leader(rows).unwrap();
     let sum = u128::from(scaled_sum(lead, rows));
     ALPHA_SCALE * u128::from(total(rows)) * u128::from(lead.window) / (sum * sum)
@@ -46,7 +45,7 @@ pub fn growth(row: &Row, rows: &Rows, mss: u32, acked: u32) -> u32
 {
     let octets = acked * mss;
     let alone = u128::from(octets / row.window);
-    let total = total(rows.listed().as_slice());
+    let total = total(rows.listed());
     let linked = alpha(rows) * u128::from(octets) / (u128::from(total) * ALPHA_SCALE);
     linked.min(alone) as u32
 }

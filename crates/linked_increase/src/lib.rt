@@ -2,8 +2,8 @@
 //! connection, so that no path takes more than a connection of its own would.
 //!
 //! The definitions are the RFC's formula in exact fractions, and beside it the form in integers that is computed. The
-//! laws say how far the two are apart. Windows are octets, round-trip times ticks of one millisecond. Nothing here
-//! takes memory.
+//! laws say how far the two are apart. Windows are octets, round-trip times ticks of one millisecond. Only lists of
+//! rows take memory.
 #![tactic(auto)]
 
 mod increase;

@@ -1,7 +1,7 @@
 //! What is known of the paths of a connection: a row for each.
-ghost use Rattle.std.specs.Prelude.{◌≡◌, ◌<◌, ◌≤◌, ◌*◌, ◌↔◌, IsTrue, ◌==◌, [], ◌∷◌, ◌++◌, length, slice_index_or};
+ghost use Rattle.std.specs.Prelude.{◌≡◌, ◌<◌, ◌≤◌, ◌*◌, ◌↔◌, IsTrue, ◌==◌, [], ◌∷◌, ◌++◌, length, IfOk, OnOk, OnErr};
 
-use arrayvec::ArrayVec;
+use std::alloc::{AllocError, Global};
 use std::marker::Model;
 
 /// The most rows that are linked.
@@ -58,56 +58,30 @@ impl Row {
     }
 }
 
-/// At most [`MAX_ROWS`] rows, which lie in the value itself: each number of a row in a list of its own, so that they take
-/// 148 octets.
-#[derive(Clone, Copy)]
+/// At most [`MAX_ROWS`] rows. Contracts see their list.
+#[derive(Drop)]
 pub struct Rows {
-    /// The paths of the rows, and behind them zeros.
-    paths: [u8; MAX_ROWS],
-    /// Their windows, and behind them zeros.
-    windows: [u32; MAX_ROWS],
-    /// Their round-trip times, and behind them zeros.
-    rtts: [u32; MAX_ROWS],
-    /// How many rows there are.
-    len: u8,
+    rows: Vec<Row>,
 }
 
 impl Model for Rows {
-    ghost use Rattle.std.specs.Prelude.{List, length, map, take};
+    ghost use Rattle.std.specs.Prelude.{◌≤◌, List, length};
     ghost use Rattle.linked_increase.specs.declared.rows.Row.{Row};
-    ghost use Rattle.linked_increase.specs.Places.{ArePadded, path_in, window_in, rtt_in, rows_of, padded, padded_paths, padded_windows, padded_rtts, padded_len};
 
     ghost Value = { List Row };
 
-    ghost view = { λ r. take r.len (rows_of r.paths r.windows r.rtts) };
+    ghost view = { λ r. r.rows.items };
 
-    ghost invariant = { λ r. ArePadded r.paths r.windows r.rtts r.len };
-
-    ghost inverse = { λ rows. record {
-      paths = map path_in (padded rows);
-      windows = map window_in (padded rows);
-      rtts = map rtt_in (padded rows);
-      len = length rows;
-    } };
-
-    ghost inverse_ok = { λ r is i. record {
-      paths = padded_paths r.paths r.windows r.rtts r.len is i;
-      windows = padded_windows r.paths r.windows r.rtts r.len is i;
-      rtts = padded_rtts r.paths r.windows r.rtts r.len is i;
-      len = padded_len r.paths r.windows r.rtts r.len is i;
-    } };
+    ghost invariant = { λ r. length r.rows.items ≤ 16 };
 }
 
 impl Rows {
-    /// No row.
-    pub fn new() -> Self
+    /// No row, which takes no memory.
+    pub fn new(alloc: Global) -> Self
         ensures { result ≡ [] }
     {
         Rows {
-            paths: [0; MAX_ROWS],
-            windows: [0; MAX_ROWS],
-            rtts: [0; MAX_ROWS],
-            len: 0,
+            rows: Vec::new(alloc),
         }
     }
 
@@ -116,7 +90,7 @@ impl Rows {
         ensures count { result ≡ length self.now }
         ensures bound { result ≤ 16 }
     {
-        usize::from(self.len)
+        self.rows.len()
     }
 
     /// Whether there is no row.
@@ -134,40 +108,31 @@ impl Rows {
         self.len() == MAX_ROWS
     }
 
-    /// Appends a row.
-    pub fn push(&mut self, row: Row)
+    /// Appends a row, or changes nothing where there is no memory for it.
+    pub fn push(&mut self, row: Row) -> Result<(), AllocError>
         requires { length self.old < 16 }
-        ensures { self.new ≡ self.old ++ row ∷ [] }
+        ensures ok { OnOk result (self.new ≡ self.old ++ row ∷ []) }
+        ensures err { OnErr result (self.new ≡ self.old) }
     {
-        let place = self.len();
-        self.paths[place] = row.path;
-        self.windows[place] = row.window;
-        self.rtts[place] = row.rtt;
-        self.len += 1;
-    }
-
-    /// The row in a place that is taken.
-    fn row(&self, place: usize) -> Row
-        requires { place < length self.now }
-        ensures { result ≡ slice_index_or self.now place result }
-    {
-        Row {
-            path: self.paths[place],
-            window: self.windows[place],
-            rtt: self.rtts[place],
-        }
+        self.rows.push(row)?;
+        Ok(())
     }
 
     /// The rows, in the order that they were pushed.
-    pub fn listed(&self) -> ArrayVec<Row, MAX_ROWS>
-        ensures value { result.items ≡ self.now }
-        ensures bound { length result.items ≤ 16 }
+    pub fn listed(&self) -> &[Row]
+        ensures value { result.now ≡ self.now }
+        ensures bound { length result.now ≤ 16 }
     {
-        let mut rows = ArrayVec::new();
-        for place in 0..self.len() {
-            rows.push(self.row(place));
-        }
-        rows
+        self.rows.as_slice()
+    }
+
+    /// Equal rows, in memory of their own.
+    pub fn copy(&self) -> Result<Self, AllocError>
+        ensures { IfOk result (λ copy. copy ≡ self.now) }
+    {
+        Ok(Rows {
+            rows: self.rows.clone()?,
+        })
     }
 }
 
@@ -185,7 +150,7 @@ impl PartialEq for Rows {
         ensures value { result ≡ pointwise ⟦<Row as PartialEq>⟧.eq self.now other.now }
         ensures exact { IsTrue result ↔ (self.now ≡ other.now) }
     {
-        self.listed().as_slice() == other.listed().as_slice()
+        self.listed() == other.listed()
     }
 }
 
@@ -195,12 +160,4 @@ impl Eq for Rows {
     ghost use Rattle.std.proofs.Common.{rules};
 
     ghost laws = { lists_equiv (Prim.search (comparing, rules)) };
-}
-
-impl Default for Rows {
-    ghost is_default = { λ rows. rows ≡ [] };
-
-    fn default() -> Self {
-        Self::new()
-    }
 }

@@ -1,39 +1,44 @@
--- What each segment of a trace maps, where its script alters nothing and takes no options away.
-use Rattle.std.proofs.Common.{◌≡◌, refl, sym, ap, ◌∙◌, subst, ℕ, suc, ◌+◌, ◌-◌, ◌≤◌, ◌<◌, Bool, true, false, if◌then◌else◌, Option, Some, None, List, length, length-append, arith}
+-- What each segment of a trace maps and bears, where its script alters nothing and takes no options away: each mapping gives its positions the
+-- places that they have at the end of the run, and each payload the octets of these places.
+use Rattle.std.proofs.Common.{◌≡◌, refl, sym, ap, ◌∙◌, subst, ℕ, suc, ◌+◌, ◌-◌, ◌≤◌, ◌<◌, ◌^◌, Bool, true, false, if◌then◌else◌, Option, Some, None, List, [], ◌++◌, length, length-append, take, drop, arith}
 use Rattle.std.specs.Option.{IfSome}
 use Rattle.std.specs.List.{slice_get}
-use Rattle.std.proofs.lemmas.Option.{slice_get_within}
-use Rattle.std.proofs.lemmas.Bool.{both_ways}
+use Rattle.std.proofs.lemmas.Bool.{both_ways, false≢true}
 use Rattle.actor_desk.specs.Books.{books_in}
 use Rattle.actor_desk.specs.Desk.{SixBooks}
 use Rattle.actor_desk.specs.Words.{pick}
+use Rattle.dss_checksum.specs.Checksum.{dss_checksum}
+use Rattle.judge_rules.specs.Numbers.{first_number}
 use Rattle.octet_text.specs.Prefix.{IsPrefix}
-use Rattle.path_core.specs.DssOut.{place_numbered}
+use Rattle.path_core.specs.DssOut.{bare_mapping, checksum_in, checksum_told, place_numbered}
 use Rattle.path_core.specs.End.{PathEnd}
 use Rattle.path_core.specs.Looking.{first_sends, segment_sent}
 use Rattle.path_core.specs.Octets.{octets}
 use Rattle.path_core.specs.Profile.{Profile}
 use Rattle.path_core.specs.Said.{said_by}
 use Rattle.path_core.specs.Shown.{shown_path}
-use Rattle.path_core.specs.State.{end_at, PathState}
+use Rattle.path_core.specs.State.{end_at, PathState, path_of}
 use Rattle.path_core.specs.Values.{Carried, values}
+use Rattle.path_segments.specs.Options.{relative_number}
+use Rattle.path_segments.specs.Spelled.{PlainSegment}
+use Rattle.path_segments.specs.declared.segment.PathMapping.TheVariants.{Bytes, End, Infinite}
+use Rattle.path_segments.specs.declared.segment.PathMapping.{PathMapping}
 use Rattle.send_book.specs.State.{Sending}
 use Rattle.sides.specs.declared.side.Side.TheVariants.{A, B}
 use Rattle.sides.specs.declared.side.Side.{Side}
 use Rattle.stream_lanes.proofs.Duos.{any_held}
 use Rattle.stream_lanes.proofs.Lists.{in_map}
-use Rattle.stream_lanes.specs.Duo.{Duo, after_events}
+use Rattle.stream_lanes.specs.Duo.{Duo}
 use Rattle.stream_lanes.specs.Holding.{Holds, LaneHolds}
-use Rattle.stream_lanes.specs.Holding.{IsHonest, IsRight}
-use Rattle.stream_lanes.specs.Lane.{Cell, Mapping}
 use Rattle.stream_lanes.specs.Lane.{Lane}
+use Rattle.stream_lanes.specs.Moves.{bytes_of}
 use Rattle.stream_lanes.specs.View.{View, end_of}
 use Rattle.subflow_send.specs.Records.{Record}
 use Rattle.subflow_send.specs.declared.record.RecordKind.TheVariants.{Syn, Data, Fin}
 use Rattle.subflow_send.specs.declared.record.RecordKind.{RecordKind}
-use Rattle.world_laws.proofs.Lanes.Beginning.{each_run_shows}
-use Rattle.world_laws.proofs.Lanes.OfAWorld.{PathThere, WorldShows, plainly, plainly_free, duo_of, first_duo, free_run}
-use Rattle.world_laws.proofs.Lanes.Showing.{EndShows, HasMapping, KindShows, OwnIs}
+use Rattle.world_laws.proofs.Lanes.Answering.{BeginsFirst}
+use Rattle.world_laws.proofs.Lanes.OfAWorld.{Carries as MayCarry, PathIsSteady, PathThere, Reached, WorldShows, plainly, plainly_free, duo_of, free_run}
+use Rattle.world_laws.proofs.Lanes.Showing.{EndShows, HasMapping, IsPiece, IsSummed, KindShows, OwnIs}
 use Rattle.world_laws.proofs.Numbers.EveryTurn.{always_tells}
 use Rattle.world_laws.proofs.Numbers.PathSteps.{PathTells}
 use Rattle.world_laws.proofs.Numbers.TellSmall.{EndTells, RecordKindTells}
@@ -41,6 +46,7 @@ use Rattle.world_laws.proofs.Promises.Made.{run_fresh}
 use Rattle.world_laws.proofs.Whole.Falls.{each_upright}
 use Rattle.world_laws.proofs.Worlds.CastLifting.{each_actor, path_actor, writes_the_files}
 use Rattle.world_laws.proofs.Worlds.Casts.{Walker, walking}
+use Rattle.world_laws.proofs.Worlds.Steady.{always_steady}
 use Rattle.world_laws.specs.Actors.{Actor, ActorCrew}
 use Rattle.world_laws.specs.Fresh.{shown_crew, shown_member}
 use Rattle.world_laws.specs.Laws.{WritesTheFile}
@@ -49,69 +55,98 @@ use Rattle.world_laws.specs.Openings.{Start, path_begins, opened_world}
 use Rattle.world_laws.specs.Promises.{NumbersFit, IsPlain}
 use Rattle.world_laws.specs.Worlds.{WorldState, Turn, world_run}
 use Rattle.world_laws.specs.declared.member.Member.TheVariants.{App, Path}
-use Rattle.own_runs.proofs.Moments.{end_shown, first_same}
-use Rattle.own_runs.proofs.Offering.{AllFine, Anything, EndFine, RecordFine, first_fine_sent}
+use Rattle.own_runs.proofs.Bearing.{Carries, RecordsCarry, first_carries}
+use Rattle.own_runs.proofs.MapPlaces.{bears, first_at, octet_in, place_on, sits, stretch, written_within}
+use Rattle.own_runs.proofs.MapPositions.{Bears, Sit, contents, header}
+use Rattle.own_runs.proofs.Moments.{MemberAlso, PathAlso, WorldAlso, end_shown, first_same}
+use Rattle.own_runs.proofs.Numbered.{whole_so}
+use Rattle.own_runs.proofs.Offering.{AllFine, EndFine, FirstFine, RecordFine, first_fine_sent}
+use Rattle.own_runs.proofs.Own.{own_key}
+use Rattle.own_runs.proofs.Reached.{duo_at, run_reaches}
+use Rattle.own_runs.proofs.SentGrows.{Grows, Longer}
 use Rattle.own_runs.proofs.Speaking.{ToSend}
+use Rattle.own_runs.proofs.Values.{drawn}
 
 -- the octets of a side's file
 abbrev pub file_len : Start → Side → ℕ
 file_len start s = length (pick s start.file_a start.file_b)
 
--- ---- a mapping on a lane
+-- the octet of a place of a side's file
+abbrev pub content : Start → Side → ℕ → ℕ
+content start s = octet_in (pick s start.file_a start.file_b)
 
-module _ (v : View) (n place position len : ℕ) (out : Lane) (holds : LaneHolds v n out) (has : HasMapping out.datas place position len) where
-  abbrev m : Mapping
-  m = has.holds.mapping
+-- ---- by the lanes of the last moment
 
-  right : IsRight out.sent m
-  right =
-      let honest : IsHonest out.alters out.pieces out.sent has.item = holds.bytes.honest.each has.at has.item has.there in
-      subst (λ o. IfSome o (IsRight out.sent)) has.holds.there honest.mapping
+abbrev pub lane_of : Duo → ℕ → Side → Option Lane
+lane_of last path s = slice_get (pick s last.ab.lanes last.ba.lanes) path
 
-  -- the cell of one of its places
-  pub cell_at : (j : ℕ) → j < m.len → (x : Cell) × ((slice_get out.sent (m.pos + j) ≡ Some x) × (x.place ≡ m.place + j))
-  cell_at j below = let found = in_map (λ (x : Cell). x.place) out.sent (m.pos + j) (m.place + j) (right.places j below) in (found.0, (found.1, found.2))
+abbrev pub place_at : Option Lane → ℕ → ℕ
+place_at None p = 0
+place_at (Some l) p = place_on l p
 
-  written_within : 1 ≤ len → place + len ≤ length v.written
-  written_within some =
-      let l = has.holds.is.len_is in let p = has.holds.is.place_is in
-      let last = cell_at (len - 1) (omega (arith, l, some)) in
-      let fits = holds.record_of.cells.each (m.pos + (len - 1)) last.0 last.1.0 in
-      let below = slice_get_within v.written last.0.place last.0.byte fits.byte in
-      let at = last.1.1 in omega (arith, below, at, p, some)
+-- a mapping that was told on such a lane, with the number of place 0
+abbrev MappedOn : (ℕ → ℕ) → ℕ → Option Lane → PathMapping ℕ → Type 0
+MappedOn octet first lane (Bytes place position len fin checksum) =
+    Sit (place_at lane) position place len
+    × IfSome checksum (λ sum. sum ≡ dss_checksum (header first place (relative_number position) len) (contents (λ p. octet (place_at lane p)) position len))
+MappedOn octet first lane (End place checksum) = IfSome checksum (λ sum. sum ≡ dss_checksum (header first place 0 1) [])
+MappedOn octet first lane (Infinite place position) = Unit {0}
+
+-- a payload at a position
+abbrev BorneOn : (ℕ → ℕ) → Option Lane → ℕ → List ℕ → Type 0
+BorneOn octet lane position payload = (position + length payload < 2 ^ 31) × Bears (λ p. octet (place_at lane p)) position payload
+
+module _ (start : Start) (last : Duo) (path : ℕ) where
+  abbrev pub IsMapped : Side → PathMapping ℕ → Type 0
+  IsMapped s mapping = MappedOn (content start s) (first_number (own_key (drawn start) s)) (lane_of last path s) mapping
+
+  abbrev pub IsBorne : Side → ℕ → List ℕ → Type 0
+  IsBorne s position payload = BorneOn (content start s) (lane_of last path s) position payload
+
+  -- what a segment maps and bears
+  abbrev pub Offers : Side → PlainSegment → Type 0
+  Offers s sg = AllFine (file_len start) IsMapped s sg.options × Carries IsBorne s sg
 
 -- ---- a path at a moment
 
-abbrev pub PathOffers : {C : Type 0} → Start → PathState C → Type 0
-PathOffers start p = IfSome (first_sends p.agenda p) (λ t. AllFine (file_len start) Anything t.from (segment_sent p t).options)
+module _ (start : Start) (last : Duo) where
+  abbrev pub Offered : ℕ → Side → PlainSegment → Type 0
+  Offered path s sg = Offers start last path s sg
 
-abbrev pub MemberOffers : {C : Type 0} → Start → Actor C → Type 0
-MemberOffers start (App a) = Unit {0}
-MemberOffers start (Path p) = PathOffers start p
+  abbrev PathOffers : {C : Type 0} → PathState C → Type 0
+  PathOffers p = PathAlso Offered p
 
-abbrev pub WorldOffers : {C : Type 0} → Start → WorldState C → Type 0
-WorldOffers {C} start w = (i : ℕ) (c : ActorCrew C) → slice_get w.crew i ≡ Some c → MemberOffers start c.member
+  abbrev MemberOffers : {C : Type 0} → Actor C → Type 0
+  MemberOffers m = MemberAlso Offered m
 
-module _ (start : Start) (turns : List Turn) (plain : IsPlain start) (whole : IsWhole start) (fit : NumbersFit start) where
+  abbrev WorldOffers : {C : Type 0} → WorldState C → Type 0
+  WorldOffers w = WorldAlso Offered w
+
+module _ (start : Start) (turns : List Turn) (plain : IsPlain start) (whole : IsWhole start) (fit : NumbersFit start) (last : Duo)
+    (q : Reached (plainly start plain).links start (world_run values turns (opened_world start))) (grown : Grows (duo_at start (plainly start plain) (world_run values turns (opened_world start)) q) last) where
   abbrev v : WorldState Carried
   v = world_run values turns (opened_world start)
 
-  shows : (d : Duo) × (WorldShows (plainly start plain).links start d v × Holds d)
-  shows =
-      let can = plainly start plain in let r = each_run_shows start can turns (free_run can.links (plainly_free start plain) turns (opened_world start)) in
-      (after_events r.events (first_duo can.links start), (r.shows, any_held can.links.alters can.links.checked (length start.paths) start.buffer start.buffer r.events))
+  abbrev can : MayCarry start
+  can = plainly start plain
 
-  abbrev h : WorldShows (plainly start plain).links start shows.0 v
-  h = shows.1.0
+  held : Holds (duo_at start can v q)
+  held = any_held can.links.alters can.links.checked (length start.paths) start.buffer start.buffer q.events
+
+  abbrev h : WorldShows can.links start (duo_at start can v q) v
+  h = q.shows
 
   abbrev six : SixBooks
   six = books_in h.cast.books
 
   abbrev duo : Duo
-  duo = duo_of (plainly start plain).links six h.lanes_ab h.lanes_ba h.reader_a h.reader_b
+  duo = duo_of can.links six h.lanes_ab h.lanes_ba h.reader_a h.reader_b
 
   holds : Holds duo
-  holds = subst Holds h.duo_is shows.1.1
+  holds = subst Holds h.duo_is held
+
+  grows : Grows duo last
+  grows = subst (λ (d : Duo). Grows d last) h.duo_is grown
 
   writes_a : WritesTheFile start.file_a six.send_a
   writes_a = subst (λ (w : WorldState Carried). WritesTheFile start.file_a (books_in w.books).send_a) h.is (writes_the_files values start turns).a
@@ -141,23 +176,99 @@ module _ (start : Start) (turns : List Turn) (plain : IsPlain start) (whole : Is
     upright : (s : Side) → (end_at s p).modes.identity ≡ false
     upright = ((each_upright start turns plain whole).each (suc (suc n)) (walking x) here).identity
 
+    steady : n ≡ 0 → six.control_b.fall.joined ≡ true → p.a.modes.clear ≡ true
+    steady =
+        let is : PathIsSteady (books_in v.books) n p = (always_steady start turns).each n (walking x) here in
+        subst (λ (w : WorldState Carried). n ≡ 0 → (books_in w.books).control_b.fall.joined ≡ true → p.a.modes.clear ≡ true) h.is is.clear
+
     -- an end, by what it shows on its lanes
     module _ (s : Side) (e : PathEnd) (out back : Lane) (view : View) (shown : EndShows c s e out back) (hold : LaneHolds view n out) (tells : EndTells c s e)
-        (unaltered : out.alters ≡ false) (upto : length view.written ≤ file_len start s) (ends : (k : ℕ) → view.end ≡ Some k → k ≡ file_len start s)
-        (identity : e.modes.identity ≡ false) (Maps : Side → ℕ → ℕ → ℕ → Type 0)
-        (gives : (place position len : ℕ) → HasMapping out.datas place position len → Maps s place position len) where
+        (unaltered : out.alters ≡ false) (begins : IsPrefix view.written (pick s start.file_a start.file_b)) (ends : (k : ℕ) → view.end ≡ Some k → k ≡ file_len start s)
+        (identity : e.modes.identity ≡ false) (later : Lane) (later_there : lane_of last n s ≡ Some later) (longer : Longer out later)
+        (first_is : BeginsFirst s e out) where
+      abbrev first : ℕ
+      first = first_number (own_key (drawn start) s)
+
+      -- the octet of a position
+      abbrev octet_at : ℕ → ℕ
+      octet_at p = content start s (place_on later p)
+
+      upto : length view.written ≤ file_len start s
+      upto = file_length (pick s start.file_a start.file_b) view.written begins
+
       own_none : e.modes.own_infinite ≡ None
       own_none = (elim e.modes.own_infinite as (λ o. IfSome o (OwnIs out.pair out.pairs out.fins out.alters) → o ≡ None)
           [ None ↦ λ own. refl | Some mapping ↦ λ own. absurd (both_ways out.alters unaltered own.may) ]) shown.pairs.0
 
-      kind_so : (kind : RecordKind) (r : Record) → KindShows c s out.alters out.sent out.datas out.fins kind r → RecordKindTells c s kind r → RecordFine (file_len start) Maps c s kind r
+      abbrev Told : PathMapping ℕ → Type 0
+      Told mapping = IsMapped start last n s mapping
+
+      -- the checksum that is told of a mapping
+      sum_so : (place position len checksum : ℕ) → 1 ≤ position → IsSummed c s out.sent place position len checksum
+          → IfSome (checksum_told c checksum) (λ sum. sum ≡ dss_checksum (header first place (relative_number position) len) (contents octet_at position len))
+      sum_so place position len checksum behind is = by c.spelling.checksums refl
+        where
+          by : (b : Bool) → c.spelling.checksums ≡ b
+              → IfSome (if b then Some checksum else None) (λ sum. sum ≡ dss_checksum (header first place (relative_number position) len) (contents octet_at position len))
+          by false uses = tt
+          by true uses =
+              is.right uses
+              ∙ ap (λ (number : ℕ). dss_checksum (record { number = number; relative = relative_number position; length = len; checksum = 0 })
+              (take len (drop (position - 1) (bytes_of out.sent)))) (whole_so start n there.plan s place)
+              ∙ ap (dss_checksum (header first place (relative_number position) len))
+              (stretch view n out later hold longer (pick s start.file_a start.file_b) begins len (position - 1) position (omega (arith, behind)) is.within)
+
+      told_so : (place position len checksum : ℕ) → HasMapping out.datas place position len → IsSummed c s out.sent place position len checksum
+          → Told (Bytes place position len false (checksum_told c checksum))
+      told_so place position len checksum has is =
+          subst (λ (o : Option Lane). MappedOn (content start s) first o (Bytes place position len false (checksum_told c checksum))) (sym later_there)
+          (sits view n out later hold longer place position len has, sum_so place position len checksum (let at_one = has.holds.is.position_is in omega (arith, at_one)) is)
+
+      -- and of the DATA_FIN
+      end_told : (place : ℕ) → Told (End place (checksum_told c (checksum_in c (bare_mapping c s place 0 1) [])))
+      end_told place = by c.spelling.checksums
+        where
+          by : (b : Bool) → IfSome (if b then Some (if b then dss_checksum (bare_mapping c s place 0 1) [] else 0) else None) (λ sum. sum ≡ dss_checksum (header first place 0 1) [])
+          by false = tt
+          by true =
+              ap (λ (number : ℕ). dss_checksum (record { number = number; relative = 0; length = 1; checksum = 0 }) []) (whole_so start n there.plan s place)
+
+      -- a piece that A sends as long as it may send no DSS
+      begins_so : (r : Record) → IsPiece c s out.alters out.sent out.datas r → FirstFine (file_len start) (IsMapped start last n) c s e.modes.clear r
+      begins_so r is own unclear one =
+          let place = place_numbered c s r.mapping.number in
+          let len = r.mapping.length in
+          let has : HasMapping out.datas place 1 len = subst (λ (p : ℕ). HasMapping out.datas place p len) one is.mapping in
+          let zero_at : place ≡ 0 = first_is own unclear place len has in
+          subst (λ (q : ℕ). Told (Bytes q 1 len false (checksum_told c r.mapping.checksum))) zero_at
+          (told_so place 1 len r.mapping.checksum has (subst (λ (p : ℕ). IsSummed c s out.sent place p len r.mapping.checksum) one is.summed))
+
+      kind_so : (kind : RecordKind) (r : Record) → KindShows c s out.alters out.sent out.datas out.fins kind r → RecordKindTells c s kind r
+          → RecordFine (file_len start) (IsMapped start last n) c s e.modes.clear kind r
       kind_so Syn r is kept = tt
       kind_so Fin r is kept = tt
       kind_so Data r is kept = (
         kept.0,
-        let within = written_within view n (place_numbered c s r.mapping.number) r.pos r.mapping.length out hold is.mapping kept.0 in omega (arith, within, upto),
-        gives (place_numbered c s r.mapping.number) r.pos r.mapping.length is.mapping,
+        let within = written_within view n (place_numbered c s r.mapping.number) r.pos r.mapping.length out hold is.mapping kept.0 in let most = upto in omega (arith, within, most),
+        told_so (place_numbered c s r.mapping.number) r.pos r.mapping.length r.mapping.checksum is.mapping is.summed,
+        begins_so r is,
       )
+
+      -- what a record bears
+      none_bears : (position : ℕ) (piece : List ℕ) → piece ≡ [] → Bears octet_at position piece
+      none_bears position piece none j below = absurd (let empty : length piece ≡ 0 = ap (λ (xs : List ℕ). length xs) none in omega (arith, empty, below))
+
+      octets_so : (kind : RecordKind) (r : Record) → KindShows c s out.alters out.sent out.datas out.fins kind r → Bears octet_at r.pos r.piece
+      octets_so Syn r is = none_bears r.pos r.piece is
+      octets_so Fin r is = none_bears r.pos r.piece is.0
+      octets_so Data r is = bears view n out later hold longer (pick s start.file_a start.file_b) begins unaltered r.pos r.piece is.octets
+
+      bears_so : RecordsCarry (IsBorne start last n) s e
+      bears_so = record {
+        each = λ i r there_one.
+            subst (λ (o : Option Lane). BorneOn (content start s) o r.pos r.piece) (sym later_there)
+            (let reaches = (tells.sender.records.each i r there_one).reaches in omega (arith, reaches), octets_so r.kind r (shown.sender.pieces.each i r there_one));
+      }
 
       unfailed : (o : Option ℕ) → IfSome o (λ _. out.alters ≡ true) → o ≡ None
       unfailed None may = refl
@@ -170,15 +281,19 @@ module _ (start : Start) (turns : List Turn) (plain : IsPlain start) (whole : Is
           by None is = tt
           by (Some k) is = ends k is
 
-      end_so : EndFine (file_len start) Maps c s e
-      end_so = record {
-        identity = identity;
-        infinite = own_none;
-        told = unfailed e.modes.failed_mapping shown.pairs.4;
-        telling = unfailed e.treated.failed_mapping shown.pairs.5;
-        known = known_so;
-        records = record { each = λ i r there. kind_so r.kind r (shown.sender.pieces.each i r there) (tells.sender.records.each i r there).mapped };
-      }
+      end_so : EndFine (file_len start) (IsMapped start last n) c s e × RecordsCarry (IsBorne start last n) s e
+      end_so = (
+        record {
+          identity = identity;
+          infinite = own_none;
+          told = unfailed e.modes.failed_mapping shown.pairs.4;
+          telling = unfailed e.treated.failed_mapping shown.pairs.5;
+          known = known_so;
+          ends = λ place is. end_told place;
+          records = record { each = λ i r there_one. kind_so r.kind r (shown.sender.pieces.each i r there_one) (tells.sender.records.each i r there_one).mapped };
+        },
+        bears_so,
+      )
 
     -- where a stream is closed its file was written
     closed_so : (file : List ℕ) (b : Sending) → (b.closed ≡ true → b.written ≡ file) → (k : ℕ) → end_of b ≡ Some k → k ≡ length file
@@ -188,44 +303,70 @@ module _ (start : Start) (turns : List Turn) (plain : IsPlain start) (whole : Is
         by true whole is = let same : length b.written ≡ k = cc in sym same ∙ ap length (whole refl)
         by false whole is = cc
 
-    fine : (s : Side) → EndFine (file_len start) Anything c s (end_at s p)
+    fine : (s : Side) → EndFine (file_len start) (IsMapped start last n) c s (end_at s p) × RecordsCarry (IsBorne start last n) s (end_at s p)
     fine A =
         let hold = holds.ab.lanes.each n n there.ab (omega arith) there.ab_there in
-        end_so A p.a there.ab there.ba _ there.shows.a hold told.a hold.link.alters_is (file_length start.file_a six.send_a.written writes_a.prefix)
-        (closed_so start.file_a six.send_a writes_a.whole) (upright A) Anything (λ place position len has. tt)
+        let later = grows.ab n there.ab there.ab_there in
+        end_so A p.a there.ab there.ba _ there.shows.a hold told.a hold.link.alters_is writes_a.prefix (closed_so start.file_a six.send_a writes_a.whole) (upright A)
+        later.0 later.1 later.2 (λ own unclear place len has. first_at _ n six.control_b.fall.joined p there.ab there.ba refl hold steady there.stands unclear place len has)
     fine B =
         let hold = holds.ba.lanes.each n n there.ba (omega arith) there.ba_there in
-        end_so B p.b there.ba there.ab _ there.shows.b hold told.b hold.link.alters_is (file_length start.file_b six.send_b.written writes_b.prefix)
-        (closed_so start.file_b six.send_b writes_b.whole) (upright B) Anything (λ place position len has. tt)
+        let later = grows.ba n there.ba there.ba_there in
+        end_so B p.b there.ba there.ab _ there.shows.b hold told.b hold.link.alters_is writes_b.prefix (closed_so start.file_b six.send_b writes_b.whole) (upright B)
+        later.0 later.1 later.2 (λ own unclear place len has. absurd (false≢true own))
 
-    offers : PathOffers start p
-    offers =
-        first_fine_sent (file_len start) Anything p (λ s. subst (λ (d : Profile). EndFine (file_len start) Anything d s (end_at s p)) (sym there.shows.profile) (fine s)) p.agenda
+    offers : PathOffers start last p
+    offers = subst (λ (k : ℕ). IfSome (first_sends p.agenda p) (λ t. Offers start last k t.from (segment_sent p t))) (sym there.numbered) (by (first_sends p.agenda p) maps carries)
+      where
+        maps : IfSome (first_sends p.agenda p) (λ t. AllFine (file_len start) (IsMapped start last n) t.from (segment_sent p t).options)
+        maps =
+            first_fine_sent (file_len start) (IsMapped start last n) p
+            (λ s. subst (λ (d : Profile). EndFine (file_len start) (IsMapped start last n) d s (end_at s p)) (sym there.shows.profile) (fine s).0) p.agenda
 
-  valued : WorldOffers start v
+        carries : IfSome (first_sends p.agenda p) (λ t. Carries (IsBorne start last n) t.from (segment_sent p t))
+        carries = first_carries (IsBorne start last n) p (λ s. (fine s).1) p.agenda
+
+        by : (o : Option ToSend) → IfSome o (λ t. AllFine (file_len start) (IsMapped start last n) t.from (segment_sent p t).options)
+            → IfSome o (λ t. Carries (IsBorne start last n) t.from (segment_sent p t)) → IfSome o (λ t. Offers start last n t.from (segment_sent p t))
+        by None one other = tt
+        by (Some t) one other = (one, other)
+
+  valued : WorldOffers start last v
   valued =
-      subst (WorldOffers start) (sym h.is)
-      (each_actor (λ i c. MemberOffers start c.member) h.cast tt tt (λ n x at. offers n x at))
+      subst (λ (w : WorldState Carried). WorldOffers start last w) (sym h.is)
+      (each_actor (λ i c. MemberOffers start last c.member) h.cast tt tt (λ n x at. offers n x at))
 
 -- ---- over octets
 
-path_shown : (start : Start) (p : PathState Carried) → PathOffers start p → PathOffers start (shown_path p)
-path_shown start p s = subst (λ (o : Option ToSend). IfSome o Shown) (sym (first_same p.agenda p)) (by (first_sends p.agenda p) s)
+module _ (start : Start) (last : Duo) where
+  path_shown : (p : PathState Carried) → PathOffers start last p → PathOffers start last (shown_path p)
+  path_shown p s = subst (λ (o : Option ToSend). IfSome o Shown) (sym (first_same p.agenda p)) (by (first_sends p.agenda p) s)
+    where
+      Shown : ToSend → Type 0
+      Shown = λ t. Offers start last (path_of p) t.from (segment_sent (shown_path p) t)
+
+      by : (o : Option ToSend) → IfSome o (λ t. Offers start last (path_of p) t.from (segment_sent p t)) → IfSome o Shown
+      by None said = tt
+      by (Some t) said = subst (λ (e : PathEnd). Offers start last (path_of p) t.from (said_by t.kind p.profile t.from e)) (end_shown t.from p) said
+
+  member_shown : (m : Actor Carried) → MemberOffers start last m → MemberOffers start last (shown_member m)
+  member_shown (App a) s = tt
+  member_shown (Path p) s = path_shown p s
+
+-- at each moment of a run, by its last lanes
+pub whole_offers : (start : Start) (turns : List Turn) → IsPlain start → IsWhole start → NumbersFit start
+    → (last : Duo) × ((more later : List Turn) → more ++ later ≡ turns → WorldAlso (Offered start last) (world_run octets more (opened_world start)))
+whole_offers start turns plain whole fit =
+    let can = plainly start plain in
+    let reached = run_reaches start can turns (free_run can.links (plainly_free start plain) turns (opened_world start)) in
+    (reached.0, λ more later is. moment reached.0 more (reached.1 more later is))
   where
-    Shown : ToSend → Type 0
-    Shown = λ t. AllFine (file_len start) Anything t.from (segment_sent (shown_path p) t).options
-
-    by : (o : Option ToSend) → IfSome o (λ t. AllFine (file_len start) Anything t.from (segment_sent p t).options) → IfSome o Shown
-    by None said = tt
-    by (Some t) said = subst (λ (e : PathEnd). AllFine (file_len start) Anything t.from (said_by t.kind p.profile t.from e).options) (end_shown t.from p) said
-
-member_shown : (start : Start) (m : Actor Carried) → MemberOffers start m → MemberOffers start (shown_member m)
-member_shown start (App a) s = tt
-member_shown start (Path p) s = path_shown start p s
-
-pub world_offers : (start : Start) (turns : List Turn) → IsPlain start → IsWhole start → NumbersFit start → WorldOffers start (world_run octets turns (opened_world start))
-world_offers start turns plain whole fit =
-    subst (WorldOffers start) (sym (run_fresh start turns plain.size fit))
-    (λ i c at.
-    let found = in_map shown_crew (world_run values turns (opened_world start)).crew i c at in
-    subst (λ (y : ActorCrew (List ℕ)). MemberOffers start y.member) found.2 (member_shown start found.0.member (valued start turns plain whole fit i found.0 found.1)))
+    moment : (last : Duo) (more : List Turn)
+        → (q : Reached (plainly start plain).links start (world_run values more (opened_world start))) × Grows (duo_at start (plainly start plain) (world_run values more (opened_world start)) q) last
+        → WorldAlso (Offered start last) (world_run octets more (opened_world start))
+    moment last more r =
+        subst (λ (w : WorldState (List ℕ)). WorldAlso (Offered start last) w) (sym (run_fresh start more plain.size fit))
+        (λ i c at.
+        let found = in_map shown_crew (world_run values more (opened_world start)).crew i c at in
+        subst (λ (y : ActorCrew (List ℕ)). MemberOffers start last y.member) found.2
+        (member_shown start last found.0.member (valued start more plain whole fit last r.0 r.1 i found.0 found.1)))

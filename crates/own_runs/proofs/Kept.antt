@@ -1,7 +1,7 @@
--- In the capture of a run no rule on options is broken.
+-- In the capture of a run no rule on tokens and options is broken.
 use Rattle.std.proofs.Common.{◌≡◌, refl, sym, ap, ◌∙◌, ℕ, suc, ◌<◌, true, Ok, Result, List, [], ◌∷◌, length, map, arith}
 use Rattle.std.specs.Prelude.{All}
-use Rattle.std.proofs.lemmas.List.Elements.{All-cons, All-head, All-nil, All-tail}
+use Rattle.std.proofs.lemmas.List.Elements.{All-cons, All-nil}
 use Rattle.std.proofs.lemmas.Option.{slice_get_within}
 use Rattle.capture_reader.specs.Captured.{Captured}
 use Rattle.capture_reader.specs.Steps.{◌>>=◌}
@@ -16,15 +16,14 @@ use Rattle.run_trace.specs.Trace.{trace_of}
 use Rattle.stream_lanes.specs.Words.{Every}
 use Rattle.world_laws.specs.Openings.{Start, opened_world}
 use Rattle.own_runs.specs.Runs.{NoRunBreaks}
-use Rattle.own_runs.specs.Traces.{FitsCapture, packet_for}
+use Rattle.own_runs.specs.Traces.{packet_for}
 use Rattle.path_core.specs.Octets.{octets}
 use Rattle.path_segments.specs.Spelled.{PlainSegment}
 use Rattle.world_laws.specs.Worlds.{world_run}
+use Rattle.own_runs.proofs.LateJoins.{trace_behind}
 use Rattle.own_runs.proofs.Moments.{IsSpoken, Nothing, also_nothing, trace_spoken}
-use Rattle.own_runs.proofs.OwnUntold.{OwnPacket, none_broke}
+use Rattle.own_runs.proofs.OwnUntold.{none_broke}
 use Rattle.own_runs.proofs.OwnPositions.{is_option}
-use Rattle.own_runs.proofs.OwnTrace.{packet_own}
-use Rattle.own_runs.proofs.Values.{drawn}
 use Rattle.own_runs.proofs.Traces.{traces_are}
 
 pub all_on : (Q : ℕ → Side → PlainSegment → Type 0) (start : Start) (trace : List Sent) → Every (IsSpoken Q start) trace → All (λ s. s.path < length start.paths) trace
@@ -32,13 +31,6 @@ all_on Q start [] each = All-nil (λ s. s.path < length start.paths)
 all_on Q start (x ∷ trace) each =
     All-cons (λ s. s.path < length start.paths) x trace (let s = each.each 0 x refl in slice_get_within start.paths x.path s.plan s.there)
     (all_on Q start trace (record { each = λ i y at. each.each (suc i) y at }))
-
-all_own : (start : Start) (trace : List Sent) → Every (IsSpoken Nothing start) trace → All FitsCapture trace → All (OwnPacket (drawn start)) (map packet_for trace)
-all_own start [] each fit = All-nil (OwnPacket (drawn start))
-all_own start (x ∷ trace) each fit =
-    All-cons (OwnPacket (drawn start)) (packet_for x) (map packet_for trace)
-    (packet_own Nothing start x (each.each 0 x refl) (All-head FitsCapture x trace fit).octets)
-    (all_own start trace (record { each = λ i y at. each.each (suc i) y at }) (All-tail FitsCapture x trace fit))
 
 pub same_judged : (one other : JudgedValue) → {E : Type 0} → (let made : Result JudgedValue E = Ok one in made) ≡ Ok other → one ≡ other
 same_judged one other e = cc
@@ -53,5 +45,5 @@ no_run_breaks r is start turns size fit room side at judged read connection s st
     let same : judged_packets at true nothing_judged 1 packets ≡ judged =
     same_judged (judged_packets at true nothing_judged 1 packets) judged
     (sym (ap (λ (m : Result (List Captured) ℕ). m >>= λ packets. Ok (judged_packets at true nothing_judged 1 packets)) all) ∙ read) in
-    none_broke (drawn start) at packets (all_own start trace spoken room) connection s stream
+    none_broke start at trace (trace_behind start turns size fit) room connection s stream
     (ap (λ (j : JudgedValue). stream_in j connection s) same ∙ there) r is

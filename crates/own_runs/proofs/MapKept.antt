@@ -1,5 +1,7 @@
--- The packets of a connection of ours that never falls back don't break `mapping`: each position of a subflow has one place.
-use Rattle.std.proofs.Common.{◌≡◌, refl, sym, ap, ◌∙◌, subst, ℕ, ◌+◌, ◌%◌, nat_le, ◌<◌, ◌≤◌, ◌^◌, Bool, true, false, if◌then◌else◌, Option, Some, None, List, [], map, arith}
+-- The packets of a connection of ours that never falls back break no rule on mappings and what they map: each position of a subflow has one
+-- place, and each place one octet. Where a reset of a dead end stands far behind all others, with number 0 (RFC 9293, section 3.10.7.1), later
+-- numbers may be read as positions that are 2^32 too high: all is said modulo 2^32.
+use Rattle.std.proofs.Common.{◌≡◌, refl, sym, ap, ◌∙◌, subst, ℕ, ◌+◌, ◌%◌, ◌<◌, ◌≤◌, ◌^◌, Bool, true, false, if◌then◌else◌, Option, Some, None, List, [], map, arith}
 use Rattle.std.specs.Prelude.{All, IfSome}
 use Rattle.std.specs.Option.{option_map}
 use Rattle.std.proofs.lemmas.List.Elements.{All-nil}
@@ -10,7 +12,6 @@ use Rattle.mptcp_options.specs.Value.{OptionValue}
 use Rattle.capture_reader.specs.Captured.{Captured}
 use Rattle.capture_reader.specs.Seen.{Seen}
 use Rattle.judge_rules.specs.declared.finding.Finding.TheVariants.{Number32}
-use Rattle.judge_rules.specs.declared.finding.Rule.{Rule}
 use Rattle.judge_rules.specs.declared.finding.Rule.TheVariants as rule
 use Rattle.judge_rules.specs.Numbers.{first_number}
 use Rattle.seen_connections.specs.declared.connections.Keys.{Keys}
@@ -20,70 +21,63 @@ use Rattle.seen_connections.specs.declared.flow.Opened.{Opened}
 use Rattle.seen_connections.specs.Connections.{key_of}
 use Rattle.seen_connections.specs.SeenOptions.{Readable, SeenValue, seen_options}
 use Rattle.seen_streams.specs.Positions.{position_of}
-use Rattle.seen_streams.specs.State.{Found, LaneValue, StreamValue}
+use Rattle.seen_streams.specs.State.{Found, LaneValue, StreamValue, empty_lane}
 use Rattle.rule_book.specs.Facts.{Facts, first_of, own_base, own_lane}
 use Rattle.rule_book.specs.Judged.{Told, empty_book, judged_flow, judged_formed, judged_opened, judged_side, nothing_judged, opened_facts}
 use Rattle.rule_book.specs.Signals.{KeyedValue, judged_options, told_formless}
 use Rattle.rule_book.specs.State.{BookValue, LanesValue, stream_at, with_stream}
 use Rattle.rule_book.specs.Stream.{Left, gap_counted, judged_at, judged_from, judged_positions}
 use Rattle.capture_verdict.specs.Judging.{judged_packets}
-use Rattle.judge_laws.specs.GoesOn.{broke, stream_in}
+use Rattle.judge_laws.specs.GoesOn.{stream_in}
 use Rattle.judge_laws.proofs.Folds.{TellingKeeps, options_so as fields_so}
 use Rattle.own_runs.proofs.FinePositions.{TellsNoFail}
-use Rattle.own_runs.proofs.MapPositions.{LaneFine, OffersWell, StreamFine, at_so, is_mapping}
+use Rattle.own_runs.proofs.MapPositions.{Bears, LaneFine, OffersWell, StreamFine, Waits, at_so, is_mapping}
 use Rattle.own_runs.proofs.KeptOptions.{kept_so}
 use Rattle.own_runs.proofs.Own.{Drawn, IsOwn, ValueIs, own_key}
 use Rattle.own_runs.proofs.OwnFlows.{FlowOn, KeysOwn, NonceIs}
 use Rattle.own_runs.proofs.OwnOptions.{IsOf, key_is, options_so, readable_so}
 use Rattle.own_runs.proofs.OwnPackets.{IsLeft, PacketIs, SegmentsKeep, book_holds, opens_so, sender_so}
-use Rattle.seq_units.specs.Number.{position_near}
-use Rattle.seq_units.proofs.ReadBack.{position_near-number_of_32}
-use Rattle.std.specs.Prelude.{option_and_then}
-use Rattle.std.proofs.lemmas.Int.{ints}
 use Rattle.own_runs.proofs.Own.{is_a, own_initial}
-use Rattle.own_runs.proofs.OwnUntold.{base_so}
+use Rattle.own_runs.proofs.OwnUntold.{base_so, numbered}
 use Rattle.own_runs.proofs.Telling.{others_keep}
 
--- a number means the position that has it, where few came before
-position_is : (base top seq at : ℕ) → seq ≡ (base + at) % 2 ^ 32 → top < 2 ^ 31 → at < 2 ^ 31 → position_near (2 ^ 32) base top seq ≡ Some at
-position_is base top seq at is few small =
-    ap (position_near (2 ^ 32) base top) is ∙ position_near-number_of_32 base top at (record { behind = omega (arith, ints, few, small); ahead = omega (arith, ints, few, small) })
+-- positions with one number
+alike : (base seq p at : ℕ) → (base + p) % 2 ^ 32 ≡ seq % 2 ^ 32 → seq ≡ (base + at) % 2 ^ 32 → p % 2 ^ 32 ≡ at % 2 ^ 32
+alike base seq p at is same = omega (arith, is, same)
 
-some_is : {x y : ℕ} → (let one : Option ℕ = Some x in one) ≡ Some y → x ≡ y
-some_is e = cc
+module _ (d : Drawn) (limit : Side → ℕ) (few : (s : Side) → limit s < 2 ^ 31) (content : Side → ℕ → ℕ) (where_at : ℕ → Side → ℕ → ℕ) where
+  -- the number of place 0 of a side, and what is offered well on a path
+  abbrev first_at : Side → ℕ
+  first_at s = first_number (own_key d s)
 
-judged_is : (base : ℕ) (lane : LaneValue) (seq len at position : ℕ) → position_of base lane seq len ≡ Some position → seq ≡ (base + at) % 2 ^ 32 → lane.top < 2 ^ 31 → at < 2 ^ 31
-    → position ≡ at
-judged_is base lane seq len at position is seq_is few small =
-    by (nat_le (at + len) (2 ^ 61))
-    (sym (ap (option_and_then (λ position. if nat_le (position + len) (2 ^ 61) then Some position else None)) (position_is base lane.top seq at seq_is few small)) ∙ is)
-  where
-    by : (b : Bool) → (if b then Some at else None) ≡ Some position → position ≡ at
-    by true e = sym (some_is e)
-    by false e = cc
+  abbrev Well : ℕ → Side → ℕ → OptionValue → Type 0
+  Well path s position = OffersWell (first_at s) (limit s) (content s) (where_at path s) position
 
-module _ (d : Drawn) (limit : Side → ℕ) (few : (s : Side) → limit s < 2 ^ 31) (where_at : ℕ → Side → ℕ → ℕ) where
-  -- the mappings of a segment end within its side's stream, and give each position its place
+  -- A segment of a position, by its number modulo 2^32: its mappings end within its side's stream, give each position its place, and tell right
+  -- checksums; and its payload has the octets of these places.
   pub record IsFine (seen : Seen) : Type 0 where
     pub own : IsOwn d seen
     pub at : ℕ
     pub seq : seen.segment.head.seq ≡ (own_initial d own.path own.from + at) % 2 ^ 32
-    pub short : at + seen.payload_len < 2 ^ 31
-    pub offers : All (OffersWell (first_number (own_key d own.from)) (limit own.from) (where_at own.path own.from) at) own.values
+    pub bears : (p : ℕ) → p % 2 ^ 32 ≡ at % 2 ^ 32 → Bears (λ q. content own.from (where_at own.path own.from q)) p seen.segment.payload
+    pub offers : (p : ℕ) → p % 2 ^ 32 ≡ at % 2 ^ 32 → All (Well own.path own.from p) own.values
     pub calm : All TellsNoFail own.values
 
   abbrev BookFine : BookValue → Type 0
-  BookFine book = (s : Side) → StreamFine (limit s) (few s) (stream_at s book)
+  BookFine book = (s : Side) → StreamFine (limit s) (few s) (content s) (stream_at s book)
+
+  abbrev Laned : ℕ → Side → LaneValue → Type 0
+  Laned path s l = LaneFine (limit s) (few s) (content s) (first_at s) (where_at path s) l
 
   pub record LanesFine (path : ℕ) (lanes : LanesValue) : Type 0 where
-    pub opener : LaneFine (limit A) (few A) (where_at path A) lanes.opener
-    pub other : LaneFine (limit B) (few B) (where_at path B) lanes.other
+    pub opener : Laned path A lanes.opener
+    pub other : Laned path B lanes.other
 
   new_fine : BookFine empty_book
-  new_fine A = record { infinite = refl; fin = tt; top = omega arith; untold = λ r is. refl }
-  new_fine B = record { infinite = refl; fin = tt; top = omega arith; untold = λ r is. refl }
+  new_fine A = record { infinite = refl; fin = tt; top = omega arith; octets = λ q. tt; untold = λ r is. refl }
+  new_fine B = record { infinite = refl; fin = tt; top = omega arith; octets = λ q. tt; untold = λ r is. refl }
 
-  with_fine : (s : Side) (stream : StreamValue) (book : BookValue) → StreamFine (limit s) (few s) stream → BookFine book → BookFine (with_stream s stream book)
+  with_fine : (s : Side) (stream : StreamValue) (book : BookValue) → StreamFine (limit s) (few s) (content s) stream → BookFine book → BookFine (with_stream s stream book)
   with_fine A stream book new h A = new
   with_fine A stream book new h B = h B
   with_fine B stream book new h A = h A
@@ -94,13 +88,13 @@ module _ (d : Drawn) (limit : Side → ℕ) (few : (s : Side) → limit s < 2 ^ 
   gaps_fine gaps book h B = h B
 
   lane_fine : (path : ℕ) (side : Side) (b : Bool) (lanes : LanesValue) → b ≡ is_a side → LanesFine path lanes
-      → LaneFine (limit side) (few side) (where_at path side) (if b then lanes.opener else lanes.other)
+      → Laned path side (if b then lanes.opener else lanes.other)
   lane_fine path A true lanes is h = h.opener
   lane_fine path B false lanes is h = h.other
   lane_fine path A false lanes is h = cc
   lane_fine path B true lanes is h = cc
 
-  lanes_fine : (path : ℕ) (side : Side) (b : Bool) (lane : LaneValue) (lanes : LanesValue) → b ≡ is_a side → LaneFine (limit side) (few side) (where_at path side) lane → LanesFine path lanes
+  lanes_fine : (path : ℕ) (side : Side) (b : Bool) (lane : LaneValue) (lanes : LanesValue) → b ≡ is_a side → Laned path side lane → LanesFine path lanes
       → LanesFine path (if b then record lanes { opener = lane } else record lanes { other = lane })
   lanes_fine path A true lane lanes is new h = record { opener = new; other = h.other }
   lanes_fine path B false lane lanes is new h = record { opener = h.opener; other = new }
@@ -112,11 +106,12 @@ module _ (d : Drawn) (limit : Side → ℕ) (few : (s : Side) → limit s < 2 ^ 
     infinite : stream.infinite ≡ None
     fin : IfSome stream.fin (λ told. told.place ≡ limit s)
     top : stream.top ≤ limit s
+    octets : (q : ℕ) → IfSome (stream.octet q) (λ o. (q < limit s) × (o.octet ≡ content s q))
 
   fields_keep : (s : Side) → TellingKeeps (Fields s)
   fields_keep s = record {
-    tells = λ r packet fault stream h. record { infinite = h.infinite; fin = h.fin; top = h.top };
-    counts = λ stream keys joins mappings sums data_acks h. record { infinite = h.infinite; fin = h.fin; top = h.top };
+    tells = λ r packet fault stream h. record { infinite = h.infinite; fin = h.fin; top = h.top; octets = h.octets };
+    counts = λ stream keys joins mappings sums data_acks h. record { infinite = h.infinite; fin = h.fin; top = h.top; octets = h.octets };
   }
 
   abbrev Leaves : ℕ → Told → Type 0
@@ -130,45 +125,41 @@ module _ (d : Drawn) (limit : Side → ℕ) (few : (s : Side) → limit s < 2 ^ 
       book : BookFine left.book
       lanes : LanesFine own.path left.lanes
 
-    first_so : (s : Side) (keys : Keys) (options : List OptionValue) (place : ℕ → ℕ) (position : ℕ) → KeysOwn d keys
-        → All (OffersWell (first_number (own_key d s)) (limit s) place position) options → IfSome (first_of s keys) (λ first. All (OffersWell first (limit s) place position) options)
-    first_so s keys options place position k all = by (key_of s keys) (key_is d is_mapping s keys k)
+    first_so : (s : Side) (keys : Keys) → KeysOwn d keys → IfSome (first_of s keys) (λ first. first ≡ first_at s)
+    first_so s keys k = by (key_of s keys) (key_is d is_mapping s keys k)
       where
-        by : (o : Option ℕ) → IfSome o (λ key. key ≡ own_key d s) → IfSome (option_map first_number o) (λ first. All (OffersWell first (limit s) place position) options)
+        by : (o : Option ℕ) → IfSome o (λ key. key ≡ own_key d s) → IfSome (option_map first_number o) (λ first. first ≡ first_at s)
         by None is = tt
-        by (Some key) is = subst (λ (n : ℕ). All (OffersWell (first_number n) (limit s) place position) options) (sym is) all
+        by (Some key) is = ap first_number is
 
     positions_so : (facts : Facts) (options : List OptionValue) (keys : Keys) (left : Left) → facts.seen ≡ seen → facts.is_opener ≡ is_a facts.side
-        → (at : ℕ) → seen.segment.head.seq ≡ (own_base facts + at) % 2 ^ 32 → at + seen.payload_len < 2 ^ 31 → KeysOwn d keys
-        → All (OffersWell (first_number (own_key d facts.side)) (limit facts.side) (where_at own.path facts.side) at) options → All TellsNoFail options → LeftFine left
+        → (at : ℕ) → seen.segment.head.seq ≡ (own_base facts + at) % 2 ^ 32 → KeysOwn d keys
+        → ((p : ℕ) → p % 2 ^ 32 ≡ at % 2 ^ 32 → Bears (λ q. content facts.side (where_at own.path facts.side q)) p seen.segment.payload)
+        → ((p : ℕ) → p % 2 ^ 32 ≡ at % 2 ^ 32 → All (Well own.path facts.side p) options) → All TellsNoFail options → LeftFine left
         → LeftFine (judged_positions facts options keys left)
-    positions_so facts options keys left sees opens at seq short k all calm h =
+    positions_so facts options keys left sees opens at seq k bears all calm h =
         by facts.seen.segment.head.syn (position_of (own_base facts) (own_lane facts left.lanes) facts.seen.segment.head.seq facts.seen.payload_len) refl
       where
-        lane : LaneFine (limit facts.side) (few facts.side) (where_at own.path facts.side) (own_lane facts left.lanes)
+        lane : Laned own.path facts.side (own_lane facts left.lanes)
         lane = lane_fine own.path facts.side facts.is_opener left.lanes opens h.lanes
 
         from : (position : Option ℕ) → position_of (own_base facts) (own_lane facts left.lanes) facts.seen.segment.head.seq facts.seen.payload_len ≡ position
             → LeftFine (judged_from facts position options keys left)
         from None e = h
         from (Some position) e =
-            let same : position ≡ at = judged_is (own_base facts) (own_lane facts left.lanes) facts.seen.segment.head.seq facts.seen.payload_len at position e
-            (ap (λ (x : Seen). x.segment.head.seq) sees ∙ seq) lane.top (omega (arith, short)) in
+            let same : position % 2 ^ 32 ≡ at % 2 ^ 32 = alike (own_base facts) facts.seen.segment.head.seq position at
+            (numbered (own_base facts) (own_lane facts left.lanes) facts.seen.segment.head.seq facts.seen.payload_len position e) (ap (λ (x : Seen). x.segment.head.seq) sees ∙ seq) in
             let own_stream = stream_at facts.side left.book in
             let its_lane = own_lane facts left.lanes in
             let gone = (gap_counted facts left).book in
             let it = judged_at facts position options keys (stream_at (peer facts.side) left.book) own_stream its_lane in
-            let fine = at_so (limit facts.side) (few facts.side) (where_at own.path facts.side) facts position options keys (stream_at (peer facts.side) left.book) own_stream its_lane
-            (subst (λ (n : ℕ). IfSome (first_of facts.side keys) (λ first. All (OffersWell first (limit facts.side) (where_at own.path facts.side) n) options)) (sym same)
-            (first_so facts.side keys options (where_at own.path facts.side) at k all))
-            calm (few_so position same) (h.book facts.side, lane) in
+            let fine = at_so (limit facts.side) (few facts.side) (content facts.side) (first_at facts.side) (where_at own.path facts.side) facts position options keys
+            (stream_at (peer facts.side) left.book) own_stream its_lane (first_so facts.side keys k) (all position same) calm
+            (subst (λ (x : Seen). Bears (λ q. content facts.side (where_at own.path facts.side q)) position x.segment.payload) (sym sees) (bears position same)) (h.book facts.side, lane) in
             record {
               book = with_fine facts.side it.stream gone fine.0 (gaps_fine gone.gaps left.book h.book);
               lanes = lanes_fine own.path facts.side facts.is_opener it.lane left.lanes opens fine.1 h.lanes;
             }
-          where
-            few_so : (position : ℕ) → position ≡ at → position + facts.seen.payload_len < 2 ^ 31
-            few_so position same = let len = ap (λ (x : Seen). x.payload_len) sees in omega (arith, same, len, short)
 
         by : (b : Bool) (position : Option ℕ) → position_of (own_base facts) (own_lane facts left.lanes) facts.seen.segment.head.seq facts.seen.payload_len ≡ position
             → LeftFine (if b then left else judged_from facts position options keys left)
@@ -193,14 +184,14 @@ module _ (d : Drawn) (limit : Side → ℕ) (few : (s : Side) → limit s < 2 ^ 
           let made = options_so d is_mapping own.path facts it own.values first own.each
           (record { keys = k; untold = was.untold; each = All-nil (ValueIs d own.path own.from) }) in
           let all = judged_options facts (map Readable own.values) first in
-          let fields = fields_so (fields_keep own.from) facts (map Readable own.values) first (record { infinite = was.infinite; fin = was.fin; top = was.top }) in
-          let wells = kept_so (OffersWell (first_number (own_key d own.from)) (limit own.from) (where_at own.path own.from) p.at) facts own.values first p.offers
-          (All-nil (OffersWell (first_number (own_key d own.from)) (limit own.from) (where_at own.path own.from) p.at)) in
+          let fields = fields_so (fields_keep own.from) facts (map Readable own.values) first (record { infinite = was.infinite; fin = was.fin; top = was.top; octets = was.octets }) in
+          let wells : (q : ℕ) → q % 2 ^ 32 ≡ p.at % 2 ^ 32 → All (Well own.path own.from q) all.options =
+          λ q same. kept_so (Well own.path own.from q) facts own.values first (p.offers q same) (All-nil (Well own.path own.from q)) in
           let calm = kept_so TellsNoFail facts own.values first p.calm (All-nil TellsNoFail) in
-          let stream : StreamFine (limit own.from) (few own.from) all.stream =
-          record { infinite = fields.infinite; fin = fields.fin; top = fields.top; untold = made.untold } in
+          let stream : StreamFine (limit own.from) (few own.from) (content own.from) all.stream =
+          record { infinite = fields.infinite; fin = fields.fin; top = fields.top; octets = fields.octets; untold = made.untold } in
           let behind = positions_so facts all.options all.keys (record left { book = with_stream own.from all.stream left.book }) refl (opens_so d seen own flow f) p.at
-          (seq_so opened e) p.short made.keys wells calm
+          (seq_so opened e) made.keys p.bears wells calm
           (record { book = with_fine own.from all.stream left.book stream h.book; lanes = h.lanes }) in
           record { keys = made.keys; book = behind.book; lanes = behind.lanes }
 
@@ -219,7 +210,7 @@ module _ (d : Drawn) (limit : Side → ℕ) (few : (s : Side) → limit s < 2 ^ 
         (formed_so index flow f keys k (record left { book = with_stream own.from formed left.book })
         (record {
           book = with_fine own.from formed left.book
-              (subst (StreamFine (limit own.from) (few own.from)) (sym (readable_so packet own.values (stream_at own.from left.book))) (h.book own.from)) h.book;
+              (subst (StreamFine (limit own.from) (few own.from) (content own.from)) (sym (readable_so packet own.values (stream_at own.from left.book))) (h.book own.from)) h.book;
           lanes = h.lanes;
         })
         flow.opened refl))
@@ -227,11 +218,19 @@ module _ (d : Drawn) (limit : Side → ℕ) (few : (s : Side) → limit s < 2 ^ 
         options_are : seen_options keys.checksums seen.segment.options ≡ map Readable own.values
         options_are = ap (λ (c : Bool). seen_options c seen.segment.options) k.checksums ∙ own.options
 
+  new_lane : (path : ℕ) (s : Side) → Laned path s empty_lane
+  new_lane path s = record {
+    line = refl;
+    placed = λ p. tt;
+    octets = λ p. tt;
+    waiting = All-nil (Waits (limit s) (few s) (content s) (first_at s) (where_at path s));
+  }
+
   keep : SegmentsKeep d IsFine BookFine LanesFine
   keep = record {
     own = λ seen p. p.own;
     new_book = new_fine;
-    new_lanes = λ path. record { opener = record { line = refl; top = omega arith; placed = λ p. tt }; other = record { line = refl; top = omega arith; placed = λ p. tt } };
+    new_lanes = λ path. record { opener = new_lane path A; other = new_lane path B };
     token = λ wrong book h.
         let s = wrong.belongs.opener in
         let was = h s in
@@ -240,6 +239,7 @@ module _ (d : Drawn) (limit : Side → ℕ) (few : (s : Side) → limit s < 2 ^ 
           infinite = was.infinite;
           fin = was.fin;
           top = was.top;
+          octets = was.octets;
           untold = others_keep is_mapping rule.Token wrong.packet (Found (Number32 wrong.expected wrong.was)) (stream_at s book).broken refl was.untold;
         }) h;
     flow = λ at packet seen p index flow f belongs is keys left k h lanes.
@@ -249,8 +249,9 @@ module _ (d : Drawn) (limit : Side → ℕ) (few : (s : Side) → limit s < 2 ^ 
   abbrev pub FinePacket : Captured → Type 0
   FinePacket packet = PacketIs d IsFine BookFine LanesFine packet
 
-  pub none_broke : (at : Option Side) (packets : List Captured) → All FinePacket packets → (connection : ℕ) (s : Side) (stream : StreamValue)
-      → stream_in (judged_packets at true nothing_judged 1 packets) connection s ≡ Some stream → (r : Rule) → is_mapping r ≡ true → broke r stream ≡ false
-  none_broke at packets each connection s stream there r is =
+  -- what each stream is
+  pub stream_fine : (at : Option Side) (packets : List Captured) → All FinePacket packets → (connection : ℕ) (s : Side) (stream : StreamValue)
+      → stream_in (judged_packets at true nothing_judged 1 packets) connection s ≡ Some stream → StreamFine (limit s) (few s) (content s) stream
+  stream_fine at packets each connection s stream there =
       let found = book_holds d IsFine BookFine LanesFine keep at packets each connection s stream there in
-      subst (λ (x : StreamValue). broke r x ≡ false) found.2 ((found.1 s).untold r is)
+      subst (StreamFine (limit s) (few s) (content s)) found.2 (found.1 s)

@@ -27,7 +27,7 @@ use Rattle.path_core.specs.State.{end_at, PathState, path_of}
 use Rattle.path_core.specs.Treating.{item_of}
 use Rattle.path_core.specs.Values.{Carried, values}
 use Rattle.path_segments.specs.Options.{PlainOption, said_option}
-use Rattle.path_segments.specs.declared.segment.PathOption.TheVariants.{FastClose}
+use Rattle.path_segments.specs.declared.segment.PathOption.TheVariants.{FastClose, Join}
 use Rattle.sides.specs.Side.{peer}
 use Rattle.path_segments.specs.Spelled.{PlainSegment}
 use Rattle.path_store.specs.declared.infinite_mapping.InfiniteMapping.{InfiniteMapping}
@@ -46,7 +46,7 @@ use Rattle.stream_lanes.specs.View.{View}
 use Rattle.stream_lanes.specs.Words.{Every}
 use Rattle.world_core.specs.Looking.{crew_path, member_path}
 use Rattle.world_laws.proofs.Joins.TokensAgree.{WorldMet, opened_met, run_met}
-use Rattle.world_laws.proofs.Keys.AreDrawn.{Deed, SegmentIs}
+use Rattle.world_laws.proofs.Keys.AreDrawn.{Deed, OptionIs, SegmentIs}
 use Rattle.world_laws.proofs.Keys.Held.{PathIs}
 use Rattle.world_laws.proofs.Keys.ToldAreOwn.{Joined, NoMore, Past, PathKnows, with_nonces}
 use Rattle.world_laws.proofs.Lanes.Beginning.{each_run_shows}
@@ -120,6 +120,23 @@ says_so start number plan there w did c s e sg says placed = record {
 unsynced : (o : Option Outgoing) → IfSome o AnswerTells → IfSome o (λ o. o.syn ≡ false)
 unsynced None tells = tt
 unsynced (Some o) tells = tells.syn
+
+-- a join is told by a side that joined
+abbrev pub JoinsBy : SixBooks → Side → PlainOption → Type 0
+JoinsBy six s (Join form) = Joined six s
+JoinsBy six s _ = Unit {0}
+
+-- what its ends say next tells a join so, and what answers for a dead end is no SYN
+pub record PathKnown (six : SixBooks) (p : PathState Carried) : Type 0 where
+  pub joins : IfSome (first_sends p.agenda p) (λ t. Every (JoinsBy six t.from) (segment_sent p t).options)
+  pub answers : (s : Side) → IfSome (end_at s p).treated.answer (λ o. o.syn ≡ false)
+
+abbrev pub MemberKnown : SixBooks → Actor Carried → Type 0
+MemberKnown six (App a) = Unit {0}
+MemberKnown six (Path p) = PathKnown six p
+
+abbrev pub CrewKnown : SixBooks → WorldState Carried → Type 0
+CrewKnown six w = (i : ℕ) (c : ActorCrew Carried) → slice_get w.crew i ≡ Some c → MemberKnown six c.member
 
 -- what it hands to its link next
 abbrev pub PathSpeaks : {C : Type 0} → Start → PathState C → Type 0
@@ -232,22 +249,40 @@ module _ (start : Start) (turns : List Turn) (size : HasRoom start) (fit : Numbe
     stand A = ((always_stand start turns (suc (suc n)) (walking x) here).0, unsynced p.a.treated.answer (tells_at p.profile p told A).treated.answer, carry.0)
     stand B = ((always_stand start turns (suc (suc n)) (walking x) here).1, unsynced p.b.treated.answer (tells_at p.profile p told B).treated.answer, carry.1)
 
-    speaks : PathSpeaks start p
-    speaks = (n, plan, there.plan_there, there.numbered, there.shows.profile, by (first_sends p.agenda p) said (first_placed_sent key p stand p.agenda))
-      where
-        said : IfSome (first_sends p.agenda p) (Sends (with_nonces start.key_a start.key_b true plan.nonce_a plan.nonce_b) (Joined (books_in v.books)) (Past (books_in v.books) NoMore) p is told few wide pair)
-        said = first_so (with_nonces start.key_a start.key_b true plan.nonce_a plan.nonce_b) (Joined (books_in v.books)) (Past (books_in v.books) NoMore) p is told few wide pair knows.settled
+    next_says : IfSome (first_sends p.agenda p) (Sends (with_nonces start.key_a start.key_b true plan.nonce_a plan.nonce_b) (Joined (books_in v.books)) (Past (books_in v.books) NoMore) p is told few wide pair)
+    next_says = first_so (with_nonces start.key_a start.key_b true plan.nonce_a plan.nonce_b) (Joined (books_in v.books)) (Past (books_in v.books) NoMore) p is told few wide pair knows.settled
 
+    known_next : PathKnown (books_in v.books) p
+    known_next = record { joins = by (first_sends p.agenda p) next_says; answers = λ s. (stand s).1 }
+      where
+        option : (s : Side) (o : PlainOption) → OptionIs (with_nonces start.key_a start.key_b true plan.nonce_a plan.nonce_b) true (Joined (books_in v.books)) (Past (books_in v.books) NoMore) (is_joined p.profile) s o
+            → JoinsBy (books_in v.books) s o
+        option s (Join form) own = own.1.0
+        option s _ own = tt
+
+        by : (o : Option ToSend) → IfSome o (Sends (with_nonces start.key_a start.key_b true plan.nonce_a plan.nonce_b) (Joined (books_in v.books)) (Past (books_in v.books) NoMore) p is told few wide pair)
+            → IfSome o (λ t. Every (JoinsBy (books_in v.books) t.from) (segment_sent p t).options)
+        by None s = tt
+        by (Some t) s = record { each = λ i o at. option t.from o (s.is.each i o at) }
+
+    speaks : PathSpeaks start p
+    speaks = (n, plan, there.plan_there, there.numbered, there.shows.profile, by (first_sends p.agenda p) next_says (first_placed_sent key p stand p.agenda))
+      where
         by : (o : Option ToSend) → IfSome o (Sends (with_nonces start.key_a start.key_b true plan.nonce_a plan.nonce_b) (Joined (books_in v.books)) (Past (books_in v.books) NoMore) p is told few wide pair)
             → IfSome o (IsPlaced key p stand) → IfSome o (λ t. Spoken start n p.profile t.from (end_at t.from p) (segment_sent p t))
         by None s placed = tt
         by (Some t) s placed =
             says_so start n plan there.plan_there (Joined (books_in v.books)) (Past (books_in v.books) NoMore) p.profile t.from (end_at t.from p) (segment_sent p t) s placed
 
-  valued : WorldSpeaks start v
+  pub valued : WorldSpeaks start v
   valued =
       subst (WorldSpeaks start) (sym h.is)
       (each_actor (λ i c. MemberSpeaks start c.member) h.cast tt tt (λ n x at. speaks n x at))
+
+  pub crew_known : CrewKnown (books_in v.books) v
+  crew_known =
+      subst (CrewKnown (books_in v.books)) (sym h.is)
+      (each_actor (λ i c. MemberKnown (books_in v.books) c.member) h.cast tt tt (λ n x at. known_next n x at))
 
 -- ---- over octets
 
@@ -275,7 +310,7 @@ pub end_shown : (s : Side) (p : PathState Carried) → end_at s p ≡ end_at s (
 end_shown A p = refl
 end_shown B p = refl
 
-path_shown : (start : Start) (p : PathState Carried) → PathSpeaks start p → PathSpeaks start (shown_path p)
+pub path_shown : (start : Start) (p : PathState Carried) → PathSpeaks start p → PathSpeaks start (shown_path p)
 path_shown start p s = (s.0, s.1, s.2, s.3, s.4, subst (λ (o : Option ToSend). IfSome o Shown) (sym (first_same p.agenda p)) (by (first_sends p.agenda p) s.5))
   where
     Shown : ToSend → Type 0
@@ -321,7 +356,7 @@ module _ (Q : ℕ → Side → PlainSegment → Type 0) where
     pub also : Q x.path x.from segment
 
   module _ (start : Start) where
-    path_sends : (p : PathState (List ℕ)) → PathSpeaks start p → PathAlso p → IfSome (sent_by p) (IsSpoken start)
+    pub path_sends : (p : PathState (List ℕ)) → PathSpeaks start p → PathAlso p → IfSome (sent_by p) (IsSpoken start)
     path_sends p s also = by (first_sends p.agenda p) s.5 also
       where
         there : slice_get start.paths (path_of p) ≡ Some s.1

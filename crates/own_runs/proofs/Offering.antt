@@ -1,6 +1,7 @@
 -- What the mappings of a side map, where it never falls back: octets of its file, and with the DATA_FIN at its end. It tells of no failure.
-use Rattle.std.proofs.Common.{◌≡◌, refl, sym, subst, ℕ, ◌+◌, ◌-◌, ◌≤◌, ◌&&◌, not, Bool, true, false, if◌then◌else◌, Option, Some, None, List, [], ◌∷◌, arith}
+use Rattle.std.proofs.Common.{◌≡◌, refl, sym, subst, ℕ, ◌+◌, ◌-◌, ◌≤◌, ◌&&◌, ◌==◌, not, Bool, true, false, if◌then◌else◌, Option, Some, None, List, [], ◌∷◌, arith}
 use Rattle.std.specs.Option.{IfSome}
+use Rattle.std.proofs.lemmas.Bool.{and_parts, eqb-true, not-true}
 use Rattle.mptcp_options.specs.declared.capable.CapableKeys.TheVariants.{Sender, WithData}
 use Rattle.path_agenda.specs.Words.{first_of}
 use Rattle.path_agenda.specs.declared.duty.Duty.{Duty}
@@ -8,9 +9,10 @@ use Rattle.path_agenda.specs.declared.duty.SendDuty.{SendDuty}
 use Rattle.path_agenda.specs.declared.duty.StepDuty.{StepDuty}
 use Rattle.path_agenda.specs.declared.heard.Heard.{Heard}
 use Rattle.path_agenda.specs.declared.notice.OwnNotice.{OwnNotice}
+use Rattle.path_core.specs.Choices.{is_side_a}
 use Rattle.path_core.specs.DataFin.{is_data_fin_owed}
 use Rattle.path_core.specs.DssIn.{is_clash}
-use Rattle.path_core.specs.DssOut.{fail_options, fail_beside, data_fin_mapping, piece_mapping, is_first_piece, first_piece_options, piece_options, mapped_options, fin_options, infinite_or, plain_options, place_numbered}
+use Rattle.path_core.specs.DssOut.{bare_mapping, checksum_in, checksum_told, fail_options, fail_beside, data_fin_mapping, piece_mapping, is_first_piece, first_piece_options, piece_options, mapped_options, fin_options, infinite_or, plain_options, place_numbered}
 use Rattle.path_core.specs.Emission.{ack_resent, resend_said, answer_said}
 use Rattle.path_core.specs.Emission.{first_unsent, first_record}
 use Rattle.path_core.specs.End.{PathEnd}
@@ -49,32 +51,32 @@ every_one {X} {P} x h = Every-push {xs = []} x (Every-nil P) h
 pub every_two : {X : Type 0} {P : X → Type 0} (x y : X) → P x → P y → Every P (x ∷ y ∷ [])
 every_two {X} {P} x y h g = Every-push {xs = x ∷ []} y (every_one x h) g
 
--- nothing more is asked of what is mapped
-abbrev pub Anything : Side → ℕ → ℕ → ℕ → Type 0
-Anything s place position len = Unit {0}
-
--- and each mapping of octets, by its place, position and length, has what is asked of it
-module _ (limit : Side → ℕ) (Maps : Side → ℕ → ℕ → ℕ → Type 0) where
+-- and each mapping has what is asked of it
+module _ (limit : Side → ℕ) (Maps : Side → PathMapping ℕ → Type 0) where
   -- of a side whose file has so many octets
   abbrev pub MappingFine : Side → PathMapping ℕ → Type 0
-  MappingFine s (Bytes place position len fin checksum) = (1 ≤ len) × (fin ≡ false) × (place + len ≤ limit s) × Maps s place position len
-  MappingFine s (End place checksum) = place ≡ limit s
+  MappingFine s (Bytes place position len fin checksum) = (1 ≤ len) × (fin ≡ false) × (place + len ≤ limit s) × Maps s (Bytes place position len fin checksum)
+  MappingFine s (End place checksum) = (place ≡ limit s) × Maps s (End place checksum)
   MappingFine s (Infinite place position) = ⊥
 
   abbrev pub OptionFine : Side → PlainOption → Type 0
   OptionFine s (Dss next mapping) = IfSome mapping (MappingFine s)
-  OptionFine s (Capable flag_a flag_c (WithData sender receiver len checksum)) = (1 ≤ len) × (len ≤ limit s)
+  OptionFine s (Capable flag_a flag_c (WithData sender receiver len checksum)) = (1 ≤ len) × (len ≤ limit s) × Maps s (Bytes 0 1 len false checksum)
   OptionFine s (Fail place) = ⊥
   OptionFine s _ = Unit {0}
 
   abbrev pub AllFine : Side → List PlainOption → Type 0
   AllFine s options = Every (OptionFine s) options
 
-  -- a record of octets maps octets of the file
-  abbrev pub RecordFine : Profile → Side → RecordKind → Record → Type 0
-  RecordFine c s Syn r = Unit {0}
-  RecordFine c s Data r = (1 ≤ r.mapping.length) × (place_numbered c s r.mapping.number + r.mapping.length ≤ limit s) × Maps s (place_numbered c s r.mapping.number) r.pos r.mapping.length
-  RecordFine c s Fin r = Unit {0}
+  -- a record of octets maps octets of the file, and as long as A may send no DSS the first ones from place 0 on
+  abbrev pub FirstFine : Profile → Side → Bool → Record → Type 0
+  FirstFine c s clear r = is_side_a s ≡ true → clear ≡ false → r.pos ≡ 1 → Maps s (Bytes 0 1 r.mapping.length false (checksum_told c r.mapping.checksum))
+
+  abbrev pub RecordFine : Profile → Side → Bool → RecordKind → Record → Type 0
+  RecordFine c s clear Syn r = Unit {0}
+  RecordFine c s clear Data r =
+      (1 ≤ r.mapping.length) × (place_numbered c s r.mapping.number + r.mapping.length ≤ limit s) × Maps s (piece_mapping c s r) × FirstFine c s clear r
+  RecordFine c s clear Fin r = Unit {0}
 
   pub record EndFine (c : Profile) (s : Side) (e : PathEnd) : Type 0 where
     pub identity : e.modes.identity ≡ false
@@ -82,7 +84,8 @@ module _ (limit : Side → ℕ) (Maps : Side → ℕ → ℕ → ℕ → Type 0)
     pub told : e.modes.failed_mapping ≡ None
     pub telling : e.treated.failed_mapping ≡ None
     pub known : IfSome e.sending.known_end (λ n. n ≡ limit s)
-    pub records : Every (λ r. RecordFine c s r.kind r) e.tcp.send.records
+    pub ends : (place : ℕ) → place ≡ limit s → Maps s (End place (checksum_told c (checksum_in c (bare_mapping c s place 0 1) [])))
+    pub records : Every (λ r. RecordFine c s e.modes.clear r.kind r) e.tcp.send.records
 
   none_fine : (s : Side) → AllFine s []
   none_fine s = Every-nil (OptionFine s)
@@ -102,7 +105,7 @@ module _ (limit : Side → ℕ) (Maps : Side → ℕ → ℕ → ℕ → Type 0)
   module _ (c : Profile) (s : Side) (e : PathEnd) (h : EndFine c s e) where
     end_fine : (fin : Option ℕ) → IfSome fin (λ n. n ≡ limit s) → IfSome (data_fin_mapping c s fin) (MappingFine s)
     end_fine None is = tt
-    end_fine (Some place) is = is
+    end_fine (Some place) is = (is, h.ends place is)
 
     beside_fine : (fin : Option ℕ) → AllFine s (fail_beside fin e.modes)
     beside_fine (Some fin) = none_fine s
@@ -148,30 +151,33 @@ module _ (limit : Side → ℕ) (Maps : Side → ℕ → ℕ → ℕ → Type 0)
             answered true = every_one _ tt
             answered false = none_fine s
 
-    first_fine : (o : Option ℕ) (r : Record) → RecordFine c s Data r → AllFine s (first_piece_options c o r e)
-    first_fine (Some key) r is = every_one _ (is.0, let within = is.1 in omega (arith, within))
-    first_fine None r is = none_fine s
+    first_fine : (o : Option ℕ) (r : Record) → RecordFine c s e.modes.clear Data r → is_first_piece s r e ≡ true → AllFine s (first_piece_options c o r e)
+    first_fine (Some key) r is first =
+        let of_a = and_parts (is_side_a s) (not e.modes.clear && r.pos == 1) first in
+        let unclear = and_parts (not e.modes.clear) (r.pos == 1) of_a.1 in
+        every_one _ (is.0, let within = is.1 in omega (arith, within), is.3 of_a.0 (not-true e.modes.clear unclear.0) (eqb-true r.pos 1 unclear.1))
+    first_fine None r is first = none_fine s
 
-    piece_fine : (r : Record) → RecordFine c s Data r → AllFine s (piece_options c s r e)
+    piece_fine : (r : Record) → RecordFine c s e.modes.clear Data r → AllFine s (piece_options c s r e)
     piece_fine r is =
         subst (λ (b : Bool). AllFine s (if b then plain_options r.pos e else infinite_or e.modes.own_infinite (mapped_options c s r e) e)) (sym h.identity)
-        (subst (λ (o : Option InfiniteMapping). AllFine s (infinite_or o (mapped_options c s r e) e)) (sym h.infinite) (by (is_first_piece s r e)))
+        (subst (λ (o : Option InfiniteMapping). AllFine s (infinite_or o (mapped_options c s r e) e)) (sym h.infinite) (by (is_first_piece s r e) refl))
       where
-        by : (b : Bool) → AllFine s (if b then first_piece_options c e.modes.peer_key r e else Dss (Some e.receiving.next) (Some (piece_mapping c s r)) ∷ [])
-        by true = first_fine e.modes.peer_key r is
-        by false = every_one _ (is.0, refl, is.1, is.2)
+        by : (b : Bool) → is_first_piece s r e ≡ b → AllFine s (if b then first_piece_options c e.modes.peer_key r e else Dss (Some e.receiving.next) (Some (piece_mapping c s r)) ∷ [])
+        by true first = first_fine e.modes.peer_key r is first
+        by false first = every_one _ (is.0, refl, is.1, is.2)
 
     fin_fine : (position : ℕ) → AllFine s (fin_options position e)
     fin_fine position =
         subst (λ (b : Bool). AllFine s (if b then plain_options position e else infinite_or e.modes.own_infinite (Dss (Some e.receiving.next) None ∷ []) e)) (sym h.identity)
         (subst (λ (o : Option InfiniteMapping). AllFine s (infinite_or o (Dss (Some e.receiving.next) None ∷ []) e)) (sym h.infinite) (every_one _ tt))
 
-    kind_fine : (kind : RecordKind) (r : Record) → RecordFine c s kind r → AllFine s (record_options kind c s r e)
+    kind_fine : (kind : RecordKind) (r : Record) → RecordFine c s e.modes.clear kind r → AllFine s (record_options kind c s r e)
     kind_fine Syn r is = syn_fine
     kind_fine Data r is = piece_fine r is
     kind_fine Fin r is = fin_fine r.pos
 
-    record_fine : (o : Option Record) → IfSome o (λ r. RecordFine c s r.kind r) → AllFine s (record_or_ack c s o e).options
+    record_fine : (o : Option Record) → IfSome o (λ r. RecordFine c s e.modes.clear r.kind r) → AllFine s (record_or_ack c s o e).options
     record_fine None is = plain_fine
     record_fine (Some r) is = kind_fine r.kind r is
 

@@ -35,6 +35,7 @@ use Rattle.rule_book.specs.Stream.{acked_each, acked_one, behind_acks, behind_pa
 abbrev pub is_option : Rule → Bool
 is_option rule.Form = true
 is_option rule.Keys = true
+is_option rule.Token = true
 is_option rule.JoinHmac = true
 is_option rule.AddressHmac = true
 is_option rule.FastCloseKey = true

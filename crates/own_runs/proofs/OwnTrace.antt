@@ -275,7 +275,7 @@ module _ (spelling : Spelling) (from : Side) where
 
 -- ---- a segment
 
-heads_are : (spelling : Spelling) (from : Side) (sg : PlainSegment) → (spelled spelling from sg).head ≡ spelled_head spelling from sg
+pub heads_are : (spelling : Spelling) (from : Side) (sg : PlainSegment) → (spelled spelling from sg).head ≡ spelled_head spelling from sg
 unfolding spelled
 heads_are spelling from sg = refl
 
@@ -299,7 +299,7 @@ module _ (Q : ℕ → Side → PlainSegment → Type 0) (start : Start) (x : Sen
   says : Spoken start x.path c x.from s.end sg
   says = s.spoken
 
-  fits : All (λ o. Fits (said_option c.spelling x.from o)) sg.options
+  pub fits : All (λ o. Fits (said_option c.spelling x.from o)) sg.options
   fits = All-weaker (OptionTells c x.from) (λ o. Fits (said_option c.spelling x.from o)) (λ o t. t.fits) sg.options says.tells.options
 
   abbrev pub segment : Segment
@@ -363,12 +363,15 @@ module _ (Q : ℕ → Side → PlainSegment → Type 0) (start : Start) (x : Sen
   plain : segment.head.syn ≡ true → sg.syn ≡ true
   plain syn = sym (ap (λ (h : Head). h.syn) (heads_are c.spelling x.from sg)) ∙ syn
 
-  number : (from : Side) → (numbers_of c.spelling from).initial.0 ≡ own_initial own x.path from
+  pub number : (from : Side) → (numbers_of c.spelling from).initial.0 ≡ own_initial own x.path from
   number A = sym (ap (λ (o : Option PathPlan). unwrap_or (option_map (λ plan. plan.initial_a) o) 0) s.there)
   number B = sym (ap (λ (o : Option PathPlan). unwrap_or (option_map (λ plan. plan.initial_b) o) 0) s.there)
 
-  seq_is : segment.head.seq ≡ (own_initial own x.path x.from + sg.position) % 2 ^ 32
+  pub seq_is : segment.head.seq ≡ (own_initial own x.path x.from + sg.position) % 2 ^ 32
   seq_is = ap (λ (h : Head). h.seq) (heads_are c.spelling x.from sg) ∙ ap (λ (n : ℕ). (n + sg.position) % 2 ^ 32) (number x.from)
+
+  pub payload_same : segment.payload ≡ sg.payload
+  payload_same = payload_is c.spelling x.from sg
 
   octets_are : length segment.payload ≡ length sg.payload
   octets_are = ap (λ (octets : List ℕ). length octets) (payload_is c.spelling x.from sg)
@@ -422,7 +425,11 @@ module _ (Q : ℕ → Side → PlainSegment → Type 0) (start : Start) (x : Sen
     answers = λ syn of_b o opened. subst (λ (a : Option Answered). IfSome a (AnswerIs own x.path o)) (sym (answer_are c.spelling x.from sg says.tells.sayable fits o)) (answers_so (plain syn) of_b o opened);
   }
 
-  -- by its sender and its options
+  -- by its path, its sender and its options
+  pub path_is : is_own.path ≡ x.path
+  unfolding is_own
+  path_is = refl
+
   pub from_is : is_own.from ≡ x.from
   unfolding is_own
   from_is = refl

@@ -1,4 +1,4 @@
--- The packets of a connection of ours break no rule on options, and have their payload within its mappings.
+-- The packets of a connection of ours break no rule on tokens and options, and have their payload within its mappings.
 use Rattle.std.proofs.Common.{◌≡◌, refl, sym, ap, ◌∙◌, subst, ℕ, ◌+◌, ◌-◌, ◌/◌, ◌%◌, ◌^◌, ◌≤◌, nat_le, nat_lt, inl, inr, arith, Bool, true, false, if◌then◌else◌, Option, Some, None, List, [], map}
 use Rattle.std.specs.Prelude.{All, IfSome}
 use Rattle.std.proofs.lemmas.List.Elements.{All-nil, All-weaker}
@@ -8,22 +8,19 @@ use Rattle.sides.specs.declared.side.Side.{Side}
 use Rattle.sides.specs.declared.side.Side.TheVariants.{A, B}
 use Rattle.sides.specs.Side.{peer}
 use Rattle.mptcp_options.specs.Value.{OptionValue}
-use Rattle.capture_reader.specs.Captured.{Captured}
 use Rattle.capture_reader.specs.Seen.{Seen}
-use Rattle.judge_rules.specs.declared.finding.Finding.TheVariants.{Number32}
 use Rattle.judge_rules.specs.declared.finding.Rule.{Rule}
-use Rattle.judge_rules.specs.declared.finding.Rule.TheVariants as rule
 use Rattle.seen_connections.specs.declared.connections.Keys.{Keys}
 use Rattle.seen_connections.specs.declared.flow.Belongs.{Belongs}
 use Rattle.seen_connections.specs.declared.flow.Flow.{Flow}
 use Rattle.seen_connections.specs.declared.flow.Opened.{Opened}
 use Rattle.seen_connections.specs.SeenOptions.{Readable, SeenValue, seen_options}
 use Rattle.seen_streams.specs.Positions.{position_of}
-use Rattle.seen_streams.specs.State.{Found, StreamValue}
+use Rattle.seen_streams.specs.State.{StreamValue}
 use Rattle.rule_book.specs.Facts.{Facts, own_base, own_lane}
 use Rattle.rule_book.specs.Judged.{Told, empty_book, judged_flow, judged_formed, judged_opened, judged_side, nothing_judged, opened_facts}
 use Rattle.rule_book.specs.Signals.{KeyedValue, judged_options, told_formless}
-use Rattle.rule_book.specs.State.{BookValue, LanesValue, stream_at, with_stream}
+use Rattle.rule_book.specs.State.{BookValue, stream_at, with_stream}
 use Rattle.rule_book.specs.Stream.{Left, gap_counted, judged_at, judged_from, judged_positions}
 use Rattle.capture_verdict.specs.Judging.{judged_packets}
 use Rattle.judge_laws.specs.GoesOn.{broke, stream_in}
@@ -31,13 +28,19 @@ use Rattle.judge_rules.specs.Mappings.{offer_of}
 use Rattle.judge_rules.specs.declared.mappings.Offer.{Offer}
 use Rattle.seen_streams.specs.State.{LaneValue}
 use Rattle.seq_units.specs.Number.{position_near}
+use Rattle.link_trace.specs.declared.sent.Sent.{Sent}
+use Rattle.world_laws.specs.Openings.{Start}
+use Rattle.own_runs.specs.Traces.{FitsCapture, packet_for}
 use Rattle.own_runs.proofs.KeptOptions.{kept_so}
+use Rattle.own_runs.proofs.LateJoins.{AllBehind}
 use Rattle.own_runs.proofs.Own.{Drawn, IsOwn, MapsIn, OfferIn, ValueIs, first_seq, is_a, own_initial}
 use Rattle.own_runs.proofs.OwnFlows.{BasesAre, FlowOn, KeysOwn, NonceIs}
 use Rattle.own_runs.proofs.OwnOptions.{IsOf, options_so, readable_so}
-use Rattle.own_runs.proofs.OwnPackets.{IsLeft, PacketIs, SegmentsKeep, book_holds, opens_so, sender_so}
+use Rattle.own_runs.proofs.OwnPackets.{opens_so, sender_so}
 use Rattle.own_runs.proofs.OwnPositions.{OfferFits, OptionFits, at_so, is_option}
 use Rattle.own_runs.proofs.Telling.{Untold, others_keep}
+use Rattle.own_runs.proofs.TokenPackets.{Leaves, SegmentsTell, book_tells}
+use Rattle.own_runs.proofs.Values.{drawn}
 
 -- of both sides
 abbrev BookUntold : BookValue → Type 0
@@ -59,9 +62,6 @@ with_untold B stream book new h B = new
 gaps_untold : (gaps : ℕ) (book : BookValue) → BookUntold book → BookUntold (record book { gaps = gaps })
 gaps_untold gaps book h A = h A
 gaps_untold gaps book h B = h B
-
-abbrev AnyLanes : ℕ → LanesValue → Type 0
-AnyLanes path lanes = Unit {0}
 
 -- ---- a position that is near has its number
 
@@ -87,7 +87,7 @@ near_so base top seq p is =
     by n ahead false false e is = back_so base top seq n p ahead (ltb-false (top + n) (2 ^ 32) e) (some_is is)
 
 -- a segment's position has its number
-numbered : (base : ℕ) (lane : LaneValue) (seq len p : ℕ) → position_of base lane seq len ≡ Some p → (base + p) % 2 ^ 32 ≡ seq % 2 ^ 32
+pub numbered : (base : ℕ) (lane : LaneValue) (seq len p : ℕ) → position_of base lane seq len ≡ Some p → (base + p) % 2 ^ 32 ≡ seq % 2 ^ 32
 numbered base lane seq len p is = by (position_near (2 ^ 32) base lane.top seq) refl is
   where
     by : (o : Option ℕ) → position_near (2 ^ 32) base lane.top seq ≡ o → option_and_then (λ position. if nat_le (position + len) (2 ^ 61) then Some position else None) o ≡ Some p
@@ -126,8 +126,8 @@ base_so d seen own flow f at packet index opened e =
     by B bases = bases.1
 
 module _ (d : Drawn) where
-  abbrev Leaves : Told → Type 0
-  Leaves told = IsLeft d (IsOwn d) BookUntold AnyLanes 0 told
+  abbrev LeavesSo : Told → Type 0
+  LeavesSo told = Leaves d BookUntold told
 
   module _ (at : Option Side) (packet : ℕ) (seen : Seen) (own : IsOwn d seen) where
     positions_so : (facts : Facts) (options : List OptionValue) (keys : Keys) (left : Left) → (initial : ℕ) → own_base facts ≡ (initial + 0) % 2 ^ 32
@@ -158,7 +158,7 @@ module _ (d : Drawn) where
 
     module _ (index : ℕ) (flow : Flow) (f : FlowOn d own.path flow) (keys : Keys) (k : KeysOwn d keys) (left : Left) (h : BookUntold left.book) where
       opened_so : (opened : Opened) → flow.opened ≡ Some opened
-          → Leaves (judged_opened (opened_facts at packet seen index flow opened own.from) (map Readable own.values) keys left)
+          → LeavesSo (judged_opened (opened_facts at packet seen index flow opened own.from) (map Readable own.values) keys left)
       opened_so opened e =
           let facts = opened_facts at packet seen index flow opened own.from in
           let it : IsOf d is_option own.path facts = record {
@@ -175,19 +175,18 @@ module _ (d : Drawn) where
                 (kept_so (MapsIn (own_initial d own.path own.from) seen.segment.head.seq seen.payload_len) facts own.values first own.maps
                 (All-nil (MapsIn (own_initial d own.path own.from) seen.segment.head.seq seen.payload_len)))
                 (with_untold own.from all.stream left.book made.untold h);
-            lanes = tt;
           }
 
       formed_so : (opened : Option Opened) → flow.opened ≡ opened
-          → Leaves (judged_formed at packet seen index flow opened own.from (map Readable own.values) keys left)
-      formed_so None e = record { keys = k; book = h; lanes = tt }
+          → LeavesSo (judged_formed at packet seen index flow opened own.from (map Readable own.values) keys left)
+      formed_so None e = record { keys = k; book = h }
       formed_so (Some opened) e = opened_so opened e
 
     flow_so : (index : ℕ) (flow : Flow) (f : FlowOn d own.path flow) (belongs : Belongs) → belongs.opener ≡ A → (keys : Keys) (left : Left) → KeysOwn d keys
-        → BookUntold left.book → Leaves (judged_flow at packet seen index flow belongs keys left)
+        → BookUntold left.book → LeavesSo (judged_flow at packet seen index flow belongs keys left)
     flow_so index flow f belongs is keys left k h =
-        subst (λ (s : Side). Leaves (judged_side at packet seen index flow s keys left)) (sym (sender_so d seen own flow f belongs is))
-        (subst (λ (options : List SeenValue). Leaves (judged_formed at packet seen index flow flow.opened own.from options keys
+        subst (λ (s : Side). LeavesSo (judged_side at packet seen index flow s keys left)) (sym (sender_so d seen own flow f belongs is))
+        (subst (λ (options : List SeenValue). LeavesSo (judged_formed at packet seen index flow flow.opened own.from options keys
         (record left { book = with_stream own.from (told_formless packet options (stream_at own.from left.book)) left.book }))) (sym options_are)
         (formed_so index flow f keys k (record left { book = with_stream own.from (told_formless packet (map Readable own.values) (stream_at own.from left.book)) left.book })
         (with_untold own.from (told_formless packet (map Readable own.values) (stream_at own.from left.book)) left.book
@@ -197,24 +196,15 @@ module _ (d : Drawn) where
         options_are : seen_options keys.checksums seen.segment.options ≡ map Readable own.values
         options_are = ap (λ (c : Bool). seen_options c seen.segment.options) k.checksums ∙ own.options
 
-  keep : SegmentsKeep d (IsOwn d) BookUntold AnyLanes
-  keep = record {
-    own = λ seen own. own;
+  tell : SegmentsTell d BookUntold
+  tell = record {
     new_book = new_untold;
-    new_lanes = λ path. tt;
-    token = λ wrong book h.
-        let s = wrong.belongs.opener in
-        with_untold s _ book
-        (others_keep is_option rule.Token wrong.packet (Found (Number32 wrong.expected wrong.was)) (stream_at s book).broken refl (h s)) h;
-    flow = λ at packet seen own index flow f belongs is keys left k h lanes.
-        let it = flow_so at packet seen own index flow f belongs is keys left k h in record { keys = it.keys; book = it.book; lanes = tt };
+    flow = λ at packet seen own index flow f belongs is keys left k h.
+        let it = flow_so at packet seen own index flow f belongs is keys left k h in record { keys = it.keys; book = it.book };
   }
 
-  abbrev pub OwnPacket : Captured → Type 0
-  OwnPacket packet = PacketIs d (IsOwn d) BookUntold AnyLanes packet
-
-  pub none_broke : (at : Option Side) (packets : List Captured) → All OwnPacket packets → (connection : ℕ) (s : Side) (stream : StreamValue)
-      → stream_in (judged_packets at true nothing_judged 1 packets) connection s ≡ Some stream → (r : Rule) → is_option r ≡ true → broke r stream ≡ false
-  none_broke at packets each connection s stream there r is =
-      let found = book_holds d (IsOwn d) BookUntold AnyLanes keep at packets each connection s stream there in
-      subst (λ (x : StreamValue). broke r x ≡ false) found.2 (found.1 s r is)
+pub none_broke : (start : Start) (at : Option Side) (trace : List Sent) → AllBehind start ⊥ ⊥ trace → All FitsCapture trace → (connection : ℕ) (s : Side) (stream : StreamValue)
+    → stream_in (judged_packets at true nothing_judged 1 (map packet_for trace)) connection s ≡ Some stream → (r : Rule) → is_option r ≡ true → broke r stream ≡ false
+none_broke start at trace come fit connection s stream there r is =
+    let found = book_tells start BookUntold (tell (drawn start)) at trace come fit connection s stream there in
+    subst (λ (x : StreamValue). broke r x ≡ false) found.2 (found.1 s r is)

@@ -1,6 +1,10 @@
 -- The capture of a run of ours, judged.
 use Rattle.std.specs.Prelude.{◌≡◌, ℕ, true, false, Option, Some, List, length, All, Ok}
 use Rattle.sides.specs.declared.side.Side.{Side}
+use Rattle.actor_desk.specs.Words.{pick}
+use Rattle.octet_text.specs.Prefix.{IsPrefix}
+use Rattle.capture_verdict.specs.Sent.{IsSent}
+use Rattle.judge_rules.specs.declared.acks.ToldPlace.{ToldPlace}
 use Rattle.judge_rules.specs.declared.finding.Rule.{Rule}
 use Rattle.link_trace.specs.Captures.{blocks_of}
 use Rattle.pcap_text.specs.Blocks.{capture_text}
@@ -26,9 +30,29 @@ NoRunBreaks rule = (start : Start) (turns : List Turn) → HasRoom start → Num
     → (side : Side) (at : Option Side) (judged : JudgedValue) → judged_capture at true (capture_of start turns side) ≡ Ok judged
     → (connection : ℕ) (s : Side) (stream : StreamValue) → stream_in judged connection s ≡ Some stream → broke rule stream ≡ false
 
--- The same, where the script alters no payload and takes no options away.
-abbrev pub NoWholeRunBreaks : Rule → Type 0
-NoWholeRunBreaks rule = (start : Start) (turns : List Turn) → IsPlain start → IsWhole start → NumbersFit start
+-- of each stream that the judge finds in the capture of a connection whose script alters no payload and takes no options away
+abbrev pub OfWholeRuns : (Start → Side → StreamValue → Type 0) → Type 0
+OfWholeRuns Holds = (start : Start) (turns : List Turn) → IsPlain start → IsWhole start → NumbersFit start
     → All FitsCapture (trace_of turns (opened_world start))
     → (side : Side) (at : Option Side) (judged : JudgedValue) → judged_capture at true (capture_of start turns side) ≡ Ok judged
-    → (connection : ℕ) (s : Side) (stream : StreamValue) → stream_in judged connection s ≡ Some stream → broke rule stream ≡ false
+    → (connection : ℕ) (s : Side) (stream : StreamValue) → stream_in judged connection s ≡ Some stream → Holds start s stream
+
+-- its side didn't break this rule
+abbrev pub NoWholeRunBreaks : Rule → Type 0
+NoWholeRunBreaks rule = OfWholeRuns (λ start s stream. broke rule stream ≡ false)
+
+abbrev pub file_of : Start → Side → List ℕ
+file_of start s = pick s start.file_a start.file_b
+
+-- What is written of it, up to the first octet that isn't there, is a first part of its side's file.
+abbrev pub StreamsBeginTheFiles : Type 0
+StreamsBeginTheFiles = OfWholeRuns (λ start s stream. (octets : List ℕ) → IsSent stream.octet octets → IsPrefix octets (file_of start s))
+
+-- Its DATA_FIN stands behind the last octet of the file.
+abbrev pub DataFinsEndTheFiles : Type 0
+DataFinsEndTheFiles = OfWholeRuns (λ start s stream. (fin : ToldPlace) → stream.fin ≡ Some fin → fin.place ≡ length (file_of start s))
+
+-- Where all octets before the DATA_FIN are there, it is the file.
+abbrev pub WholeStreamsAreTheFiles : Type 0
+WholeStreamsAreTheFiles = OfWholeRuns (λ start s stream. (fin : ToldPlace) → stream.fin ≡ Some fin
+    → (octets : List ℕ) → IsSent stream.octet octets → length octets ≡ fin.place → octets ≡ file_of start s)

@@ -1,7 +1,7 @@
 //! What is read in a capture of ours, as clauses of functions that do nothing.
-ghost use Rattle.judge_rules.specs.declared.finding.Rule.TheVariants.{AddressHmac, DataFin, Fail, FastCloseKey, Form, Infinite, JoinHmac, Keys, Within};
+ghost use Rattle.judge_rules.specs.declared.finding.Rule.TheVariants.{AddressHmac, DataFin, DssSum, Fail, FastCloseKey, Form, Infinite, JoinHmac, Keys, Mapping, PlaceContent, Token, Within};
 ghost use Rattle.own_runs.specs.Packets.{CapturesAreTheirPackets};
-ghost use Rattle.own_runs.specs.Runs.{NoRunBreaks, NoWholeRunBreaks};
+ghost use Rattle.own_runs.specs.Runs.{DataFinsEndTheFiles, NoRunBreaks, NoWholeRunBreaks, StreamsBeginTheFiles, WholeStreamsAreTheFiles};
 ghost use Rattle.own_runs.specs.Segments.{SegmentsAreFound, WrittenSegmentsAreFound};
 ghost use Rattle.own_runs.specs.Traces.{TracesAreTheirPackets, TracesAreTheirSegments};
 
@@ -29,15 +29,16 @@ pub fn traces_are_their_segments()
 {}
 
 /// A law: in the capture of a run of ours no side is told to break a rule of the judge's on options: each option reads (`form`), MP_CAPABLE
-/// shows the known keys (`keys`, RFC 8684, section 3.1), a join the HMACs of both keys and nonces (`join_hmac`, section 3.2), an ADD_ADDR that
-/// of its address (`address_hmac`, section 3.4.1), and MP_FASTCLOSE the key of its receiver (`fast_close_key`, section 3.5). Nor is payload
-/// sent outside of a mapping of its segment (`within`, section 3.3.1).
+/// shows the known keys (`keys`, RFC 8684, section 3.1), a join the token of a key that was shown before it (`token`, section 3.2) and the
+/// HMACs of both keys and nonces (`join_hmac`, section 3.2), an ADD_ADDR that of its address (`address_hmac`, section 3.4.1), and MP_FASTCLOSE
+/// the key of its receiver (`fast_close_key`, section 3.5). Nor is payload sent outside of a mapping of its segment (`within`, section 3.3.1).
 ///
 /// The capture is that of a trace (`traces_are_their_segments`), with sums checked. It holds of every list of turns, lawful or not, whatever the
 /// script takes away or alters, where the numbers of the start fit, and wherever the capture is said to be taken.
 pub fn own_runs_break_no_rule()
     ensures form { NoRunBreaks Form }
     ensures keys { NoRunBreaks Keys }
+    ensures token { NoRunBreaks Token }
     ensures join_hmac { NoRunBreaks JoinHmac }
     ensures address_hmac { NoRunBreaks AddressHmac }
     ensures fast_close_key { NoRunBreaks FastCloseKey }
@@ -48,8 +49,23 @@ pub fn own_runs_break_no_rule()
 /// stands at one place, and no data behind it (`data_fin`, RFC 8684, section 3.3.3); no infinite mapping is followed by another
 /// (`infinite`, section 3.7). Nor does an MP_FAIL name what is no mapping (`fail`, section 3.7), as there is none. Else as in
 /// `own_runs_break_no_rule`.
+///
+/// Each position of a subflow has one place (`mapping`, section 3.3.1), each place one octet (`place_content`), and each checksum is that of
+/// its mapping and its octets (`dss_sum`).
 pub fn whole_runs_break_no_rule()
     ensures data_fin { NoWholeRunBreaks DataFin }
     ensures infinite { NoWholeRunBreaks Infinite }
     ensures fail { NoWholeRunBreaks Fail }
+    ensures mapping { NoWholeRunBreaks Mapping }
+    ensures place_content { NoWholeRunBreaks PlaceContent }
+    ensures dss_sum { NoWholeRunBreaks DssSum }
+{}
+
+/// A law: what the judge finds of a side's stream in the capture of such a run, over all subflows, up to the first octet that isn't there, is a
+/// first part of the side's file (`begins`). Its DATA_FIN stands behind the file's last octet (`ends`, RFC 8684, section 3.3.3), so where all
+/// octets before it are there it is the file (`whole`). Else as in `whole_runs_break_no_rule`.
+pub fn captures_show_the_files()
+    ensures begins { StreamsBeginTheFiles }
+    ensures ends { DataFinsEndTheFiles }
+    ensures whole { WholeStreamsAreTheFiles }
 {}

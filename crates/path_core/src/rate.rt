@@ -29,7 +29,7 @@ fn growth_by(path: u8, rows: &Rows, mss: u16, acked: u32) -> u32
     requires mss { mss ≤ 1460 }
     ensures { result ≡ growth_by (find (is_row_of path) rows.now) rows.now mss (min 1048576 acked) }
 {
-    match row_of(path, rows.listed().as_slice()) {
+    match row_of(path, rows.listed()) {
         Some(row) => growth(&row, rows, u32::from(mss), acked.min(1_048_576)),
         None => 0,
     }

@@ -302,27 +302,38 @@ path_breaks p sound silent calm = record {
   fails = λ s. never_fails s p (sound s);
 }
 
+facts : (start : Start) → IsMildStart start → (turns : List Turn) → Facts (world_run values turns (opened_world start))
+facts start mild turns = record {
+  upright = each_upright start turns mild.plain mild.strips;
+  agree = mappings_agree start turns mild.plain.size;
+  fine = nothing_refused start turns mild.plain;
+  keys = keys_are_known start turns mild;
+  live = (what_is_told_is_known values).live start turns;
+  maps = each_maps start turns mild;
+}
+
+-- the duty that comes first on path 0 is known
+pub each_first_known : (start : Start) (turns : List Turn) → IsMildStart start → (actor : ℕ) (c : ActorCrew Carried) → slice_get (world_run values turns (opened_world start)).crew actor ≡ Some c
+    → OfPaths (λ p. is_joined p.profile ≡ false → FirstKnown p.agenda p) c.member
+each_first_known start turns mild actor c there =
+    let all = facts start mild turns in
+    by c.member (all.upright.each actor c there) (all.agree.each actor c there) (all.keys.each actor c there) ((run_calm turns (opened_world start) (facts start mild) (opened_calm start)).each actor c there)
+  where
+    by : (m : Actor Carried) → MemberUpright m → EndsAgree m → OfPaths HasKeys m → MemberCalm m → OfPaths (λ p. is_joined p.profile ≡ false → FirstKnown p.agenda p) m
+    by (App a) upright agree keys calm = tt
+    by (Path p) upright agree keys calm = λ first. first_known p upright agree (keys first) (calm first).1 first
+
 abbrev NeverBroken : Actor Carried → Type 0
 NeverBroken = HoldsOfKind (λ app. Unit {0}) IsNeverBroken
 
 pub never_breaks : IsPromisedMildly values (λ start w. NeverBreaks w)
 never_breaks start turns mild = record {
-  each = λ actor c there. by c.member ((run_calm turns (opened_world start) facts (opened_calm start)).each actor c there) ((each_upright start turns mild.plain mild.strips).each actor c there)
+  each = λ actor c there. by c.member ((run_calm turns (opened_world start) (facts start mild) (opened_calm start)).each actor c there) ((each_upright start turns mild.plain mild.strips).each actor c there)
       (stops_are_asked start turns actor c there);
 }
   where
     w : WorldState Carried
     w = world_run values turns (opened_world start)
-
-    facts : (more : List Turn) → Facts (world_run values more (opened_world start))
-    facts more = record {
-      upright = each_upright start more mild.plain mild.strips;
-      agree = mappings_agree start more mild.plain.size;
-      fine = nothing_refused start more mild.plain;
-      keys = keys_are_known start more mild;
-      live = (what_is_told_is_known values).live start more;
-      maps = each_maps start more mild;
-    }
 
     by : (m : Actor Carried) → MemberCalm m → MemberUpright m → StopsAreAsked w m → NeverBroken m
     by (App a) calm upright asked = tt

@@ -190,7 +190,7 @@ module _ (t : Side) (e f : PathEnd) (far : IsFar e f) where
 
 -- ---- what a copy means
 
-past_met : (state : State) → is_past state ≡ true → 2 ≤ stage state
+pub past_met : (state : State) → is_past state ≡ true → 2 ≤ stage state
 past_met phase.Waiting is = absurd (true≢false (sym is))
 past_met phase.Listen is = absurd (true≢false (sym is))
 past_met phase.SynSent is = absurd (true≢false (sym is))
@@ -344,7 +344,7 @@ living_low phase.Dead living high = true≢false living
 living_low phase.Waiting living high = omega (arith, high)
 living_low _ living high = omega (arith, high)
 
-none_other : (d : Duty) → is_event d ≡ false → (writes d).other ≡ nothing
+pub none_other : (d : Duty) → is_event d ≡ false → (writes d).other ≡ nothing
 none_other (duties.Step step_duties.Events) other = absurd (true≢false other)
 none_other d other = refl
 

@@ -43,7 +43,7 @@ use Rattle.path_core.specs.Fallback.{breaks_by_ack, with_plain_ack}
 use Rattle.path_core.specs.MpJoin.{is_joined, keys_begun}
 use Rattle.path_core.specs.Profile.{Profile}
 use Rattle.path_core.specs.State.{PathState, at_tick, end_at, goes_on, with_end}
-use Rattle.path_core.specs.Steps.{takes, next_round}
+use Rattle.path_core.specs.Steps.{begins_turn, next_round, takes}
 use Rattle.path_core.specs.Treating.{item_passed, answered_heard, answered_item, item_of}
 use Rattle.path_core.specs.declared.events.Event.{Event}
 use Rattle.path_core.specs.declared.events.Event.TheVariants as happenings
@@ -393,6 +393,10 @@ module _ {C : Type 0} (k : Codec C) where
   next_die p s living dead =
       let q : PathState C = record p { clock = p.until; until = p.until + 100 } in
       absurd (both_ways _ ((at_side s q (next_round p) (begins_lasts BothSpared spared_lasts q)).living (ap (λ (e : PathEnd). is_dead e.tcp.state) (same_end s p q refl refl) ∙ living)) dead)
+
+  -- an end that lives does so as a turn begins
+  pub begins_living : (p : PathState C) (s : Side) → is_dead (end_at s p).tcp.state ≡ false → is_dead (end_at s (begins_turn p)).tcp.state ≡ false
+  begins_living p s living = (at_side s p (begins_turn p) (begins_lasts BothSpared spared_lasts p)).living living
 
   -- ---- the world
 

@@ -150,7 +150,7 @@ module _ (p : PathState Carried) (known : Known p) (s : Side) where
     both_syns : 2 ≤ stage at_side.tcp.state
     both_syns = past_opening at_side.tcp h.first h.others (known.reached s) h.records (subst (λ n. 0 < n) (sym h.same.pos) behind_syn)
 
-    first_mapped : at_side.modes.identity ≡ false → at_side.modes.own_infinite ≡ None → is_first_piece s r at_side ≡ false → HasItsMapping p.profile s r at_side
+    pub first_mapped : at_side.modes.identity ≡ false → at_side.modes.own_infinite ≡ None → is_first_piece s r at_side ≡ false → HasItsMapping p.profile s r at_side
     first_mapped identity finite told_before =
         let some : 1 ≤ h.first.mapping.length = mapped.0 in
         let place : place_numbered p.profile s h.first.mapping.number < 2 ^ 31 = mapped.3 in

@@ -283,7 +283,7 @@ module _ {C : Type 0} where
 
   -- ---- duties that are passed
 
-  abbrev BothSame : PathState C → PathState C → Type 0
+  abbrev pub BothSame : PathState C → PathState C → Type 0
   BothSame p q = (s : Side) → in_a_row (end_at s q) ≡ in_a_row (end_at s p)
 
   -- the end of this side passes a duty
@@ -319,7 +319,7 @@ module _ {C : Type 0} where
   passed_same (duties.Send (send_duties.ResetNoted s)) p = λ t. refl
   passed_same d p = plain_same (side_of d) (writes d) p (passed d p) refl refl (passes_no_more d p)
 
-  same_lasts : Lasts BothSame
+  pub same_lasts : Lasts BothSame
   same_lasts = record {
     agenda = λ ds p t. by t ds p;
     chains = λ p q r x y t. y t ∙ x t;

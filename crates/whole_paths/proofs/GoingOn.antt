@@ -38,7 +38,7 @@ use Rattle.whole_paths.specs.Acknowledged.{IdleIsAcknowledged, IsAllAcknowledged
 use Rattle.whole_paths.specs.AsFar.{IsActorAsFar, IsSideAsFar, stage}
 use Rattle.whole_paths.specs.Courses.{counted}
 use Rattle.whole_paths.specs.Delivery.{AllIsThere, FinishedIsThere, HasFinished, IsAllThere}
-use Rattle.whole_paths.specs.GoingOn.{IsAboutToGoOn, IsOpenHere, IsWaiting, RoundsBeginToGoOn, RoundsGoOn, StepsLetItGoOn, steps_of}
+use Rattle.whole_paths.specs.GoingOn.{EndsGoOn, IsEndOpen, IsEndOpenHere, going_side, IsAboutToGoOn, IsWaiting, RoundsBeginToGoOn, RoundsGoOn, StepsLetItGoOn, steps_of}
 use Rattle.whole_paths.specs.GoingOn.IsAboutToGoOn.{this_round, next_round}
 use Rattle.whole_paths.specs.KnownEnds.{ClosedIsAcknowledged, WaitsForNoEnd}
 use Rattle.whole_paths.specs.Mild.{EndsGoByMappings, IsMildStart}
@@ -215,7 +215,7 @@ module _ (start : Start) where
 -- ---- the actor 2
 
 -- there is one, and it is a path
-path_at : (start : Start) (plan : PathPlan) → start.paths ≡ plan ∷ [] → (turns : List Turn) → (c : ActorCrew Carried) × (slice_get (reached values start turns).crew 2 ≡ Some c) × (p : PathState Carried) × (c.member ≡ Path p)
+pub path_at : (start : Start) (plan : PathPlan) → start.paths ≡ plan ∷ [] → (turns : List Turn) → (c : ActorCrew Carried) × (slice_get (reached values start turns).crew 2 ≡ Some c) × (p : PathState Carried) × (c.member ≡ Path p)
 path_at start plan one turns =
     let first = opened_there start plan one in
     let later = (goes_on_so values (opened_world start) turns).crew 2 first.0 first.1 in
@@ -259,7 +259,7 @@ module _ (start : Start) (plan : PathPlan) (one : start.paths ≡ plan ∷ []) (
     abbrev Became : Side → Type 0
     Became s = IsAllThere s (after turns) ⊎ (((written_by s (after since)).closed ≡ false) × (length (written_by s (after since)).written ≤ acked_len (written_by s (after turns)).marks))
 
-    module _ (c : ActorCrew Carried) (there : slice_get (after turns).crew 2 ≡ Some c) (p : PathState Carried) (is : c.member ≡ Path p) (opened : IsOpen p) where
+    module _ (c : ActorCrew Carried) (there : slice_get (after turns).crew 2 ≡ Some c) (p : PathState Carried) (is : c.member ≡ Path p) (s : Side) (opened : IsEndOpen s p) where
       then_there : slice_get (after_steps values order (after since)).crew 2 ≡ Some c
       then_there = ap (λ (w : WorldState Carried). slice_get w.crew 2) (sym ended) ∙ there
 
@@ -278,18 +278,18 @@ module _ (start : Start) (plan : PathPlan) (one : start.paths ≡ plan ∷ []) (
       abbrev Nothing : Side → Type 0
       Nothing s = NothingLeft (end_at s p) (acked_len (written_by s (after turns)).marks) (length (written_by s (after turns)).written)
 
-      closed_became : (s : Side) → may_finish (end_at s p).tcp.state ≡ true → (written_by s (after since)).closed ≡ true → Nothing s → Became s
-      closed_became s may closed left =
+      closed_became : may_finish (end_at s p).tcp.state ≡ true → (written_by s (after since)).closed ≡ true → Nothing s → Became s
+      closed_became may closed left =
           let ends = subst (HoldsOfKind (λ app. Unit {0}) (ClosedIsAcknowledged (after since) (after_steps values order (after since)))) is
           (what_is_closed_is_acknowledged start (after since) order mild.plain.size mild.fit begin 2 c then_there) in
           ⊎_elim
           (λ acked. inl (finished s (HasFinished.acknowledged acked)))
           (λ stop. absurd (both_ways _ (subst (λ (w : WorldState Carried). (written_by s w).aborted ≡ false) ended ((stopped_at turns).send s)) stop))
-          (ends agenda s closed may (opened.clear s) (maps s) left.records left.end)
+          (ends agenda s closed may opened.clear (maps s) left.records left.end)
 
-      written_became : (s : Side) → may_finish (end_at s p).tcp.state ≡ true → (written_by s (after since)).closed ≡ false → Nothing s → Became s
-      written_became s may unclosed left = ⊎_elim
-          (λ unshut. by (whole agenda s may (opened.clear s) (record { records = left.records; pieces = left.granted; open_window = unshut })))
+      written_became : may_finish (end_at s p).tcp.state ≡ true → (written_by s (after since)).closed ≡ false → Nothing s → Became s
+      written_became may unclosed left = ⊎_elim
+          (λ unshut. by (whole agenda s may opened.clear (record { records = left.records; pieces = left.granted; open_window = unshut })))
           (λ all. inr (unclosed, omega (arith, all, more_written)))
           left.window
         where
@@ -306,46 +306,52 @@ module _ (start : Start) (plan : PathPlan) (one : start.paths ≡ plan ∷ []) (
               absurd (both_ways _ (subst (λ (w : WorldState Carried). last_on_standby s false (steps_since 2 (after since) w) ≡ false) ended (never_on_standby values start plan turns one 2 s (after since))) stands)
           by (IsAllAcknowledged.stopped stop) = absurd (both_ways _ (subst (λ (w : WorldState Carried). (written_by s w).aborted ≡ false) ended ((stopped_at turns).send s)) stop)
 
-      became : (s : Side) → may_finish (end_at s p).tcp.state ≡ true → Nothing s → Became s
-      became s may left = by (written_by s (after since)).closed refl
+      became : may_finish (end_at s p).tcp.state ≡ true → Nothing s → Became s
+      became may left = by (written_by s (after since)).closed refl
         where
           by : (b : Bool) → (written_by s (after since)).closed ≡ b → Became s
-          by true closed = closed_became s may closed left
-          by false unclosed = written_became s may unclosed left
+          by true closed = closed_became may closed left
+          by false unclosed = written_became may unclosed left
 
-      behind_became : (s : Side) → may_finish (end_at s p).tcp.state ≡ false → Became s
-      behind_became s behind = inl (finished s (HasFinished.sent_fin (open_behind (end_at s p).tcp.state (opened.past s) (opened.living s) behind) (opened.living s)))
+      behind_became : may_finish (end_at s p).tcp.state ≡ false → Became s
+      behind_became behind = inl (finished s (HasFinished.sent_fin (open_behind (end_at s p).tcp.state opened.past opened.living behind) opened.living))
 
     -- the first of the two rounds
-    first_so : (s : Side) (n : ℕ) → counted values start since ≡ n → (IsAllThere s (after since) → ⊥) → IsOpenHere (after turns) → (o : Option (ActorCrew Carried)) → slice_get (after turns).crew 2 ≡ o
-        → (n < counted values start turns) ⊎ (IsWaiting (after turns) ⊎ IsAboutToGoOn start n 1 (turns ++ Turn.Round ∷ []))
+    abbrev FirstGoes : Side → ℕ → Type 0
+    FirstGoes s n = (n < counted values start turns) ⊎ (((x : IsWaiting (after turns)) × (x.side ≡ s)) ⊎ ((g : IsAboutToGoOn start n 1 (turns ++ Turn.Round ∷ [])) × (going_side g ≡ s)))
+
+    first_so : (s : Side) (n : ℕ) → counted values start since ≡ n → (IsAllThere s (after since) → ⊥) → IsEndOpenHere s (after turns) → (o : Option (ActorCrew Carried)) → slice_get (after turns).crew 2 ≡ o
+        → FirstGoes s n
     first_so s n count never opened None none = let path = path_at start plan one turns in let wrong = sym path.1 ∙ none in cc
     first_so s n count never opened (Some c) there = by c.member refl
       where
-        next : Became s → (n < counted values start turns) ⊎ (IsWaiting (after turns) ⊎ IsAboutToGoOn start n 1 (turns ++ Turn.Round ∷ []))
+        next : Became s → FirstGoes s n
         next (inl all) = inl (subst (λ m. m < counted values start turns) count (there_counts start since (steps_of order) s never all))
         next (inr rest) =
             let more : List Turn = steps_of order ++ Turn.Round ∷ [] in
             let same : turns ++ Turn.Round ∷ [] ≡ since ++ more = append_assoc since (steps_of order) (Turn.Round ∷ []) in
             let round : after (since ++ more) ≡ end_round (after turns) = ap after (sym same) ∙ run_append values turns (Turn.Round ∷ []) (opened_world start) in
-            inr (inr (next_round s since more [] refl (same ∙ sym (append-nil (since ++ more))) count (BeginsRound.Next turns over round) rest.0
-            (subst (λ (books : StampedBooks). length (written_by s (after since)).written ≤ acked_len (send_of s (books_in books)).marks) (sym (ap (λ (w : WorldState Carried). w.books) round ∙ same_books (after turns))) rest.1)))
+            inr (inr (
+              next_round s since more [] refl (same ∙ sym (append-nil (since ++ more))) count (BeginsRound.Next turns over round) rest.0
+                  (subst (λ (books : StampedBooks). length (written_by s (after since)).written ≤ acked_len (send_of s (books_in books)).marks) (sym (ap (λ (w : WorldState Carried). w.books) round ∙ same_books (after turns))) rest.1),
+              refl,
+            ))
 
-        by : (m : Actor Carried) → c.member ≡ m → (n < counted values start turns) ⊎ (IsWaiting (after turns) ⊎ IsAboutToGoOn start n 1 (turns ++ Turn.Round ∷ []))
+        by : (m : Actor Carried) → c.member ≡ m → FirstGoes s n
         by (App a) is =
             let path = path_at start plan one turns in
             let wrong : App a ≡ Path path.2 = sym is ∙ ap (λ (x : ActorCrew Carried). x.member) (same_Some c path.0 (sym there ∙ path.1)) ∙ path.3 in cc
         by (Path p) is = by_state (may_finish (end_at s p).tcp.state) refl
           where
-            is_open : IsOpen p
-            is_open = subst (HoldsOfKind (λ app. Unit {0}) IsOpen) is (opened c there)
+            is_open : IsEndOpen s p
+            is_open = subst (HoldsOfKind (λ app. Unit {0}) (IsEndOpen s)) is (opened c there)
 
-            by_state : (b : Bool) → may_finish (end_at s p).tcp.state ≡ b → (n < counted values start turns) ⊎ (IsWaiting (after turns) ⊎ IsAboutToGoOn start n 1 (turns ++ Turn.Round ∷ []))
-            by_state false behind = next (behind_became c there p is is_open s behind)
+            by_state : (b : Bool) → may_finish (end_at s p).tcp.state ≡ b → FirstGoes s n
+            by_state false behind = next (behind_became c there p is s is_open behind)
             by_state true may = ⊎_elim
-                (λ some. inr (inl (record { path = p; crew = c; there = there; is = is; side = s; may = may; outstanding = some.outstanding; left = some.left })))
-                (λ left. next (became c there p is is_open s may left))
-                (left_or (end_at s p) (acked_len (written_by s (after turns)).marks) (length (written_by s (after turns)).written) (kept c there p is is_open s).identity (kept c there p is is_open s).own)
+                (λ some. inr (inl (record { path = p; crew = c; there = there; is = is; side = s; may = may; outstanding = some.outstanding; left = some.left }, refl)))
+                (λ left. next (became c there p is s is_open may left))
+                (left_or (end_at s p) (acked_len (written_by s (after turns)).marks) (length (written_by s (after turns)).written) (kept c there p is s is_open s).identity (kept c there p is s is_open s).own)
 
   -- the second one
   not_going : (actor : ℕ) (w : WorldState Carried) → all_over w.crew ≡ true → is_going actor w ≡ false
@@ -381,17 +387,20 @@ module _ (start : Start) (plan : PathPlan) (one : start.paths ≡ plan ∷ []) (
       by (GoesOnWriting.more written) = counts (Gains.writes (omega (arith, low, some, written)))
       by (GoesOnWriting.stopped stop) = absurd (both_ways _ ((stopped_at ((since ++ more) ++ steps_of order)).send s) stop)
 
-  round_so : (n rounds : ℕ) (turns : List Turn) → all_over (after turns).crew ≡ true → IsOpenHere (after turns) → IsAboutToGoOn start n (suc rounds) turns
-      → (n < counted values start turns) ⊎ (IsWaiting (after turns) ⊎ IsAboutToGoOn start n rounds (turns ++ Turn.Round ∷ []))
-  round_so n rounds ts over opened (this_round s since order left is count begin none) =
-      subst (λ m. (n < counted values start ts) ⊎ (IsWaiting (after ts) ⊎ IsAboutToGoOn start n m (ts ++ Turn.Round ∷ []))) (sym (ap pred left))
-      (subst (λ ts. (n < counted values start ts) ⊎ (IsWaiting (after ts) ⊎ IsAboutToGoOn start n 1 (ts ++ Turn.Round ∷ []))) (sym is)
-      (first_so since order begin (subst (λ ts. all_over (after ts).crew ≡ true) is over) s n count none (subst (λ ts. IsOpenHere (after ts)) is opened) (slice_get (after (since ++ steps_of order)).crew 2) refl))
+  -- as a round ends, from this side
+  abbrev Goes : Side → ℕ → ℕ → List Turn → Type 0
+  Goes s n rounds ts = (n < counted values start ts) ⊎ (((x : IsWaiting (after ts)) × (x.side ≡ s)) ⊎ ((g : IsAboutToGoOn start n rounds (ts ++ Turn.Round ∷ [])) × (going_side g ≡ s)))
+
+  round_so : (n rounds : ℕ) (turns : List Turn) → all_over (after turns).crew ≡ true → (h : IsAboutToGoOn start n (suc rounds) turns) → IsEndOpenHere (going_side h) (after turns) → Goes (going_side h) n rounds turns
+  round_so n rounds ts over (this_round s since order left is count begin none) opened =
+      subst (λ m. Goes s n m ts) (sym (ap pred left))
+      (subst (λ ts. Goes s n 1 ts) (sym is)
+      (first_so since order begin (subst (λ ts. all_over (after ts).crew ≡ true) is over) s n count none (subst (λ ts. IsEndOpenHere s (after ts)) is opened) (slice_get (after (since ++ steps_of order)).crew 2) refl))
     where
       pred : ℕ → ℕ
       pred zero = 0
       pred (suc m) = m
-  round_so n rounds ts over opened (next_round s since more order left is count begin unclosed all) =
+  round_so n rounds ts over (next_round s since more order left is count begin unclosed all) opened =
       inl (subst (λ ts. n < counted values start ts) (sym is)
       (subst (λ m. m < counted values start ((since ++ more) ++ steps_of order)) count
       (second_so s since more order begin (subst (λ ts. all_over (after ts).crew ≡ true) is over) unclosed all)))
@@ -402,5 +411,22 @@ rounds_begin_to_go_on start turns begin = begins_so start turns begin
 pub steps_let_it_go_on : StepsLetItGoOn
 steps_let_it_go_on start n rounds turns actor h = step_so start n rounds turns actor h
 
+-- the side stays
+pub step_side : (start : Start) (n rounds : ℕ) (turns : List Turn) (actor : ℕ) (h : IsAboutToGoOn start n rounds turns) → going_side (steps_let_it_go_on start n rounds turns actor h) ≡ going_side h
+unfolding steps_let_it_go_on step_so
+step_side start n rounds turns actor (this_round s since order two is count begin none) = refl
+step_side start n rounds turns actor (next_round s since more order one is count begin unclosed all) = refl
+
+pub ends_go_on : EndsGoOn
+ends_go_on start plan n rounds turns one mild some over h opened = round_so start plan one mild some n rounds turns over h opened
+
+-- where path 0 is open, its ends are
+end_open : (s : Side) (m : Actor Carried) → HoldsOfKind (λ app. Unit {0}) IsOpen m → HoldsOfKind (λ app. Unit {0}) (IsEndOpen s) m
+end_open s (App a) h = tt
+end_open s (Path p) h = record { past = h.past s; living = h.living s; clear = h.clear s }
+
 pub rounds_go_on : RoundsGoOn
-rounds_go_on start plan n rounds turns one mild some over opened h = round_so start plan one mild some n rounds turns over opened h
+rounds_go_on start plan n rounds turns one mild some over opened h = ⊎_elim
+    (λ rises. inl rises)
+    (λ rest. inr (⊎_elim (λ waits. inl waits.0) (λ on. inr on.0) rest))
+    (ends_go_on start plan n rounds turns one mild some over h (λ c there. end_open (going_side h) c.member (opened c there)))

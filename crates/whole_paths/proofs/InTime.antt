@@ -70,7 +70,7 @@ use Rattle.world_laws.proofs.Writes.Steps.{Lasts, unwritten, takes_lasts, begins
 use Rattle.whole_paths.specs.EndSteps.{SubflowStep, SubflowSteps, PathStep}
 use Rattle.whole_paths.specs.EndSteps.SubflowStep.{arrives, holds, owes, keeps, drops, advances, passes, forgets, pushes, finishes, sends, settles, fires, grows, begins, joins, dies}
 use Rattle.whole_paths.specs.EndSteps.SubflowSteps.{none, more}
-use Rattle.whole_paths.specs.InTime.{ComesFrom, NothingIsOverdue}
+use Rattle.whole_paths.specs.InTime.{ComesFrom, EventsComeInOrder, NothingIsOverdue}
 use Rattle.whole_paths.proofs.Copies.{LinkStep, link_step, passed_link}
 use Rattle.whole_paths.proofs.Copies.LinkStep.{stays, hands, delivers, is_cut}
 use Rattle.whole_paths.proofs.Duties.{passed_steps, answered_steps}
@@ -473,14 +473,14 @@ module _ {C : Type 0} where
   passed_same d p = unhappened (side_of d) (writes d) p _ refl (passes_no_more d p)
 
   -- a line is taken, or A joins; neither comes again
-  record Fewer (p q : PathState C) : Type 0 where
-    lines : (q.lines ≡ p.lines) ⊎ (q.lines ≡ tail_of p.lines)
-    joined : (q.joined_at ≡ p.joined_at) ⊎ (q.joined_at ≡ None)
+  pub record Fewer (p q : PathState C) : Type 0 where
+    pub lines : (q.lines ≡ p.lines) ⊎ (q.lines ≡ tail_of p.lines)
+    pub joined : (q.joined_at ≡ p.joined_at) ⊎ (q.joined_at ≡ None)
 
   same_fewer : (p q : PathState C) → Same p q → Fewer p q
   same_fewer p q x = record { lines = inl x.lines; joined = inl x.joined }
 
-  happens_fewer : (k : Codec C) (event : Event) (r : Reply) (p : PathState C) → Fewer p (happens_if k (Some event) r p)
+  pub happens_fewer : (k : Codec C) (event : Event) (r : Reply) (p : PathState C) → Fewer p (happens_if k (Some event) r p)
   happens_fewer k (happenings.Joins tick) r p = by (is_never r)
     where
       q : PathState C
@@ -633,6 +633,14 @@ module _ {C : Type 0} where
       (λ stamp c over h. member_begins c.member over h) turns (opened_world start)
       (opened_lifted (λ c. IsInTime c.member) start tt tt (λ number plan there. let p : PathState C = waiting_path (path_begins start number plan) start.lines in
       (begins_lasts StaysInTime in_time_lasts p (first_in_time number start plan), begun_shaped p)))
+
+  member_in_order : (m : Actor C) → IsInTime m → HoldsOfKind (λ app. Unit {0}) (λ (p : PathState C). (event : Event) → next_event p ≡ Some event → ComesFrom (tick_of event) p) m
+  member_in_order (App a) h = tt
+  member_in_order (Path p) h = λ event next.
+      waiting_so (tick_of event) p h.0.order (subst (NotBefore (tick_of event)) (sym (event_is p.until (earliest p) event next)) (le_refl (tick_of event)))
+
+  pub events_come_in_order : (k : Codec C) → EventsComeInOrder k
+  events_come_in_order k start turns actor c there = member_in_order c.member ((always_in_time k start turns).each actor c there)
 
   pub nothing_is_overdue : (k : Codec C) → Always k (λ start w. NothingIsOverdue w)
   nothing_is_overdue k start turns =

@@ -156,7 +156,7 @@ step_stays now s t (begins is) = before s _ refl
 step_stays now s t (joins window is) = before s (after_syn (unkept None) (syn_of_window window) s) refl
 step_stays now s t dies = death_stays false s
 
-steps_stay : (now : ℕ) (s t : EndState) → SubflowSteps now s t → is_waiting t.state ≡ true → is_waiting s.state ≡ true
+pub steps_stay : (now : ℕ) (s t : EndState) → SubflowSteps now s t → is_waiting t.state ≡ true → is_waiting s.state ≡ true
 steps_stay now s t none is = is
 steps_stay now s t (more u v steps step) is = steps_stay now s u steps ((step_stays now u t step).state is)
 

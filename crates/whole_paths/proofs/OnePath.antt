@@ -32,12 +32,13 @@ use Rattle.path_store.specs.declared.granted_piece.GrantedPiece.{GrantedPiece}
 use Rattle.path_core.specs.Codec.{Codec}
 use Rattle.path_core.specs.Duties.{answered, ask_for}
 use Rattle.path_core.specs.DataFin.{is_shut}
+use Rattle.path_core.specs.Emission.{may_ask}
 use Rattle.path_core.specs.End.{PathEnd}
 use Rattle.path_core.specs.Octets.{octets}
 use Rattle.path_core.specs.Start.{waiting_path}
 use Rattle.path_core.specs.State.{PathState, end_at, path_of}
 use Rattle.path_core.specs.Steps.{takes}
-use Rattle.path_core.specs.Values.{values}
+use Rattle.path_core.specs.Values.{Carried, values}
 use Rattle.world_laws.specs.declared.member.Member.TheVariants.{App, Path}
 use Rattle.world_laws.specs.Actors.{Actor, ActorCrew}
 use Rattle.world_laws.specs.Members.{HoldsOfKind, of_kind}
@@ -77,6 +78,14 @@ data Fate (s : Side) (n : Sending) (steps : List Note) (e : PathEnd) (b : Sendin
   on_standby : last_on_standby s false steps ≡ true → Fate s n steps e b
   is_stopped : b.aborted ≡ true → Fate s n steps e b
   shuts : e.sending.shut ≡ true → AreSpent n.edge b → n.edge < length b.written → Fate s n steps e b
+
+-- the path took all that was written then, or all before the edge of the peer's window as it was; or it was on standby when it asked last, or the
+-- connection was stopped
+pub data Spends (s : Side) (n : Sending) (steps : List Note) (b : Sending) : Type 0 where
+  written : AreSpent (length n.written) b → Spends s n steps b
+  edge : AreSpent n.edge b → Spends s n steps b
+  standby : last_on_standby s false steps ≡ true → Spends s n steps b
+  stopped : b.aborted ≡ true → Spends s n steps b
 
 pub refused_more : (s : Side) (before : Bool) (steps : List Note) (n : Note) → last_refused s before (steps ++ n ∷ []) ≡ refused_after s n (last_refused s before steps)
 refused_more s before [] n = refl
@@ -343,7 +352,7 @@ module _ {C : Type 0} where
         fates i x there s = unasked (
             ap (λ (ns : List Note). last_refused s false (drop (length ns) x.at.list)) (listed i x there) ∙ ap (λ (ns : List Note). last_refused s false ns) (drop_all x.at.list))
 
-    reached_at : (begun : WorldState C) (order : List ℕ) → BeginsRound k start begun → (turns : List Turn) × (begun ≡ world_run k turns (opened_world start))
+    pub reached_at : (begun : WorldState C) (order : List ℕ) → BeginsRound k start begun → (turns : List Turn) × (begun ≡ world_run k turns (opened_world start))
     reached_at begun order (First is) = ([], is)
     reached_at begun order (Next turns over is) = (turns ++ Turn.Round ∷ [], is ∙ sym (run_append k turns (Turn.Round ∷ []) (opened_world start)))
 
@@ -371,6 +380,13 @@ module _ {C : Type 0} where
     fate_sent s n steps e b (is_stopped is) refused in_turn all = sent.stopped is
     fate_sent s n steps e b (shuts is spent more) refused in_turn all = sent.shut is (first_acked n.edge b.marks spent all) more in_turn.fits
 
+    fate_spent : (s : Side) (n : Sending) (steps : List Note) (e : PathEnd) (b : Sending) → Fate s n steps e b → last_refused s false steps ≡ true → Spends s n steps b
+    fate_spent s n steps e b (unasked is) refused = absurd (true≢false (sym refused ∙ is))
+    fate_spent s n steps e b (all_spent is_open is) refused = Spends.written is
+    fate_spent s n steps e b (on_standby is) refused = Spends.standby is
+    fate_spent s n steps e b (is_stopped is) refused = Spends.stopped is
+    fate_spent s n steps e b (shuts is spent more) refused = Spends.edge spent
+
     sent_acked : (s : Side) (n : Sending) (steps : List Note) (e : PathEnd) (b : Sending) → IsIdle e → IsSentToTheEdge s steps n e b → IsAllAcknowledged s steps (length n.written) b
     sent_acked s n steps e b idle (sent.acknowledged is_open is) = IsAllAcknowledged.acknowledged is
     sent_acked s n steps e b idle (sent.shut is low more fits) = absurd (true≢false (sym is ∙ idle.open_window))
@@ -387,6 +403,22 @@ module _ {C : Type 0} where
           steps_have k start (InRound (λ s. written_by s begun) (length (notes_at 2 begun.crew))) (round_kept (λ s. written_by s begun) (length (notes_at 2 begun.crew))) order begun
           (begun_round begun (subst (Has start (Alone nothing_written)) (sym at.1) (always_alone plan one at.0)))
 
+      -- what became of the bytes that were asked for, where the turn of the path is over
+      path_fate_at : (c : ActorCrew C) (p : PathState C) → c.member ≡ Path p → slice_get w.crew 2 ≡ Some c → (s : Side) → Fate s (written_by s begun) (steps_since 2 begun w) (end_at s p) (written_by s w)
+      path_fate_at c p kind there s =
+          let crew : slice_get (world_of round.cast).crew 2 ≡ Some c = ap (λ (v : WorldState C). slice_get v.crew 2) (sym round.is) ∙ there in
+          let found = in_map walking round.cast.paths 0 c crew in
+          let is_path : Path found.0.path ≡ Path p = ap (λ (y : ActorCrew C). y.member) found.2 ∙ kind in
+          let same : found.0.path ≡ p = ap (of_kind (λ app. p) (λ (q : PathState C). q)) is_path in
+          let listed : notes_at 2 w.crew ≡ found.0.at.list = ap (λ (v : WorldState C). notes_at 2 v.crew) round.is ∙ notes_there round.cast 0 found.0 found.1 refl in
+          let fate : Fate s (written_by s begun) (drop (length (notes_at 2 begun.crew)) found.0.at.list) (end_at s found.0.path) (send_of s (books_in round.cast.books)) = round.holds.fates 0 found.0 found.1 s in
+          subst (λ (v : WorldState C). Fate s (written_by s begun) (steps_since 2 begun w) (end_at s p) (written_by s v)) (sym round.is)
+          (subst (λ (q : PathState C). Fate s (written_by s begun) (steps_since 2 begun w) (end_at s q) (send_of s (books_in round.cast.books))) same
+          (subst (λ (ns : List Note). Fate s (written_by s begun) (drop (length (notes_at 2 begun.crew)) ns) (end_at s found.0.path) (send_of s (books_in round.cast.books))) (sym listed) fate))
+
+      refused_at : (c : ActorCrew C) (p : PathState C) → c.member ≡ Path p → slice_get w.crew 2 ≡ Some c → p.agenda ≡ [] → (s : Side) → may_ask p.profile s (end_at s p) ≡ true → last_refused s false (steps_since 2 begun w) ≡ true
+      refused_at c p kind there over s may = subst (λ m. AreDoneAsking m (steps_since 2 begun w)) kind ((asking.grants_are_done k start begun order begins).each 2 c there) over s may
+
       path_sent : (c : ActorCrew C) (m : Actor C) → c.member ≡ m → slice_get w.crew 2 ≡ Some c → HoldsOfKind (λ app. Unit {0}) (LeavesNothingBeforeTheEdge begun w) m
       path_sent c (App a) kind there = tt
       path_sent c (Path p) kind there = λ over s may nothing_granted.
@@ -395,16 +427,13 @@ module _ {C : Type 0} where
           let is_path : Path found.0.path ≡ Path p = ap (λ (y : ActorCrew C). y.member) found.2 ∙ kind in
           let same : found.0.path ≡ p = ap (of_kind (λ app. p) (λ (q : PathState C). q)) is_path in
           let zero_is : path_of p ≡ 0 = sym (ap (λ (q : PathState C). path_of q) same) ∙ (round.holds.alone.paths 0 found.0 found.1).1 in
-          let listed : notes_at 2 w.crew ≡ found.0.at.list = ap (λ (v : WorldState C). notes_at 2 v.crew) round.is ∙ notes_there round.cast 0 found.0 found.1 refl in
           let granted : AllIsAcknowledged (path_of p) (written_by s w) = subst (HoldsOfKind (λ app. Unit {0}) (GrantedIsAcknowledged w)) kind (all.each 2 c there) s nothing_granted in
-          let refused : last_refused s false (steps_since 2 begun w) ≡ true =
-          subst (λ m. AreDoneAsking m (steps_since 2 begun w)) kind ((asking.grants_are_done k start begun order begins).each 2 c there) over s may in
-          let fate : Fate s (written_by s begun) (drop (length (notes_at 2 begun.crew)) found.0.at.list) (end_at s found.0.path) (send_of s (books_in round.cast.books)) = round.holds.fates 0 found.0 found.1 s in
-          fate_sent s (written_by s begun) (steps_since 2 begun w) (end_at s p) (written_by s w)
-          (subst (λ (v : WorldState C). Fate s (written_by s begun) (steps_since 2 begun w) (end_at s p) (written_by s v)) (sym round.is)
-          (subst (λ (q : PathState C). Fate s (written_by s begun) (steps_since 2 begun w) (end_at s q) (send_of s (books_in round.cast.books))) same
-          (subst (λ (ns : List Note). Fate s (written_by s begun) (drop (length (notes_at 2 begun.crew)) ns) (end_at s found.0.path) (send_of s (books_in round.cast.books))) (sym listed) fate)))
-          refused (subst (λ (v : WorldState C). IsAckedInTurn (written_by s v)) (sym round.is) (round.holds.alone.books s).in_turn) (subst (λ n. AllIsAcknowledged n (written_by s w)) zero_is granted))
+          fate_sent s (written_by s begun) (steps_since 2 begun w) (end_at s p) (written_by s w) (path_fate_at c p kind there s) (refused_at c p kind there over s may)
+          (subst (λ (v : WorldState C). IsAckedInTurn (written_by s v)) (sym round.is) (round.holds.alone.books s).in_turn) (subst (λ n. AllIsAcknowledged n (written_by s w)) zero_is granted))
+
+      -- where the end may ask for bytes the path took all that was written as the round began, or all before the edge of the window that the side had then
+      pub path_spends : (c : ActorCrew C) (p : PathState C) → c.member ≡ Path p → slice_get w.crew 2 ≡ Some c → p.agenda ≡ [] → (s : Side) → may_ask p.profile s (end_at s p) ≡ true → Spends s (written_by s begun) (steps_since 2 begun w) (written_by s w)
+      path_spends c p kind there over s may = fate_spent s (written_by s begun) (steps_since 2 begun w) (end_at s p) (written_by s w) (path_fate_at c p kind there s) (refused_at c p kind there over s may)
 
       path_acked : (m : Actor C) → HoldsOfKind (λ app. Unit {0}) HasWindows m → HoldsOfKind (λ app. Unit {0}) (LeavesNothingBeforeTheEdge begun w) m → HoldsOfKind (λ app. Unit {0}) (IdleIsAcknowledged begun w) m
       path_acked (App a) windows h = tt
@@ -474,3 +503,13 @@ what_was_written_is_acknowledged = written_acked values what_idle_ends_wrote_is_
 
 pub what_was_written_is_acknowledged_in_octets : WhatWasWrittenIsAcknowledged octets
 what_was_written_is_acknowledged_in_octets = written_acked octets what_idle_ends_wrote_is_acknowledged_in_octets
+
+-- where the end may ask for bytes
+pub what_was_written_is_spent : (start : Start) (plan : PathPlan) (begun : WorldState Carried) (order : List ℕ) → start.paths ≡ plan ∷ [] → HasRoom start → NumbersFit start → BeginsRound values start begun
+    → let w = after_steps values order begun in (c : ActorCrew Carried) (p : PathState Carried) → c.member ≡ Path p → slice_get w.crew 2 ≡ Some c → p.agenda ≡ [] → (s : Side) → may_ask p.profile s (end_at s p) ≡ true
+    → Spends s (written_by s begun) (steps_since 2 begun w) (written_by s w)
+what_was_written_is_spent start plan begun order one size fit begins c p kind there over s may =
+    let at = reached_at values start begun order begins in
+    let steps : List Turn = map (λ actor. Turn.Step actor) order in
+    let now : after_steps values order begun ≡ world_run values (at.0 ++ steps) (opened_world start) = ap (λ (w : WorldState Carried). world_run values steps w) at.1 ∙ sym (run_append values at.0 steps (opened_world start)) in
+    path_spends values start begun order plan one begins (subst WhatWasGrantedIsAcknowledged (sym now) (all_acknowledges start (at.0 ++ steps) size fit)) c p kind there over s may

@@ -15,11 +15,11 @@ use Rattle.whole_paths.proofs.ShutWaits.{shut_windows_open_in_time}
 use Rattle.whole_paths.proofs.ThereInTime.{exchanges_bring_all, what_is_there_in_time_is_delivered, whole_paths_didnt_die}
 use Rattle.whole_paths.proofs.WholeCourses.{exchanges}
 
-ways_short : (start : Start) (plan : PathPlan) → BeginsWithOnePath start plan → WaysAreShort start (way_there_and_back start.paths start.lines)
+pub ways_short : (start : Start) (plan : PathPlan) → BeginsWithOnePath start plan → WaysAreShort start (way_there_and_back start.paths start.lines)
 ways_short start plan begins turns p here = let is = only_ways_stay values start turns plan begins.one p here A in omega (arith, is)
 
 -- of a start
-only_paths_end : EndsWithin (for_all_news news_within)
+pub only_paths_end : EndsWithin (for_all_news news_within)
 only_paths_end = what_is_there_in_time_is_delivered (for_all_news news_within) (exchanges_bring_all news_within
     (λ start most n x turns. IsAwaited start (60000 + way_there_and_back start.paths start.lines) (λ n x turns. AwaitsAWindow start x turns) n x turns)
     (λ start plan most begins. (

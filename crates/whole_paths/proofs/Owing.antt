@@ -312,7 +312,7 @@ died_lets e = elim (is_dead e.tcp.state) as (λ b. Lets e (if b then e else died
 -- ---- what is still to be done
 
 -- the duty answers what this end owes, or the end is dead then
-abbrev Sends : Side → PathEnd → Duty → Type 0
+abbrev pub Sends : Side → PathEnd → Duty → Type 0
 Sends s e (duties.Send (send_duties.Acknowledge t)) = (t ≡ s) × (e.tcp.due.syn_ack ≡ false)
 Sends s e (duties.Send (send_duties.Answer t)) = (t ≡ s) × ((e.tcp.due.ack && e.tcp.due.syn_ack) ≡ false)
 Sends s e (duties.Send (send_duties.SynAck t)) = (t ≡ s) × (e.tcp.due.ack ≡ false)
@@ -322,7 +322,7 @@ Sends s e (duties.Send (send_duties.Reset t)) = t ≡ s
 Sends s e _ = ⊥
 
 -- such a duty stands behind others of the same side, by which no segment goes but a reset
-abbrev Ahead : Side → PathEnd → List Duty → Type 0
+abbrev pub Ahead : Side → PathEnd → List Duty → Type 0
 Ahead s e [] = ⊥
 Ahead s e (d ∷ ds) = Sends s e d ⊎ ((side_of d ≡ s) × ((is_of_both d ≡ false) × ((is_silent d ≡ true) × Ahead s e ds)))
 
@@ -332,7 +332,7 @@ no_join (duties.Ask (ask_duties.JoinHeard s)) joins silent = true≢false (sym s
 no_join d joins silent = true≢false (sym joins)
 
 -- the end is dead, owes nothing, or will answer
-data Ready (s : Side) (ds : List Duty) (e : PathEnd) : Type 0 where
+pub data Ready (s : Side) (ds : List Duty) (e : PathEnd) : Type 0 where
   is_dead_now : is_gone e ≡ true → Ready s ds e
   is_quiet : OwesNone e → Ready s ds e
   answers : Ahead s e ds → Ready s ds e
@@ -479,7 +479,7 @@ module _ {C : Type 0} where
       by (fewer x) b = answers (fewer_ahead s (end_at s p) (end_at s (passed d p)) x ds b)
       by (dies gone) b = is_dead_now gone
 
-  abbrev Stands : Side → PathState C → Type 0
+  abbrev pub Stands : Side → PathState C → Type 0
   Stands s p = Ready s p.agenda (end_at s p)
 
   settled_ready : (s : Side) (ds : List Duty) (p : PathState C) → Ready s ds (end_at s p) → Stands s (settled ds p)
@@ -663,7 +663,7 @@ module _ {C : Type 0} where
   begins_ready : (p : PathState C) (s : Side) → Ready s start_of_turn (end_at s p) → Stands s (begins_turn p)
   begins_ready p s h = settled_ready s start_of_turn (with_agenda start_of_turn p) h
 
-  abbrev StandingMember : Actor C → Type 0
+  abbrev pub StandingMember : Actor C → Type 0
   StandingMember = HoldsOfKind (λ app. Unit {0}) (λ p. (s : Side) → Stands s p)
 
   member_stands : (k : Codec C) (r : Reply) (m : Actor C) → StandingMember m → StandingMember (member_takes k r m)
@@ -682,7 +682,7 @@ module _ {C : Type 0} where
   member_first (App a) h = tt
   member_first (Path p) h = λ s living due. first_bare s p (h s) living due
 
-  each_stands : (k : Codec C) (start : Start) (turns : List Turn) → Every (λ c. StandingMember c.member) (world_run k turns (opened_world start)).crew
+  pub each_stands : (k : Codec C) (start : Start) (turns : List Turn) → Every (λ c. StandingMember c.member) (world_run k turns (opened_world start)).crew
   each_stands k start turns = run_lifted k (λ c. StandingMember c.member) (λ books c x asks h. member_stands k (answer_to books x) c.member h)
       (λ stamp c over h. member_begins c.member over h) turns (opened_world start)
       (opened_lifted (λ c. StandingMember c.member) start tt tt (λ number plan there. λ s. begins_ready (waiting_path (path_begins start number plan) start.lines) s (is_quiet (first_quiet C number start plan s))))

@@ -175,7 +175,7 @@ member_none (Path p) x first breaks is = path_asks_none p.agenda p x (breaks fir
 
 -- ---- a connection of one path
 
-only_plan : (plan : PathPlan) (number : ℕ) (x : PathPlan) → slice_get (plan ∷ []) number ≡ Some x → number ≡ 0
+pub only_plan : (plan : PathPlan) (number : ℕ) (x : PathPlan) → slice_get (plan ∷ []) number ≡ Some x → number ≡ 0
 only_plan plan zero x there = refl
 only_plan plan (suc n) x there = cc
 

@@ -59,7 +59,7 @@ use Rattle.whole_paths.proofs.ReadModes.{ends_read_mappings}
 use Rattle.whole_paths.proofs.RoundBegins.{next_rests, no_round_counts}
 use Rattle.whole_paths.proofs.Straying.{open_from, senders_hardly_stray}
 use Rattle.whole_paths.proofs.Timing.{timers_run_out}
-use Rattle.whole_paths.proofs.WholeMappings.{mappings_are_whole}
+use Rattle.whole_paths.proofs.WholeMappings.{first_has, mappings_are_whole}
 use Rattle.whole_paths.specs.Came.{HasCome}
 use Rattle.whole_paths.specs.LastFin.{FinIsLast}
 use Rattle.whole_paths.specs.Overruns.{StaysWithin}
@@ -220,7 +220,7 @@ module _ (start : Start) (mild : IsMildStart start) (turns : List Turn) (turn : 
       strays : IsHardlyAstray s r p q → Next
       strays (hardly.behind_fin behind) = if_ahead (λ ahead. absurd (not_behind ahead behind))
       strays (hardly.untold sums reads) = absurd (both_ways (reads_mappings (end_at (peer s) q).modes.mode) reads (is_read (peer s)))
-      strays (hardly.partial is) = absurd (whole s r h.first h.is_data is)
+      strays (hardly.partial is) = absurd (whole s r (first_has r (end_at s p) h.first) h.is_data is)
       strays (hardly.past_window past) = absurd (let room = h.room in omega (arith, past, room))
 
       by_exchange : ExchangeGoesOn s r x p q → Next

@@ -46,7 +46,7 @@ abbrev fired : Bool → ℕ → PathEnd → PathEnd
 fired sixth now e = record e { tcp = if sixth then after_death true e.tcp else after_expiry now e.tcp }
 
 -- a path whose turn is over has nothing to do
-busy : (ds : List Duty) (d : Duty) (others : List Duty) → is_nil ds ≡ true → ds ≡ d ∷ others → ⊥
+pub busy : (ds : List Duty) (d : Duty) (others : List Duty) → is_nil ds ≡ true → ds ≡ d ∷ others → ⊥
 busy ds d others over is = true≢false (sym over ∙ ap is_nil is)
 
 module _ {C : Type 0} where

@@ -35,12 +35,12 @@ use Rattle.whole_paths.proofs.Straying.{connected_stage, end_far}
 -- ---- the last rounds
 
 -- turns with so many rounds, of which these are the last ones
-record LastRounds (n : ℕ) (turns : List Turn) : Type 0 where
-  first : List Turn
-  rest : List Turn
-  is : turns ≡ first ++ rest
-  last : rounds_in rest ≡ n
-  all : rounds_in turns ≡ rounds_in first + n
+pub record LastRounds (n : ℕ) (turns : List Turn) : Type 0 where
+  pub first : List Turn
+  pub rest : List Turn
+  pub is : turns ≡ first ++ rest
+  pub last : rounds_in rest ≡ n
+  pub all : rounds_in turns ≡ rounds_in first + n
 
 -- a turn before them
 with_turn : (turn : Turn) (n : ℕ) (turns : List Turn) → LastRounds n turns → LastRounds n (turn ∷ turns)
@@ -49,7 +49,7 @@ with_turn (Turn.Step actor) n turns h =
 with_turn Turn.Round n turns h =
     let more = h.all in record { first = Turn.Round ∷ h.first; rest = h.rest; is = ap (λ (ts : List Turn). Turn.Round ∷ ts) h.is; last = h.last; all = omega (arith, more) }
 
-last_rounds : (n : ℕ) (turns : List Turn) → n ≤ rounds_in turns → LastRounds n turns
+pub last_rounds : (n : ℕ) (turns : List Turn) → n ≤ rounds_in turns → LastRounds n turns
 last_rounds n [] few = record { first = []; rest = []; is = refl; last = omega (arith, few); all = omega (arith, few) }
 last_rounds n (Turn.Step actor ∷ turns) few = with_turn (Turn.Step actor) n turns (last_rounds n turns few)
 last_rounds n (Turn.Round ∷ turns) few = ⊎_elim
@@ -59,7 +59,7 @@ last_rounds n (Turn.Round ∷ turns) few = ⊎_elim
 
 -- ---- a path of which an end was dead
 
-dead_stage : (state : State) → is_dead state ≡ true → 7 ≤ stage state
+pub dead_stage : (state : State) → is_dead state ≡ true → 7 ≤ stage state
 dead_stage State.Dead is = omega arith
 dead_stage _ is = absurd (true≢false (sym is))
 

@@ -59,7 +59,7 @@ use Rattle.whole_paths.proofs.Duties.{passed_steps, answered_steps}
 
 -- ---- the timer of an end
 
-later : (now next : ℕ) (t : Timing) → now ≤ next → IsNear now t → IsNear next t
+pub later : (now next : ℕ) (t : Timing) → now ≤ next → IsNear now t → IsNear next t
 later now next t up h = record { timer = by t.timer h.timer; timeout = h.timeout }
   where
     by : (o : Option ℕ) → IfSome o (λ tick. tick ≤ now + 60000) → IfSome o (λ tick. tick ≤ next + 60000)
@@ -141,7 +141,7 @@ step_near now s t (grows growth) h = h
 step_near now s t (begins is) h = h
 step_near now s t (joins window is) h = h
 
-steps_near : (now : ℕ) (s t : EndState) → SubflowSteps now s t → IsNear now s.timing → IsNear now t.timing
+pub steps_near : (now : ℕ) (s t : EndState) → SubflowSteps now s t → IsNear now s.timing → IsNear now t.timing
 steps_near now s t none h = h
 steps_near now s t (more u v steps step) h = step_near now u t step (steps_near now s u steps h)
 
@@ -168,11 +168,11 @@ module _ {C : Type 0} where
       [ None ↦ refl | Some heard ↦ refl ]
   happens_clock k (happenings.Fires s tick) r p = refl
 
-  -- the clock goes on, to the round's end at most, which stays
-  record Ticks (p q : PathState C) : Type 0 where
-    clock : p.clock ≤ q.clock
-    most : p.clock ≤ p.until → q.clock ≤ p.until
-    until : q.until ≡ p.until
+  -- the clock goes on, and stays before the round's end, which stays
+  pub record Ticks (p q : PathState C) : Type 0 where
+    pub clock : p.clock ≤ q.clock
+    pub most : p.clock < p.until → q.clock < p.until
+    pub until : q.until ≡ p.until
 
   stands_still : (p q : PathState C) → q.clock ≡ p.clock → q.until ≡ p.until → Ticks p q
   stands_still p q clock until = record { clock = omega (arith, clock); most = λ low. omega (arith, clock, low); until = until }
@@ -193,13 +193,13 @@ module _ {C : Type 0} where
           (ap (λ (v : PathView C). v.until) (writes_no_more k (duties.Step step_duties.Events) r p).same) in
           record { clock = omega (arith, clock); most = λ low. omega (arith, clock, early, low); until = until }
 
-  answered_ticks : (k : Codec C) (d : Duty) (r : Reply) (p : PathState C) → Ticks p (answered k d r p)
+  pub answered_ticks : (k : Codec C) (d : Duty) (r : Reply) (p : PathState C) → Ticks p (answered k d r p)
   answered_ticks k (duties.Step step_duties.Events) r p = happens_ticks k r p
   answered_ticks k (duties.Send (send_duties.Update s)) r p = stands_still p _ refl refl
   answered_ticks k (duties.Silent d) r p = stands_still p _ refl refl
   answered_ticks k d r p = no_event (side_of d) (writes d) p _ refl (writes_no_more k d r p)
 
-  passed_ticks : (d : Duty) (p : PathState C) → Ticks p (passed d p)
+  pub passed_ticks : (d : Duty) (p : PathState C) → Ticks p (passed d p)
   passed_ticks (duties.Step step_duties.Events) p = stands_still p p refl refl
   passed_ticks (duties.Send (send_duties.Update s)) p = stands_still p p refl refl
   passed_ticks (duties.Silent (silent_duties.Timer s)) p = stands_still p _ refl refl
@@ -233,8 +233,8 @@ module _ {C : Type 0} where
   next_near : (p : PathState C) → TimersAreNear p → TimersAreNear (next_round p)
   next_near p h = begins_near (record p { clock = p.until; until = p.until + 100 }) (record {
     clock = omega arith;
-    a = later p.clock p.until p.a.tcp.timing h.clock h.a;
-    b = later p.clock p.until p.b.tcp.timing h.clock h.b;
+    a = later p.clock p.until p.a.tcp.timing (let early = h.clock in omega (arith, early)) h.a;
+    b = later p.clock p.until p.b.tcp.timing (let early = h.clock in omega (arith, early)) h.b;
   })
 
   -- ---- the world

@@ -57,7 +57,7 @@ since_of start n rounds turns (this_round s since order left is count begin none
 since_of start n rounds turns (next_round s since more order left is count begin unclosed all) =
     record { since = since ++ more; order = order; is = is; begin = begin; low = (let up = counted_up values start since more in omega (arith, count, up)) }
 
-no_rounds : (start : Start) (n : ℕ) (turns : List Turn) → IsAboutToGoOn start n 0 turns → ⊥
+pub no_rounds : (start : Start) (n : ℕ) (turns : List Turn) → IsAboutToGoOn start n 0 turns → ⊥
 no_rounds start n turns (this_round s since order left is count begin none) = omega (arith, left)
 no_rounds start n turns (next_round s since more order left is count begin unclosed all) = omega (arith, left)
 

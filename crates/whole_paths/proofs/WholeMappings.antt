@@ -42,7 +42,7 @@ use Rattle.whole_paths.specs.Flights.{IsFirst}
 use Rattle.whole_paths.specs.InHand.{IsPartial}
 use Rattle.whole_paths.specs.Mapped.{AreLive, EndsAreLive}
 use Rattle.whole_paths.specs.Mild.{IsMildStart}
-use Rattle.whole_paths.specs.WholeMappings.{MappingsAreWhole, NoneIsPartial}
+use Rattle.whole_paths.specs.WholeMappings.{HasRecord, MappingsAreWhole, NoneIsPartial}
 use Rattle.whole_paths.proofs.Boundaries.{AreCut, BothCut, IsCut, IsFirm, ShowsChecked, checked_firmly, shown_checked}
 use Rattle.whole_paths.proofs.Exchanges.{Shown, each_shown}
 use Rattle.whole_paths.proofs.Knowing.{what_is_told_is_known}
@@ -147,31 +147,35 @@ module _ (path : ℕ) (w : View) (p : Lane) (bytes : BytesHold p.alters p.sent p
 
 -- ---- an end
 
-module _ (p : PathState Carried) (tells : Shown p) (s : Side) (r : Record) (h : IsFirst r (end_at s p)) (kind : r.kind ≡ Data) where
+-- the first one is one
+pub first_has : (r : Record) (e : PathEnd) → IsFirst r e → HasRecord r e
+first_has r e h = record { at = 0; item = h.first; there = ap (λ (rs : List Record). slice_get rs 0) h.records; holds = h.same }
+
+module _ (p : PathState Carried) (tells : Shown p) (s : Side) (r : Record) (h : HasRecord r (end_at s p)) (kind : r.kind ≡ Data) where
   abbrev taker : PathEnd
   taker = end_at (peer s) p
 
   -- the record's mapping is as long as the record
-  long : h.first.pos + h.first.mapping.length ≡ end_of r
+  long : h.item.pos + h.item.mapping.length ≡ end_of r
   long =
-      let told = (tells.tells s).sender.records.each 0 h.first (ap (λ (rs : List Record). slice_get rs 0) h.records) in
-      let mapped : RecordKindTells p.profile s Data h.first = subst (λ k. RecordKindTells p.profile s k h.first) (h.same.kind ∙ kind) told.mapped in
-      let size : h.first.mapping.length ≡ length h.first.piece = mapped.4 in
-      let octets : length h.first.piece ≡ length r.piece = ap (λ (o : List ℕ). length o) h.same.piece in
+      let told = (tells.tells s).sender.records.each h.at h.item h.there in
+      let mapped : RecordKindTells p.profile s Data h.item = subst (λ k. RecordKindTells p.profile s k h.item) (h.holds.kind ∙ kind) told.mapped in
+      let size : h.item.mapping.length ≡ length h.item.piece = mapped.4 in
+      let octets : length h.item.piece ≡ length r.piece = ap (λ (o : List ℕ). length o) h.holds.piece in
       let end : end_of r ≡ r.pos + length r.piece = ap (λ k. r.pos + occupied k r.piece) kind in
-      let at = h.same.pos in omega (arith, size, octets, end, at)
+      let at = h.holds.pos in omega (arith, size, octets, end, at)
 
   none_partial : (f : Flags) (d : Direction) → DirectionHolds f d → AreCut d → (number : ℕ) (lane : Lane) → slice_get d.lanes number ≡ Some lane
       → (c : Profile) → Every (RecordShows c s lane.alters lane.sent lane.datas lane.fins) (end_at s p).tcp.send.records
       → (plain : Bool) → ReceiverShows taker.tcp.recv taker.tcp.fin_at taker.receiving.mappings.live plain lane → AreLive taker.receiving.mappings taker.tcp.recv.edge → IsPartial (peer s) (end_of r) p → ⊥
   none_partial f d holds cuts number lane there c records plain receiver live partial =
       let of_lane = holds.lanes.each number number lane (omega arith) there in
-      let piece = subst (λ k. KindShows c s lane.alters lane.sent lane.datas lane.fins k h.first) (h.same.kind ∙ kind) (records.each 0 h.first (ap (λ (rs : List Record). slice_get rs 0) h.records)) in
+      let piece = subst (λ k. KindShows c s lane.alters lane.sent lane.datas lane.fins k h.item) (h.holds.kind ∙ kind) (records.each h.at h.item h.there) in
       let same = long in
       both_ways _ partial.short
       (subst (λ n. is_there partial.mapping taker.tcp.recv.edge (n - taker.tcp.recv.edge) ≡ true) same
       (whole number _ lane of_lane.bytes of_lane.fins (cuts.each number lane there) taker.tcp.recv taker.tcp.fin_at taker.receiving.mappings plain receiver live partial.mapping partial.here
-      _ h.first.pos h.first.mapping.length piece.mapping (let behind = partial.behind in omega (arith, behind, same))))
+      _ h.item.pos h.item.mapping.length piece.mapping (let behind = partial.behind in omega (arith, behind, same))))
 
 -- ---- a path
 

@@ -63,7 +63,8 @@ HoldsAlong k Holds (turn ∷ turns) w = Holds w × HoldsAlong k Holds turns (aft
 -- ---- what is promised of few losses
 
 module _ {C : Type 0} (k : Codec C) where
-  -- with four harmed segments at most, and no line by which the path dies, neither end of the only path of a mild script is ever dead
+  -- with four harmed segments at most, and no line by which the path dies or its address is taken back, neither end of the only path of a mild
+  -- script is ever dead
   abbrev pub FewLossesEndNone : Type 0
   FewLossesEndNone = (script : Script) (path : PathLine) (file_a file_b : List ℕ) (turns : List Turn) → IsMild script path file_a file_b
       → list_all is_harmless_to_ends script.lines ≡ true → harmed k 0 turns (opened script file_a file_b) ≤ 4

@@ -8,7 +8,7 @@ use Rattle.sides.specs.Side.{peer}
 use Rattle.link_script.specs.declared.script.PathLine.{PathLine}
 use Rattle.link_script.specs.declared.script.Script.{Script}
 use Rattle.link_script.specs.declared.script.ScriptLine.{ScriptLine}
-use Rattle.link_script.specs.declared.script.ScriptLine.TheVariants.{OnSegment, OnDirection, StripAll, Die, FastClose}
+use Rattle.link_script.specs.declared.script.ScriptLine.TheVariants.{OnSegment, OnDirection, StripAll, Die, Remove, FastClose}
 use Rattle.link_script.specs.declared.script.Happens.TheVariants.{Lost, Late, Stripped, Altered}
 use Rattle.link_script.specs.Places.{same_side}
 use Rattle.link_script.specs.Scripts.{HasRanges}
@@ -51,9 +51,10 @@ is_mild (StripAll path from tick) = false
 is_mild (FastClose side tick) = false
 is_mild _ = true
 
--- nor does it let a path die
+-- nor does it let a path die, or take back the address of path 0, whose ends are reset then (RFC 8684, section 3.4.2)
 abbrev pub is_harmless_to_ends : ScriptLine → Bool
 is_harmless_to_ends (Die path tick) = false
+is_harmless_to_ends (Remove side id tick) = nat_lt 0 id
 is_harmless_to_ends line = is_mild line
 
 -- ---- rounds
@@ -177,7 +178,7 @@ module _ {C : Type 0} (k : Codec C) where
       → AreLawful k turns (opened script file_a file_b) → IsEnough enough script path file_a file_b turns (rounds_in turns)
       → let w = run_of script file_a file_b turns in (outcome_of w.crew ≡ Delivered) ⊎ AnEndDied 0 w
 
-  -- with four harmed segments at most, and no line by which the path dies, no end does
+  -- with four harmed segments at most, and no line by which the path dies or its address is taken back, no end does
   abbrev pub FewLossesFinish : Patience → Type 0
   FewLossesFinish enough = (script : Script) (path : PathLine) (file_a file_b : List ℕ) (turns : List Turn) → IsMild script path file_a file_b
       → list_all is_harmless_to_ends script.lines ≡ true → harmed k 0 turns (opened script file_a file_b) ≤ 4

@@ -3,7 +3,7 @@
 use Rattle.std.specs.Prelude.{ℕ, suc, ◌≡◌, ◌<◌, ◌≤◌, ◌⊎◌, true, false, Some, List, [], ◌∷◌, ◌++◌, length, map, slice_get}
 use Rattle.sides.specs.declared.side.Side.{Side}
 use Rattle.send_book.specs.State.{acked_len}
-use Rattle.subflow_tcp.specs.States.{may_finish}
+use Rattle.subflow_tcp.specs.States.{is_dead, may_finish}
 use Rattle.path_core.specs.State.{PathState, end_at}
 use Rattle.path_core.specs.Values.{Carried, values}
 use Rattle.world_laws.specs.declared.member.Member.TheVariants.{Path}
@@ -14,6 +14,7 @@ use Rattle.world_laws.specs.Promises.{written_by}
 use Rattle.world_laws.specs.RoundDone.{reached}
 use Rattle.world_laws.specs.RoundNumbers.{BeginsRound}
 use Rattle.world_laws.specs.Worlds.{Turn, WorldState, all_over}
+use Rattle.whole_paths.specs.AsFar.{stage}
 use Rattle.whole_paths.specs.Courses.{counted}
 use Rattle.whole_paths.specs.Delivery.{AllIsThere, IsAllThere}
 use Rattle.whole_paths.specs.KnownEnds.{WaitsForNoEnd}
@@ -51,6 +52,20 @@ pub data IsAboutToGoOn (start : Start) (n rounds : ℕ) (turns : List Turn) : Ty
       → length (written_by s (reached values start since)).written ≤ acked_len (written_by s (reached values start (since ++ more))).marks
       → IsAboutToGoOn start n rounds turns
 
+-- the side that goes on
+abbrev pub going_side : {start : Start} {n rounds : ℕ} {turns : List Turn} → IsAboutToGoOn start n rounds turns → Side
+going_side (this_round s since order two is count begin none) = s
+going_side (next_round s since more order one is count begin unclosed all) = s
+
+-- this side's end of path 0 is past the handshake, may send a DSS and isn't dead
+pub record IsEndOpen (s : Side) (p : PathState Carried) : Type 0 where
+  pub past : 3 ≤ stage (end_at s p).tcp.state
+  pub living : is_dead (end_at s p).tcp.state ≡ false
+  pub clear : (end_at s p).modes.clear ≡ true
+
+abbrev pub IsEndOpenHere : Side → WorldState Carried → Type 0
+IsEndOpenHere s w = (c : ActorCrew Carried) → slice_get w.crew 2 ≡ Some c → HoldsOfKind (λ app. Unit {0}) (IsEndOpen s) c.member
+
 -- path 0 is open
 abbrev pub IsOpenHere : WorldState Carried → Type 0
 IsOpenHere w = (c : ActorCrew Carried) → slice_get w.crew 2 ≡ Some c → HoldsOfKind (λ app. Unit {0}) IsOpen c.member
@@ -64,6 +79,13 @@ RoundsBeginToGoOn = (start : Start) (turns : List Turn) → BeginsRound values s
 abbrev pub StepsLetItGoOn : Type 0
 StepsLetItGoOn = (start : Start) (n rounds : ℕ) (turns : List Turn) (actor : ℕ) → IsAboutToGoOn start n rounds turns
     → IsAboutToGoOn start n rounds (turns ++ Turn.Step actor ∷ [])
+
+-- As a round ends at which the end of that side is open: more is counted, or something is outstanding at it, or there is one round less until more is.
+abbrev pub EndsGoOn : Type 0
+EndsGoOn = (start : Start) (plan : PathPlan) (n rounds : ℕ) (turns : List Turn) → start.paths ≡ plan ∷ [] → IsMildStart start → 1 ≤ start.buffer
+    → all_over (reached values start turns).crew ≡ true → (h : IsAboutToGoOn start n (suc rounds) turns) → IsEndOpenHere (going_side h) (reached values start turns)
+    → (n < counted values start turns) ⊎ (((x : IsWaiting (reached values start turns)) × (x.side ≡ going_side h))
+    ⊎ ((g : IsAboutToGoOn start n rounds (turns ++ Turn.Round ∷ [])) × (going_side g ≡ going_side h)))
 
 -- As a round ends at which path 0 is open: more is counted, or something is outstanding at one of its ends, or there is one round less until
 -- more is.

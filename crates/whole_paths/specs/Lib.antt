@@ -31,6 +31,12 @@ pub mod Exchanges
 pub mod Expiries
 pub mod ExpiriesInARow
 pub mod Deaths
+pub mod Debts
+pub mod FewLossesEnd
+pub mod ComingCopies
+pub mod OwedGoes
+pub mod SetTimers
+pub mod MildDeaths
 pub mod Finish
 pub mod Flights
 pub mod GoingOn
@@ -45,6 +51,7 @@ pub mod KnownModes
 pub mod Lanes
 pub mod Mapped
 pub mod Mending
+pub mod Mends
 pub mod Opening
 pub mod News
 pub mod Offered
@@ -62,6 +69,7 @@ pub mod PaidRounds
 pub mod Passed
 pub mod Probes
 pub mod Reasons
+pub mod RecordsGo
 pub mod Received
 pub mod Room
 pub mod Rounds
@@ -70,6 +78,7 @@ pub mod SharpCourses
 pub mod ShutWaits
 pub mod Saying
 pub mod Sent
+pub mod SentAgain
 pub mod SentByTurns
 pub mod OpeningStates
 pub mod OpeningWaits
@@ -79,6 +88,7 @@ pub mod StayingWhole
 pub mod Straying
 pub mod Timers
 pub mod Unharmed
+pub mod Unmended
 pub mod Unstopped
 pub mod Waits
 pub mod WindowWaits
@@ -96,7 +106,18 @@ pub mod ShutWindows
 pub mod WholeCourses
 pub mod SynAcks
 pub mod Syns
+pub mod FirstLost
 pub mod FirstPieces
 pub mod WholeMappings
 pub mod ReadModes
 pub mod NeverAborted
+pub mod PositionCounts
+pub mod SentInOrder
+pub mod Pushed
+pub mod SegmentRounds
+pub mod EndRounds
+pub mod UnitRounds
+pub mod Rising
+pub mod FirstSigns
+pub mod SignWaits
+pub mod OpeningCourses

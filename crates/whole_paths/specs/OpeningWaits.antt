@@ -58,6 +58,11 @@ abbrev pub EndsOpenOrArePast : Type 0
 EndsOpenOrArePast = (start : Start) (turns : List Turn) (actor : ℕ) (c : ActorCrew Carried)
     → slice_get (reached values start turns).crew actor ≡ Some c → HoldsOfKind (λ app. Unit {0}) IsOpeningOrPast c.member
 
+-- On path 0, while neither of its ends is dead, an end opens, or both are past the handshake.
+abbrev pub LivingEndsOpenOrArePast : Type 0
+LivingEndsOpenOrArePast = (start : Start) (turns : List Turn) → IsMildStart start → (p : PathState Carried) → IsPathAt 0 (reached values start turns) p → IsAlive p
+    → IsOpening p ⊎ ((s : Side) → 3 ≤ stage (end_at s p).tcp.state)
+
 -- over such a path a segment goes for so long at most, there and back
 pub record OpensStill (start : Start) (way : ℕ) (turns : List Turn) : Type 0 where
   pub path : PathState Carried

@@ -1,5 +1,5 @@
 -- How long a timer waits (RFC 6298, section 2).
-use Rattle.std.specs.Prelude.{ℕ, ◌+◌, ◌≡◌, ◌≤◌, Some, IfSome, slice_get}
+use Rattle.std.specs.Prelude.{ℕ, ◌+◌, ◌≡◌, ◌<◌, ◌≤◌, Some, IfSome, slice_get}
 use Rattle.rtt_timer.specs.Estimates.{IsWithinBounds}
 use Rattle.loss_recovery.specs.declared.timers.Timing.{Timing}
 use Rattle.path_core.specs.State.{PathState}
@@ -12,9 +12,9 @@ pub record IsNear (now : ℕ) (t : Timing) : Type 0 where
   pub timer : IfSome t.timer (λ tick. tick ≤ now + 60000)
   pub timeout : IsWithinBounds t.rtt.rto
 
--- the timers of both ends are near, and the path's clock isn't past the round's end
+-- the timers of both ends are near, and the path's clock lies before the round's end
 pub record TimersAreNear {C : Type 0} (p : PathState C) : Type 0 where
-  pub clock : p.clock ≤ p.until
+  pub clock : p.clock < p.until
   pub a : IsNear p.clock p.a.tcp.timing
   pub b : IsNear p.clock p.b.tcp.timing
 

@@ -1,37 +1,57 @@
 //! What mild connections do whose path stays whole, as clauses of functions that do nothing.
 ghost use Rattle.path_core.specs.Octets.{octets};
 ghost use Rattle.path_core.specs.Values.{values};
-ghost use Rattle.world_laws.specs.Promises.{HoldsAnyway};
 ghost use Rattle.whole_paths.specs.AnswerWaits.{AnswersAreAwaitedAlways};
 ghost use Rattle.whole_paths.specs.AskStages.{OpenAsksAreAnswered};
 ghost use Rattle.whole_paths.specs.AwaitedThere.{WhatIsAwaitedIsThere};
 ghost use Rattle.whole_paths.specs.DataLeft.{WhatIsLeftIsData};
 ghost use Rattle.whole_paths.specs.Deliveries.{WhoIsToldHasAll};
 ghost use Rattle.whole_paths.specs.Delivery.{WhatIsFinishedIsThere, WhatIsThereIsDelivered, WhatIsThereStays};
+ghost use Rattle.whole_paths.specs.EndRounds.{AnEndIsTold};
 ghost use Rattle.whole_paths.specs.EndedStreams.{WhatEndedIsAcknowledged};
 ghost use Rattle.whole_paths.specs.Finish.{HarmsUseLines, BriefPathsDeliver};
+ghost use Rattle.whole_paths.specs.FirstLost.{LostRecordsAreAwaited, LostRecordsAreMended};
 ghost use Rattle.whole_paths.specs.GoingOn.{RoundsBeginToGoOn, RoundsGoOn, StepsLetItGoOn};
+ghost use Rattle.whole_paths.specs.FirstSigns.{EachFirstSignComes};
+ghost use Rattle.whole_paths.specs.GoingOn.{EndsGoOn, RoundsBeginToGoOn, RoundsGoOn, StepsLetItGoOn};
 ghost use Rattle.whole_paths.specs.Halted.{WhoHaltsGoesOnHalting};
 ghost use Rattle.whole_paths.specs.Lanes.Laws.{LossyLanesEnd, LossyLanesFinish};
 ghost use Rattle.whole_paths.specs.LastFin.{FinsAreLast};
 ghost use Rattle.whole_paths.specs.Mending.{EachAnswerComesSoon, EachRecordStaysWell};
+ghost use Rattle.whole_paths.specs.Mends.{WhatRunsOutIsMended};
 ghost use Rattle.whole_paths.specs.Mild.{IsPromisedMildly, KeysAreKnown, LinksAreMild, MappingIsKept, MildScriptsStartMildly, NeverBreaks};
+ghost use Rattle.whole_paths.specs.MildDeaths.{MildEndsDieOfExpiries};
+ghost use Rattle.whole_paths.specs.OwedGoes.{WhatIsOwedGoes};
 ghost use Rattle.whole_paths.specs.OnePathScripts.{EndsAsItBegins, MildScriptsBeginWithOnePath, OnlyWaysStay, BriefPathsEnd, WaysStay, WhatIsThereInTimeIsDelivered};
-ghost use Rattle.whole_paths.specs.OpenAsks.{OpenAsksAreInTime, OpenAsksGoOn, OpenEndsHardlyGoAwry};
 ghost use Rattle.whole_paths.specs.OnlyPaths.{long_patience};
+ghost use Rattle.whole_paths.specs.OpenAsks.{OpenAsksAreInTime, OpenAsksGoOn, OpenEndsHardlyGoAwry};
+ghost use Rattle.whole_paths.specs.OnePathScripts.{for_all_news, EndsAsItBegins, MildScriptsBeginWithOnePath, OnlyWaysStay, BriefPathsEnd, WaysStay, WhatIsThereInTimeIsDelivered};
+ghost use Rattle.whole_paths.specs.OpenAsks.{OpenAsksAreInTime, OpenAsksGoOn, OpenEndsHardlyGoAwry};
+ghost use Rattle.whole_paths.specs.OnlyPaths.{long_patience, news_within};
 ghost use Rattle.whole_paths.specs.OverOctets.{FewLossesFinishAsOverValues, OctetsAreAsFarAsValues, OnePathEndsAsOverValues, BriefPathsDeliverAsOverValues, WholePathsDeliverAsOverValues};
 ghost use Rattle.whole_paths.specs.OpenCourses.{WhatHoldsUpCounts};
-ghost use Rattle.whole_paths.specs.OpeningWaits.{EndsOpenOrArePast, OpeningsAreAwaited};
+ghost use Rattle.whole_paths.specs.OpeningCourses.{DeliversWithin, OpensWithin};
+ghost use Rattle.whole_paths.specs.OpeningWaits.{EndsOpenOrArePast, LivingEndsOpenOrArePast, OpeningsAreAwaited};
 ghost use Rattle.whole_paths.specs.Outstanding.{WhatIsOutstandingIsAwaited};
+ghost use Rattle.whole_paths.specs.OverOctets.{FewLossesFinishAsOverValues, OctetsAreAsFarAsValues, OnePathEndsAsOverValues, BriefPathsDeliverAsOverValues, WholePathsDeliverAsOverValues};
 ghost use Rattle.whole_paths.specs.Overruns.{NoEndOverruns};
+ghost use Rattle.whole_paths.specs.PositionCounts.{PositionsCountBytes};
+ghost use Rattle.whole_paths.specs.Pushed.{WhatHasRoomIsSent, WhatIsUnsentWaitsForRoom};
+ghost use Rattle.whole_paths.specs.Received.{HoldsOfOnlyPaths};
 ghost use Rattle.whole_paths.specs.RecordWaits.{NoRoundCounts, RecordsAreAwaitedAlways};
+ghost use Rattle.whole_paths.specs.SegmentRounds.{ASegmentIsRead, EachRoundReads, EachRoundWrites, FourRoundsBring, FourRoundsTell};
 ghost use Rattle.whole_paths.specs.SenderWaits.{SendersAreAwaited};
+ghost use Rattle.whole_paths.specs.SentInOrder.{EachIsSentInOrder};
 ghost use Rattle.whole_paths.specs.ShutWaits.{ShutWindowsOpenInTime};
 ghost use Rattle.whole_paths.specs.ShutWindows.{ShutWindowsHaveRoom};
+ghost use Rattle.whole_paths.specs.SignWaits.{FirstSignsAreAwaited};
 ghost use Rattle.whole_paths.specs.StayingWhole.{WholePathsStayWhole};
 ghost use Rattle.whole_paths.specs.Straying.{OpenEndsHardlyStray, SendersHardlyStray, WholePathsAreOpen};
+ghost use Rattle.whole_paths.specs.Unmended.{HarmsAloneLoseRecords};
+ghost use Rattle.whole_paths.specs.UnitRounds.{AUnitIsMade, ShortWaitsGoOn};
 ghost use Rattle.whole_paths.specs.Unstopped.{MildPathsAreNeverStopped};
 ghost use Rattle.whole_paths.specs.WindowWaits.{WindowsAreAwaitedAlways};
+ghost use Rattle.world_laws.specs.Promises.{HoldsAnyway};
 
 /// A law: where no line takes options away, alters payload or lets a side close at once, both sides go by mappings of pieces, always.
 ///
@@ -65,6 +85,23 @@ pub fn mild_links_change_nothing()
 pub fn mild_scripts_never_break()
     ensures values { IsPromisedMildly values (λ start w. NeverBreaks w) }
     ensures octets { IsPromisedMildly octets (λ start w. NeverBreaks w) }
+{}
+
+/// A law: in a mild connection an end of path 0 dies by its sixth expiry in a row, by the line by which the path dies, or as a side took the
+/// path's address back (RFC 8684, section 3.4.2), as long as its peer lives too.
+///
+/// By each turn by which one of them is dead that both lived before, one of these came next. Nothing else kills one: no reset is under way
+/// between two ends that live, none is refused, and no mapping clashes or is missing.
+pub fn mild_ends_die_of_expiries()
+    ensures { MildEndsDieOfExpiries }
+{}
+
+/// A law: as long as both ends of path 0 of a mild connection live, what an end owes its peer goes: an acknowledgement of what came, at
+/// SND.NXT, or the SYN/ACK (RFC 9293, section 3.10.7.4).
+///
+/// By each turn it is owed still, or the link takes it at the same tick, or an end is dead.
+pub fn what_is_owed_goes()
+    ensures { WhatIsOwedGoes }
 {}
 
 /// A law: in a mild connection over one path no send book is aborted, or given to one path alone, no reassembly book is aborted, and no reader
@@ -110,6 +147,77 @@ pub fn what_is_left_is_data()
 /// positions past SND.UNA at most, and one more once the FIN is sent (RFC 5681, section 2).
 pub fn no_end_overruns()
     ensures { NoEndOverruns }
+{}
+
+/// A law: on the only path of a mild connection positions count bytes, whatever is lost, late or repeated (RFC 8684, section 3.3.1).
+///
+/// SND.NXT lies behind all bytes of the side's stream that the path took. RCV.NXT of the peer's end lies behind all that the peer's side
+/// received, and as long as the end sent no FIN just behind them.
+pub fn positions_count_bytes()
+    ensures { HoldsOfOnlyPaths values PositionsCountBytes }
+{}
+
+/// A law: records are sent in order, always: each record behind one that is to be sent is to be sent, too, or has no octets, as a FIN hasn't.
+///
+/// So no more octets are under way than lie between SND.UNA and the first position that is to be sent (RFC 5681, section 2, FlightSize), once
+/// SND.UNA lies before the end of the first record.
+pub fn records_are_sent_in_order()
+    ensures octets { EachIsSentInOrder octets }
+    ensures values { EachIsSentInOrder values }
+{}
+
+/// A law: where the turn of a path is over, the first record that is to be sent, of an end that may still send its FIN, is longer than there is
+/// room in the congestion window (RFC 5681, section 3.1).
+pub fn what_is_unsent_waits_for_room()
+    ensures octets { WhatIsUnsentWaitsForRoom octets }
+    ensures values { WhatIsUnsentWaitsForRoom values }
+{}
+
+/// A law: as the turn of the only path of a mild connection is over, an open end that sent no FIN has sent all for which there is room.
+///
+/// There is no room for another full segment in its congestion window, counted from SND.UNA up to which all is sent (RFC 5681, section 2); or all
+/// is sent that was written as the round began and lies before the edge that the peer's window had then (RFC 9293, section 3.8.6).
+pub fn what_has_room_is_sent()
+    ensures { WhatHasRoomIsSent }
+{}
+
+/// A law: in each round of a mild connection over one path an application writes its file, or as much as a side buffers past what was acknowledged as the
+/// round began; and the peer's reader reads all that had come in order then.
+pub fn each_round_writes_and_reads()
+    ensures writes { EachRoundWrites }
+    ensures reads { EachRoundReads }
+{}
+
+/// A law: where nothing is to be mended, all that an open end sent comes within four rounds (`brought`), and as soon the end is told how far the peer
+/// was (`told`); so the peer's reader reads a full segment more in twelve rounds (`read`), or all of the stream.
+///
+/// It is said of a mild connection over one path with segments of 1,460 octets at most, between moments at which the path is open, whose records stay
+/// well and whose ends are told soon. For `read` nothing is to be mended as the rounds begin and after seven of them, the congestion window
+/// holds two full segments then, and what the peer could tell of the stream is heard in the first five: the Data ACK, and a window that takes a full
+/// segment. Then come a round in which the application writes, one in which the end sends, four in which that comes, and one in which it is read.
+pub fn a_segment_is_read()
+    ensures brought { FourRoundsBring }
+    ensures told { FourRoundsTell }
+    ensures read { ASegmentIsRead }
+{}
+
+/// A law: where nothing is to be mended, and all of a stream is read, the peer's side knows where it ends in eleven rounds (RFC 8684, section 3.3.3).
+///
+/// It is said of a mild connection over one path, between moments at which the path is open, whose ends are told soon, and where all of the stream is
+/// acknowledged in the first five rounds. Then it is closed in the next one, and in the one after that its end sends the DATA_FIN, or the
+/// peer's side knows the end. That the DATA_FIN which is sent so comes in four more rounds is a premise.
+pub fn an_end_is_told()
+    ensures { AnEndIsTold }
+{}
+
+/// A law: in thirteen rounds in which nothing is to be mended a stream goes on by a full segment or by its end, or both streams are all there.
+///
+/// It is said of any way in which all is well: nothing of path 0 is to be mended then, and both congestion windows hold two full segments. A wait
+/// for such rounds begins with each of them, and it goes on by each turn as long as all is well. What the peer could tell is heard in
+/// five rounds, and a DATA_FIN comes in four: these are premises.
+pub fn a_unit_is_made()
+    ensures waits { ShortWaitsGoOn }
+    ensures made { AUnitIsMade }
 {}
 
 /// A law: where no line of a script speaks of a direction, each segment of a path that is harmed uses a line by which one is lost or late.
@@ -169,16 +277,36 @@ pub fn senders_are_awaited()
     ensures { SendersAreAwaited }
 {}
 
+/// A law: B's DATA_FIN comes to A on path 0 of a mild connection, whatever is lost, where B has no record, and shows A its first DSS, by which A
+/// may send one (RFC 8684, sections 3.1 and 3.3.3).
+///
+/// As a turn is over, B may send a DSS, and its DATA_FIN isn't acknowledged, such a copy is on its way to A's RCV.NXT, for a minute and the
+/// longest time that a segment is under way, or what counts comes between; it is never late.
+pub fn each_first_sign_comes()
+    ensures { EachFirstSignComes }
+{}
+
+/// A law: a wait for the first sign of Multipath TCP goes on on path 0 of a mild connection, while no end of it is dead, until something is
+/// counted, and it is never late (RFC 8684, section 3.1).
+///
+/// B is to hear both keys, by A's first piece (`each_first_piece_comes`), or A its first DSS, by B's DATA_FIN (`each_first_sign_comes`); where B
+/// has a record that is awaited (`senders_are_awaited`). As a round is over the wait begins, for a minute and the longest time there and back.
+pub fn first_signs_are_awaited()
+    ensures { FirstSignsAreAwaited }
+{}
+
 /// A law: while path 0 of a mild connection opens, and no end of it is dead, a SYN is awaited, or the answer to B's SYN/ACK that comes again,
 /// until something is counted (RFC 9293, section 3.5).
 ///
-/// As a round is over with an end that opens, or B half-open and A past the handshake, the wait begins (`each_syn_comes`, `each_syn_ack_is_answered`), for a minute and
-/// the longest time there and back; it is never late. Where A's end has finished all of its stream is with the peer.
-/// At each moment an end of a path opens so, or both are past the handshake, or A's waits for its tick, or one is past it whose peer hasn't its
-/// SYN (`which`).
+/// As a round is over with an end that opens, or B half-open and A past the handshake, the wait begins (`each_syn_comes`,
+/// `each_syn_ack_is_answered`), for a minute and the longest time there and back; it is never late. Where A's end has finished all of its stream
+/// is with the peer. At each moment an end of a path opens so, or both are past the handshake, or A's waits for its tick, or one is past it whose
+/// peer hasn't its SYN (`which`). On path 0, while neither of its ends is dead, an end opens so, or both are past the handshake (`living`): no
+/// end goes further than its peer's SYN lets it.
 pub fn openings_are_awaited()
     ensures waits { OpeningsAreAwaited }
     ensures which { EndsOpenOrArePast }
+    ensures living { LivingEndsOpenOrArePast }
 {}
 
 /// A law: what an open end of the only path of a mild connection asks for, the Data ACK of its DATA_FIN or of a piece (`each_ask_is_answered`),
@@ -276,17 +404,19 @@ pub fn what_is_outstanding_is_awaited()
     ensures { WhatIsOutstandingIsAwaited }
 {}
 
-/// A law: in a mild connection over one path, where nothing is outstanding at an end, it goes on within two rounds, unless all of both
-/// streams is with the peers.
+/// A law: in a mild connection over one path, where nothing is outstanding at an end, it goes on within two rounds, unless all of both streams is
+/// with the peers.
 ///
 /// As a round begins all of both is there, or of a stream not all is (`begins`); steps leave that so (`steps`). As that round ends, or the next
 /// one, with both ends open: more is written or received, a stream was closed, or a side learned where its peer's ends, which counts
 /// (`each_gain_counts`); or something is outstanding at an end, and bytes aren't acknowledged, if that is a window; or all that was written as
-/// the first of the two rounds began is acknowledged, and in the second one more is written, or the stream is closed (`rounds`).
+/// the first of the two rounds began is acknowledged, and in the second one more is written, or the stream is closed (`rounds`). From the side
+/// that goes on, it is enough that its own end is open (`ends`).
 pub fn who_waits_for_nothing_goes_on()
     ensures begins { RoundsBeginToGoOn }
     ensures steps { StepsLetItGoOn }
     ensures rounds { RoundsGoOn }
+    ensures ends { EndsGoOn }
 {}
 
 /// A law: in a mild connection over one path, whenever an end heard that its DATA_FIN is acknowledged, or sent its FIN and isn't dead, its
@@ -366,9 +496,57 @@ pub fn whole_paths_deliver()
     ensures values { BriefPathsDeliver values long_patience }
 {}
 
+/// A law: over one path both files are delivered, or an end of the path died, after rounds enough from the beginning of the connection, where its
+/// ends open firmly, however much is lost, late or repeated (`delivers`).
+///
+/// After half of these rounds the path is whole, or all of both streams is with the peers, or an end died (`opens`). That the ends open firmly is
+/// a premise: A may send a DSS only once B may, and where A's end has finished, or all of B's stream is with A, A may; A's first piece waits
+/// until B may send one; and until A may, an end of B's without a record was granted nothing and knows of no shut window (RFC 8684, section 3.1).
+/// It is said of mild connections over one path with buffers of 4,096 octets at least, over segments as values, and of fewer than 2^64 - 1 turns.
+/// Enough rounds are as many as in `whole_paths_deliver`, twice.
+pub fn firm_openings_deliver()
+    ensures opens { OpensWithin (for_all_news news_within) }
+    ensures delivers { DeliversWithin (for_all_news news_within) }
+{}
+
 /// A law: on a lane that loses segments all is acknowledged, or the end gave up, after five rounds or so for each segment and two
 /// greatest timeouts for each line (`end`); with four lines at most no end gives up (`finish`).
 pub fn lossy_lanes_finish()
     ensures end { LossyLanesEnd }
     ensures finish { LossyLanesFinish }
+{}
+
+/// A law: no more records of data of a side may be lost than before, but one for a segment that is harmed, between open ends (RFC 9293, section
+/// 3.10.7.4).
+///
+/// A record may be lost that isn't well: one that was sent, isn't with the peer, and doesn't come within 400 ticks. By each turn of a mild
+/// connection that `each_record_stays_well` speaks of the records of a side that may be lost are these still, or fewer; where a segment of the
+/// side is harmed there is one more at most, and none where the end owed an acknowledgement, since that goes alone.
+pub fn harms_alone_lose_records()
+    ensures { HarmsAloneLoseRecords }
+{}
+
+/// A law: what an end sent is mended as its timer runs out, unless a segment is harmed once more (RFC 6298, section 5, rule 5.4).
+///
+/// Once the timer ran out, by a turn between open ends of a mild connection, the first record alone may be lost, and is to go again. As it goes
+/// it is harmed, or each record of the end is well: the first one comes within 400 ticks, each other one is to be sent.
+pub fn what_runs_out_is_mended()
+    ensures { WhatRunsOutIsMended }
+{}
+
+/// A law: where the first record of a side may be lost, there is one less that may be by the tick to which its timer runs, unless a segment is
+/// harmed, between open ends (RFC 6298, section 5).
+///
+/// By each turn that stays so to the same tick; or fewer records may be lost: SND.UNA rose past it, or it went again; or a segment of the path
+/// is harmed. Or there is news by which the timer may have started anew, though SND.UNA isn't past the record.
+pub fn lost_records_are_mended()
+    ensures { LostRecordsAreMended }
+{}
+
+/// A law: such a wait begins where a turn is over, and ends within a minute (RFC 6298, section 2, rule 2.5).
+///
+/// Where path 0 is open, its turn is over, and the first record of a side is one that may be lost, its timer runs for 60,000 ticks at most; and
+/// no such wait ends before the round does.
+pub fn lost_records_are_awaited()
+    ensures { LostRecordsAreAwaited }
 {}

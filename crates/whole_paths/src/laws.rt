@@ -20,6 +20,7 @@ ghost use Rattle.whole_paths.specs.ClosingAsked.{EachDataFinComes};
 ghost use Rattle.whole_paths.specs.ClosingFin.{EachFinIsPassed};
 ghost use Rattle.whole_paths.specs.ClosingKnown.{EachEndIsToldFirst, WhatIsHeardIsWanted, WhoHeardTheEndKnowsIt};
 ghost use Rattle.whole_paths.specs.ClosingOwed.{WhatWantsAnAnswerIsOwedOne};
+ghost use Rattle.whole_paths.specs.ComingCopies.{EachCopyThatComesCounts};
 ghost use Rattle.whole_paths.specs.Copies.{CopiesLeaveByArriving};
 ghost use Rattle.whole_paths.specs.DataAcks.{EachSegmentHasADataAck};
 ghost use Rattle.whole_paths.specs.DataAcksAsked.{WhatIsAskedComes};
@@ -40,7 +41,7 @@ ghost use Rattle.whole_paths.specs.Flights.{WhatWaitsComes};
 ghost use Rattle.whole_paths.specs.Harms.{EachUsesALineOrComes, PlainDirectionsHandOnAtOnce};
 ghost use Rattle.whole_paths.specs.Hearing.{EachAcknowledgementCounts};
 ghost use Rattle.whole_paths.specs.InHand.{WhatIsInHandIsAcknowledged};
-ghost use Rattle.whole_paths.specs.InTime.{NothingIsOverdue};
+ghost use Rattle.whole_paths.specs.InTime.{EventsComeInOrder, NothingIsOverdue};
 ghost use Rattle.whole_paths.specs.Kept.{WhatWaitsIsKept};
 ghost use Rattle.whole_paths.specs.KnownEnds.{EndsAreKnown, WhatIsClosedIsAcknowledged};
 ghost use Rattle.whole_paths.specs.KnownModes.{EndsKnowWhatWas, NoEndKnowsOfAFallback};
@@ -56,12 +57,16 @@ ghost use Rattle.whole_paths.specs.Owed.{WhatIsOwedComes};
 ghost use Rattle.whole_paths.specs.Passed.{WhatIsInOrderIsPassed};
 ghost use Rattle.whole_paths.specs.Probes.{EachProbeIsAnswered};
 ghost use Rattle.whole_paths.specs.Reasons.{WhoWaitsHasATimer};
+ghost use Rattle.whole_paths.specs.RecordsGo.{EachRecordGoesAlone};
 ghost use Rattle.whole_paths.specs.Received.{HoldsOfOnlyPaths, WhatIsGrantedIsReceived, WhatIsPassedIsPlaced, WhatIsPassedIsReceived};
 ghost use Rattle.whole_paths.specs.Room.{WhoIsDoneMayAsk};
+ghost use Rattle.whole_paths.specs.Rising.{EndsOpenByCopies};
 ghost use Rattle.whole_paths.specs.Running.{TimersRunOn};
+ghost use Rattle.whole_paths.specs.SentAgain.{EachExpirySendsAllAgain};
 ghost use Rattle.whole_paths.specs.Saying.{EachSegmentSaysWhatCame};
 ghost use Rattle.whole_paths.specs.Sent.{WhatCameWasSent};
 ghost use Rattle.whole_paths.specs.SentByTurns.{EachTurnSendsOneAtMost};
+ghost use Rattle.whole_paths.specs.SetTimers.{EachTimerRunsForASecond};
 ghost use Rattle.whole_paths.specs.Shut.{WhatIsLeftIsPastTheEdge};
 ghost use Rattle.whole_paths.specs.SynAcks.{EachSynAckIsAnswered};
 ghost use Rattle.whole_paths.specs.Syns.{EachSynComes};
@@ -137,7 +142,7 @@ pub fn each_gain_counts()
 /// A law: no timer of a path ever waits for more than a minute (RFC 6298, section 2).
 ///
 /// At every moment each timer that runs, at either end of each path, runs out 60,000 ticks after the path's tick at most; a timeout is
-/// never below 1,000 ticks, nor above 60,000; and the tick isn't past the end of the round.
+/// never below 1,000 ticks, nor above 60,000; and the tick lies before the end of the round.
 pub fn timers_run_out()
     ensures octets { Always octets (λ start w. TimersRunOut w) }
     ensures values { Always values (λ start w. TimersRunOut w) }
@@ -182,6 +187,45 @@ pub fn no_timer_is_put_off()
 pub fn expiries_alone_count()
     ensures octets { ExpiriesAloneCount octets }
     ensures values { ExpiriesAloneCount values }
+{}
+
+/// A law: an end sends the one record of data whose segment goes, and no other (RFC 9293, section 3.10.7.4).
+///
+/// By any turn a record of data that an end has sent it had sent before, or the segment that goes next on the path is that record's. It is said of
+/// an end whose SYN is acknowledged.
+pub fn each_record_goes_alone()
+    ensures octets { EachRecordGoesAlone octets }
+    ensures values { EachRecordGoesAlone values }
+{}
+
+/// A law: once a timer ran out, each record of its end is to be sent again (RFC 6298, section 5, rule 5.4): the first one at once
+/// (`what_runs_out_goes_again`), and each other one is marked as to be sent, until the first one has gone. As that goes no record comes or is let go.
+///
+/// It is said of an expiry that isn't the sixth in a row, which ends the end.
+pub fn each_expiry_sends_all_again()
+    ensures octets { EachExpirySendsAllAgain octets }
+    ensures values { EachExpirySendsAllAgain values }
+{}
+
+/// A law: an acceptable copy that comes ends the expiries in a row of its end (RFC 6298, section 5), and one that lies outside the window, is a
+/// SYN, or acknowledges what wasn't sent, is owed an acknowledgement in its turn, or the SYN/ACK (RFC 9293, section 3.10.7.4).
+pub fn each_copy_that_comes_counts()
+    ensures { EachCopyThatComesCounts }
+{}
+
+/// A law: a timer that is set runs for a second at least (RFC 6298, section 2, rule 2.4).
+///
+/// By each turn the timer of an end runs on to its tick, or to one that is 1,000 ticks past the clock at least; or it doesn't run.
+pub fn each_timer_runs_for_a_second()
+    ensures octets { EachTimerRunsForASecond octets }
+    ensures values { EachTimerRunsForASecond values }
+{}
+
+/// A law: what comes next on a path is the earliest of all that waits to happen there: of its lines, of the copies under way, of both timers,
+/// and of a join.
+pub fn events_come_in_order()
+    ensures octets { EventsComeInOrder octets }
+    ensures values { EventsComeInOrder values }
 {}
 
 /// A law: an end dies by the sixth expiry in a row, by the line by which its path dies, by a reset that counts (RFC 9293, section
@@ -675,7 +719,7 @@ pub fn no_side_is_stopped()
     ensures { NoSideIsStopped }
 {}
 
-/// A law: with checksums, up to the end of the first record of data of an end of path 0 of a mild connection, the mapping at its peer's RCV.NXT
+/// A law: with checksums, up to the end of each record of data of an end of path 0 of a mild connection, the mapping at its peer's RCV.NXT
 /// begins there, and ends there or before.
 ///
 /// So octets that came in order are passed with checksums too, as soon as their record is whole (RFC 8684, section 3.3.1): RCV.NXT stands at the
@@ -696,6 +740,14 @@ pub fn copies_arrive_as_sent()
 pub fn ends_go_by_the_handshake()
     ensures octets { EndsGoByTheHandshake octets }
     ensures values { EndsGoByTheHandshake values }
+{}
+
+/// A law: by whatever turns, an end that isn't past the handshake stays in its state, or is dead, or a copy comes to it that takes it further:
+/// the SYN to a listening end, the SYN/ACK to the one that sent its SYN, or a segment that is taken (RFC 9293, section 3.10.7). On a path that
+/// joins, that may be the answer of the control book.
+pub fn ends_open_by_copies()
+    ensures octets { EndsOpenByCopies octets }
+    ensures values { EndsOpenByCopies values }
 {}
 
 /// A law: the SYN of A on path 0 comes to B while that listens, and the SYN/ACK of B to A while A waits for it, whatever is lost: an end goes

@@ -33,7 +33,7 @@ fn row_of(case: &mut Case<'_>) -> Option<Row> {
 fn rows_of(case: &mut Case<'_>) -> Rows
     ensures { All IsInRange result }
 {
-    let mut rows = Rows::default();
+    let mut rows = Rows::new(case.alloc);
     for place in 0..17u8 {
         let Some(row) = row_of(case) else {
             break;
@@ -42,7 +42,10 @@ fn rows_of(case: &mut Case<'_>) -> Rows
             case.refuse();
             break;
         }
-        rows.push(row);
+        if rows.push(row).is_err() {
+            case.fail();
+            break;
+        }
     }
     rows
 }
@@ -53,8 +56,7 @@ fn put_growths(case: &mut Case<'_>, mss: u32, acked: u32, rows: &Rows)
     requires mss { mss ≤ 1460 }
     requires acked { acked ≤ 1048576 }
 {
-    let listed = rows.listed();
-    let slice = listed.as_slice();
+    let slice = rows.listed();
     if slice.is_empty() {
         return case.refuse();
     }

@@ -145,14 +145,17 @@ fn verdict_of(case: &mut Case<'_>) -> Verdict {
 
 /// The rows that are still to be read, three fields a row, at most 16.
 fn rows_of(case: &mut Case<'_>) -> Rows {
-    let mut rows = Rows::new();
+    let mut rows = Rows::new(case.alloc);
     for _ in 0..16 {
         if case.has_more() && !rows.is_full() {
-            rows.push(Row {
+            let row = Row {
                 path: case.number(),
                 window: case.number(),
                 rtt: case.number(),
-            });
+            };
+            if rows.push(row).is_err() {
+                case.fail();
+            }
         }
     }
     rows

@@ -17,7 +17,7 @@ pub nonzero_div-result : goal.nonzero_div-result
 nonzero_div-result c =
     let leads : leader c.args.rows.now ≡ Some c.unwrap-lead.result = cc in
     let some = scaled_sum_some c.unwrap-lead.result c.args.rows.now c.requires.in_range leads in
-    rw (c.from-sum.ensures, c.scaled_sum.ensures.value, c.as_slice-rows.ensures.value, c.listed-listed.ensures.value) (mul-pos some some)
+    rw (c.from-sum.ensures, c.scaled_sum.ensures.value, c.listed-rows.ensures.value) (mul-pos some some)
 
 pub returns-clause-value : goal.returns-clause-value
 unfolding alpha_of

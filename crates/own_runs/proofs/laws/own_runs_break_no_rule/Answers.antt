@@ -1,5 +1,5 @@
 use Rattle.std.proofs.Common.{refl}
-use Rattle.judge_rules.specs.declared.finding.Rule.TheVariants.{AddressHmac, FastCloseKey, Form, JoinHmac, Keys, Within}
+use Rattle.judge_rules.specs.declared.finding.Rule.TheVariants.{AddressHmac, FastCloseKey, Form, JoinHmac, Keys, Token, Within}
 use Rattle.own_runs.proofs.Kept.{no_run_breaks}
 use Rattle.own_runs.proofs.laws.own_runs_break_no_rule.Goals as goal
 
@@ -8,6 +8,9 @@ returns-clause-form c = no_run_breaks Form refl
 
 pub returns-clause-keys : goal.returns-clause-keys
 returns-clause-keys c = no_run_breaks Keys refl
+
+pub returns-clause-token : goal.returns-clause-token
+returns-clause-token c = no_run_breaks Token refl
 
 pub returns-clause-join_hmac : goal.returns-clause-join_hmac
 returns-clause-join_hmac c = no_run_breaks JoinHmac refl

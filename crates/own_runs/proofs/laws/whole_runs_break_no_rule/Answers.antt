@@ -1,6 +1,6 @@
 use Rattle.std.proofs.Common.{refl}
-use Rattle.judge_rules.specs.declared.finding.Rule.TheVariants.{DataFin, Fail, Infinite}
-use Rattle.own_runs.proofs.FineTrace.{no_whole_run_breaks}
+use Rattle.judge_rules.specs.declared.finding.Rule.TheVariants.{DataFin, DssSum, Fail, Infinite, Mapping, PlaceContent}
+use Rattle.own_runs.proofs.MapTrace.{no_whole_run_breaks}
 use Rattle.own_runs.proofs.laws.whole_runs_break_no_rule.Goals as goal
 
 pub returns-clause-data_fin : goal.returns-clause-data_fin
@@ -11,3 +11,12 @@ returns-clause-infinite c = no_whole_run_breaks Infinite refl
 
 pub returns-clause-fail : goal.returns-clause-fail
 returns-clause-fail c = no_whole_run_breaks Fail refl
+
+pub returns-clause-mapping : goal.returns-clause-mapping
+returns-clause-mapping c = no_whole_run_breaks Mapping refl
+
+pub returns-clause-place_content : goal.returns-clause-place_content
+returns-clause-place_content c = no_whole_run_breaks PlaceContent refl
+
+pub returns-clause-dss_sum : goal.returns-clause-dss_sum
+returns-clause-dss_sum c = no_whole_run_breaks DssSum refl

@@ -9,3 +9,6 @@ returns-clause-steps c = going.steps_let_it_go_on
 
 pub returns-clause-rounds : goal.returns-clause-rounds
 returns-clause-rounds c = going.rounds_go_on
+
+pub returns-clause-ends : goal.returns-clause-ends
+returns-clause-ends c = going.ends_go_on

@@ -1,0 +1,349 @@
+-- In the capture of a run whose script alters nothing and takes no options away each position has one place, each place the octet of its side's
+-- file, and each checksum is right.
+use Rattle.std.proofs.Common.{◌≡◌, refl, sym, ap, ◌∙◌, subst, ℕ, zero, suc, ◌⊎◌, ◌+◌, ◌-◌, ◌%◌, ◌^◌, ◌<◌, ◌≤◌, true, false, Option, Some, None, option_map, Ok, Result, inl, inr, List, [], ◌∷◌, ◌++◌, length, length-append, append-nil, map, arith}
+use Rattle.std.specs.Prelude.{All, IfSome, get_or}
+use Rattle.std.specs.Int.{from_bool}
+use Rattle.std.proofs.lemmas.Bool.{false≢true}
+use Rattle.std.proofs.lemmas.List.Elements.{All-cons, All-head, All-nil, All-tail}
+use Rattle.capture_reader.specs.Captured.{Captured}
+use Rattle.capture_reader.specs.Seen.{Seen}
+use Rattle.capture_reader.specs.Steps.{◌>>=◌}
+use Rattle.capture_verdict.specs.Judging.{judged_capture, judged_packets}
+use Rattle.capture_verdict.specs.Sent.{IsSent}
+use Rattle.dss_checksum.specs.Checksum.{dss_checksum}
+use Rattle.judge_laws.specs.GoesOn.{stream_in}
+use Rattle.judge_rules.specs.Numbers.{first_number}
+use Rattle.judge_rules.specs.declared.acks.ToldPlace.{ToldPlace}
+use Rattle.judge_rules.specs.declared.finding.Rule.{Rule}
+use Rattle.link_trace.specs.declared.sent.Sent.{Sent}
+use Rattle.mptcp_options.specs.Value.{OptionValue}
+use Rattle.mptcp_options.specs.declared.capable.CapableKeys.TheVariants.{Both, NoKey, Sender, WithData}
+use Rattle.octet_text.specs.Prefix.{IsPrefix}
+use Rattle.path_core.specs.Octets.{octets}
+use Rattle.path_segments.specs.Options.{PlainOption, relative_number, said_option}
+use Rattle.path_segments.specs.declared.segment.PathMapping.TheVariants.{Bytes, End, Infinite}
+use Rattle.path_segments.specs.declared.segment.PathOption.TheVariants.{Capable, Dss, Fail}
+use Rattle.path_segments.specs.declared.spelling.Spelling.{Spelling}
+use Rattle.rule_book.specs.Judged.{nothing_judged}
+use Rattle.rule_book.specs.State.{JudgedValue}
+use Rattle.run_trace.specs.Trace.{trace_of}
+use Rattle.seen_octets.specs.declared.octet.Octet.{Octet}
+use Rattle.seen_streams.specs.State.{StreamValue}
+use Rattle.segment_wire.specs.Segment.{Segment}
+use Rattle.sides.specs.Side.{peer}
+use Rattle.sides.specs.declared.side.Side.TheVariants.{A, B}
+use Rattle.sides.specs.declared.side.Side.{Side}
+use Rattle.stream_lanes.specs.Duo.{Duo}
+use Rattle.stream_lanes.specs.Words.{Every}
+use Rattle.world_laws.specs.NeverFalls.{IsWhole}
+use Rattle.world_laws.specs.Openings.{PathPlan, Start, opened_world, path_begins}
+use Rattle.world_laws.specs.Promises.{IsPlain, NumbersFit}
+use Rattle.world_laws.specs.Worlds.{Turn, world_run}
+use Rattle.own_runs.specs.Runs.{DataFinsEndTheFiles, NoWholeRunBreaks, StreamsBeginTheFiles, WholeStreamsAreTheFiles, capture_of, file_of}
+use Rattle.own_runs.specs.Traces.{FitsCapture, packet_for}
+use Rattle.own_runs.proofs.Bearing.{Carries}
+use Rattle.own_runs.proofs.FineMoments.{IsBorne, IsMapped, Offered, content, file_len, lane_of, place_at, whole_offers}
+use Rattle.own_runs.proofs.FinePositions.{TellsNoFail}
+use Rattle.own_runs.proofs.Kept.{all_on, same_judged}
+use Rattle.own_runs.proofs.MapKept.{FinePacket, IsFine, stream_fine}
+use Rattle.own_runs.proofs.MapPositions.{Bears, OffersWell, Sit, StreamFine, contents, header, is_mapping}
+use Rattle.own_runs.proofs.Moments.{IsSpoken, WorldAlso, trace_spoken}
+use Rattle.own_runs.proofs.Numbered.{first_low, number_so}
+use Rattle.own_runs.proofs.Offering.{AllFine, OptionFine}
+use Rattle.own_runs.proofs.Own.{IsOwn, own_initial, own_key}
+use Rattle.own_runs.proofs.OwnTrace.{found, from_is, is_own, path_is, payload_same, seen_of, segment, seq_is, values_are}
+use Rattle.own_runs.proofs.Placing.{PlacedIn}
+use Rattle.own_runs.proofs.Traces.{traces_are}
+use Rattle.own_runs.proofs.Values.{drawn}
+
+-- ---- positions modulo 2^32
+
+-- the place of a position on the lanes of the last moment
+abbrev where_in : Duo → ℕ → Side → ℕ → ℕ
+where_in last path s p = place_at (lane_of last path s) (p % 2 ^ 32)
+
+stands_at : (p from j len : ℕ) → p % 2 ^ 32 ≡ from % 2 ^ 32 → from + len < 2 ^ 31 → j < len → (p + j) % 2 ^ 32 ≡ from + j
+stands_at p from j len same few below = omega (arith, same, few, below)
+
+contents_at : (f : ℕ → ℕ) (count p from : ℕ) → p % 2 ^ 32 ≡ from % 2 ^ 32 → from + count < 2 ^ 31 → contents f from count ≡ contents (λ q. f (q % 2 ^ 32)) p count
+contents_at f zero p from same few = refl
+contents_at f (suc count) p from same few =
+    ap (λ (x : ℕ). x ∷ contents f (from + 1) count) (ap f (let at : from ≡ p % 2 ^ 32 = omega (arith, same, few) in at))
+    ∙ ap (λ (xs : List ℕ). f (p % 2 ^ 32) ∷ xs) (contents_at f count (p + 1) (from + 1) (omega (arith, same)) (omega (arith, few)))
+
+-- ---- a mapping as it is written, in a segment at its position
+
+module _ (start : Start) (last : Duo) (path : ℕ) (plan : PathPlan) (s : Side) where
+  abbrev spelling : Spelling
+  spelling = (path_begins start path plan).profile.spelling
+
+  abbrev Well : ℕ → OptionValue → Type 0
+  Well p option = OffersWell (first_number (own_key (drawn start) s)) (file_len start s) (content start s) (where_in last path s) p option
+
+  abbrev first : ℕ
+  first = first_number (own_key (drawn start) s)
+
+  -- the place and the octet of a position
+  abbrev place_of : ℕ → ℕ
+  place_of p = place_at (lane_of last path s) p
+
+  abbrev octet_of : ℕ → ℕ
+  octet_of p = content start s (place_of p)
+
+  all_of : (len : ℕ) → len ≡ len - from_bool false
+  all_of len = omega arith
+
+  module _ (p from place relative len : ℕ) (same : p % 2 ^ 32 ≡ from % 2 ^ 32) (few : from + len < 2 ^ 31) where
+    sits_at : Sit place_of from place len → Sit (where_in last path s) p place (len - from_bool false)
+    sits_at sit =
+        subst (λ (n : ℕ). Sit (where_in last path s) p place n) (all_of len)
+        (λ j below. ap place_of (stands_at p from j len same few below) ∙ sit j below)
+
+    sum_at : (checksum : Option ℕ) → IfSome checksum (λ sum. sum ≡ dss_checksum (header first place relative len) (contents octet_of from len))
+        → IfSome checksum (λ sum. sum ≡ dss_checksum (header first place relative len) (contents (λ q. content start s (where_in last path s q)) p (len - from_bool false)))
+    sum_at None right = tt
+    sum_at (Some sum) right =
+        right
+        ∙ ap (λ (octets : List ℕ). dss_checksum (header first place relative len) octets) (contents_at octet_of len p from same few)
+        ∙ ap (λ (n : ℕ). dss_checksum (header first place relative len) (contents (λ q. content start s (where_in last path s q)) p n)) (all_of len)
+
+  -- at a position of the segment's number
+  module _ (key at octets p : ℕ) (same : p % 2 ^ 32 ≡ at % 2 ^ 32) (few : (octets ≡ 0) ⊎ (at + octets < 2 ^ 31)) where
+    -- where it maps octets, these are those of the segment
+    near : (from len : ℕ) → from ≡ at → len ≡ octets → 1 ≤ len → from + len < 2 ^ 31
+    near from len is whole some = by few
+      where
+        by : (octets ≡ 0) ⊎ (at + octets < 2 ^ 31) → from + len < 2 ^ 31
+        by (inl none) = absurd (omega (arith, none, whole, some))
+        by (inr short) = omega (arith, is, whole, short)
+
+    there : (from : ℕ) → from ≡ at → p % 2 ^ 32 ≡ from % 2 ^ 32
+    there from is = same ∙ ap (λ (n : ℕ). n % 2 ^ 32) (sym is)
+
+    well_so : (o : PlainOption) → PlacedIn key at octets o → OptionFine (file_len start) (IsMapped start last path) s o → Well p (said_option spelling s o)
+    well_so (Dss next None) placed is = tt
+    well_so (Dss next (Some (Bytes place from len false checksum))) placed is =
+        let alike = there from placed.0 in
+        let short = near from len placed.0 placed.1 is.0 in
+        record {
+          place = place;
+          number = number_so start path plan s place;
+          some = is.0;
+          ends = is.2;
+          sits = inr (omega (arith, alike), sits_at p from place (relative_number from) len alike short is.3.0);
+          low = omega arith;
+          sum = sum_at p from place (relative_number from) len alike short checksum is.3.1;
+        }
+    well_so (Dss next (Some (Bytes place from len true checksum))) placed is = absurd (false≢true (sym placed.2))
+    well_so (Dss next (Some (End place checksum))) placed is = record {
+      place = place;
+      number = number_so start path plan s place;
+      some = omega arith;
+      ends = let at_end = is.0 in omega (arith, at_end);
+      sits = inl refl;
+      low = omega arith;
+      sum = is.1;
+    }
+    well_so (Dss next (Some (Infinite place from))) placed is = absurd is
+    well_so (Capable flag_a flag_c (WithData sender receiver len checksum)) placed is =
+        let alike = there 1 placed.0 in
+        let short = near 1 len placed.0 placed.1 is.0 in
+        record {
+          place = 0;
+          number = first_low start path plan s;
+          some = is.0;
+          ends = let within = is.1 in omega (arith, within);
+          sits = inr (omega (arith, alike), sits_at p 1 0 1 len alike short is.2.0);
+          low = omega arith;
+          sum = sum_at p 1 0 1 len alike short checksum is.2.1;
+        }
+    well_so (Capable flag_a flag_c NoKey) placed is = tt
+    well_so (Capable flag_a flag_c (Sender sender)) placed is = tt
+    well_so (Capable flag_a flag_c (Both sender receiver)) placed is = tt
+    well_so (Fail place) placed is = absurd is
+    well_so _ placed is = tt
+
+    wells_so : (options : List PlainOption) → Every (PlacedIn key at octets) options → AllFine (file_len start) (IsMapped start last path) s options
+        → All (Well p) (map (said_option spelling s) options)
+    wells_so [] placed each = All-nil (Well p)
+    wells_so (o ∷ options) placed each =
+        All-cons (Well p) (said_option spelling s o) (map (said_option spelling s) options) (well_so o (placed.each 0 o refl) (each.each 0 o refl))
+        (wells_so options (record { each = λ i y at_y. placed.each (suc i) y at_y }) (record { each = λ i y at_y. each.each (suc i) y at_y }))
+
+    -- its payload
+    borne_so : (payload : List ℕ) → length payload ≡ octets → Bears octet_of at payload → Bears (λ q. content start s (where_in last path s q)) p payload
+    borne_so payload whole bears j below = bears j below ∙ ap octet_of (by few)
+      where
+        by : (octets ≡ 0) ⊎ (at + octets < 2 ^ 31) → at + j ≡ (p + j) % 2 ^ 32
+        by (inl none) = absurd (omega (arith, none, whole, below))
+        by (inr short) = omega (arith, same, short, whole, below)
+
+  calm_so : (o : PlainOption) → OptionFine (file_len start) (IsMapped start last path) s o → TellsNoFail (said_option spelling s o)
+  calm_so (Fail place) is = is
+  calm_so (Capable flag_a flag_c keys) is = tt
+  calm_so (Dss next mapping) is = tt
+  calm_so _ is = tt
+
+  calmly : (options : List PlainOption) → AllFine (file_len start) (IsMapped start last path) s options → All TellsNoFail (map (said_option spelling s) options)
+  calmly [] each = All-nil TellsNoFail
+  calmly (o ∷ options) each =
+      All-cons TellsNoFail (said_option spelling s o) (map (said_option spelling s) options) (calm_so o (each.each 0 o refl))
+      (calmly options (record { each = λ i y at. each.each (suc i) y at }))
+
+-- ---- the capture
+
+module _ (start : Start) (last : Duo) (fit : NumbersFit start) where
+  few : (s : Side) → file_len start s < 2 ^ 31
+  few A = let short = fit.short_a in omega (arith, short)
+  few B = let short = fit.short_b in omega (arith, short)
+
+  abbrev Good : Seen → Type 0
+  Good seen = IsFine (drawn start) (file_len start) few (content start) (where_in last) seen
+
+  abbrev Fit : Captured → Type 0
+  Fit packet = FinePacket (drawn start) (file_len start) few (content start) (where_in last) packet
+
+  module _ (x : Sent) (s : IsSpoken (Offered start last) start x) (short : length x.octets ≤ 65515) where
+    abbrev position : ℕ
+    position = s.segment.position
+
+    abbrev payload : List ℕ
+    payload = s.segment.payload
+
+    abbrev own : IsOwn (drawn start) (seen_of (Offered start last) start x s short)
+    own = is_own (Offered start last) start x s short
+
+    abbrev written : Segment
+    written = segment (Offered start last) start x s short
+
+    -- its payload, if it has one
+    borne : ((length payload ≡ 0) ⊎ (position + length payload < 2 ^ 31)) × Bears (λ q. content start x.from (place_at (lane_of last x.path x.from) q)) position payload
+    borne = by s.also.1
+      where
+        by : Carries (IsBorne start last x.path) x.from s.segment
+            → ((length payload ≡ 0) ⊎ (position + length payload < 2 ^ 31)) × Bears (λ q. content start x.from (place_at (lane_of last x.path x.from) q)) position payload
+        by (inl none) = let empty : length payload ≡ 0 = ap (λ (xs : List ℕ). length xs) none in (inl empty, λ j below. absurd (omega (arith, empty, below)))
+        by (inr is) = (inr is.0, is.1)
+
+    good : Good (seen_of (Offered start last) start x s short)
+    good = record {
+      own = own;
+      at = position;
+      seq = subst (λ (path : ℕ). Seq path own.from) (sym (path_is (Offered start last) start x s short))
+          (subst (Seq x.path) (sym (from_is (Offered start last) start x s short)) (seq_is (Offered start last) start x s short));
+      bears = λ p same. subst (λ (path : ℕ). Holds p path own.from) (sym (path_is (Offered start last) start x s short))
+          (subst (Holds p x.path) (sym (from_is (Offered start last) start x s short))
+          (subst (λ (octets : List ℕ). Bears (λ q. content start x.from (where_in last x.path x.from q)) p octets) (sym (payload_same (Offered start last) start x s short))
+          (borne_so start last x.path s.plan x.from key position (length payload) p same borne.0 payload refl borne.1)));
+      offers = λ p same. subst (λ (path : ℕ). Wells p path own.from own.values) (sym (path_is (Offered start last) start x s short))
+          (subst (λ (t : Side). Wells p x.path t own.values) (sym (from_is (Offered start last) start x s short))
+          (subst (Wells p x.path x.from) (sym (values_are (Offered start last) start x s short))
+          (wells_so start last x.path s.plan x.from key position (length payload) p same borne.0 s.segment.options s.spoken.placed.options s.also.0)));
+      calm = subst (λ (values : List OptionValue). All TellsNoFail values) (sym (values_are (Offered start last) start x s short))
+          (calmly start last x.path s.plan x.from s.segment.options s.also.0);
+    }
+      where
+        key : ℕ
+        key = own_key (drawn start) (peer x.from)
+
+        Seq : ℕ → Side → Type 0
+        Seq = λ path from. written.head.seq ≡ (own_initial (drawn start) path from + position) % 2 ^ 32
+
+        Holds : ℕ → ℕ → Side → Type 0
+        Holds = λ p path from. Bears (λ q. content start from (where_in last path from q)) p written.payload
+
+        Wells : ℕ → ℕ → Side → List OptionValue → Type 0
+        Wells = λ p path from values. All (OffersWell (first_number (own_key (drawn start) from)) (file_len start from) (content start from) (where_in last path from) p) values
+
+    packet_good : Fit (packet_for x)
+    packet_good = subst (λ (o : Option Seen). IfSome o Good) (sym (found (Offered start last) start x s short)) good
+
+  all_good : (trace : List Sent) → Every (IsSpoken (Offered start last) start) trace → All FitsCapture trace → All Fit (map packet_for trace)
+  all_good [] each room = All-nil Fit
+  all_good (x ∷ trace) each room =
+      All-cons Fit (packet_for x) (map packet_for trace) (packet_good x (each.each 0 x refl) (All-head FitsCapture x trace room).octets)
+      (all_good trace (record { each = λ i y at. each.each (suc i) y at }) (All-tail FitsCapture x trace room))
+
+-- ---- a run
+
+-- a list whose items stand at the beginning of another one
+all_same : (xs ys : List ℕ) → ((i : ℕ) → i < length xs → (i < length ys) × (get_or xs i 0 ≡ get_or ys i 0)) → IsPrefix xs ys
+all_same [] ys each = record { rest = ys; whole_is = refl }
+all_same (x ∷ xs) [] each = absurd (let within = (each 0 (omega arith)).0 in omega (arith, within))
+all_same (x ∷ xs) (y ∷ ys) each =
+    let more = all_same xs ys (λ i below. let it = each (suc i) (omega (arith, below)) in let within = it.0 in (omega (arith, within), it.1)) in
+    let head : x ≡ y = (each 0 (omega arith)).1 in
+    record { rest = more.rest; whole_is = ap (λ (t : List ℕ). y ∷ t) more.whole_is ∙ ap (λ (z : ℕ). z ∷ (xs ++ more.rest)) (sym head) }
+
+module _ (start : Start) (turns : List Turn) (plain : IsPlain start) (whole : IsWhole start) (fit : NumbersFit start)
+    (room : All FitsCapture (trace_of turns (opened_world start)))
+    (side : Side) (at : Option Side) (judged : JudgedValue) (read : judged_capture at true (capture_of start turns side) ≡ Ok judged) where
+  abbrev trace : List Sent
+  trace = trace_of turns (opened_world start)
+
+  abbrev offers : (last : Duo) × ((more later : List Turn) → more ++ later ≡ turns → WorldAlso (Offered start last) (world_run octets more (opened_world start)))
+  offers = whole_offers start turns plain whole fit
+
+  abbrev last : Duo
+  last = offers.0
+
+  spoken : Every (IsSpoken (Offered start last) start) trace
+  spoken = trace_spoken (Offered start last) start turns plain.size fit offers.1
+
+  good_packets : All (Fit start last fit) (map packet_for trace)
+  good_packets = all_good start last fit trace spoken room
+
+  same : judged_packets at true nothing_judged 1 (map packet_for trace) ≡ judged
+  same =
+      let few = fit.paths in
+      let all = traces_are side (length start.paths) trace (omega (arith, few)) (all_on (Offered start last) start trace spoken) room in
+      same_judged (judged_packets at true nothing_judged 1 (map packet_for trace)) judged
+      (sym (ap (λ (m : Result (List Captured) ℕ). m >>= λ packets. Ok (judged_packets at true nothing_judged 1 packets)) all) ∙ read)
+
+  module _ (connection : ℕ) (s : Side) (stream : StreamValue) (there : stream_in judged connection s ≡ Some stream) where
+    stands : stream_in (judged_packets at true nothing_judged 1 (map packet_for trace)) connection s ≡ Some stream
+    stands = ap (λ (j : JudgedValue). stream_in j connection s) same ∙ there
+
+    fine : StreamFine (file_len start s) (few start last fit s) (content start s) stream
+    fine = stream_fine (drawn start) (file_len start) (few start last fit) (content start) (where_in last) at (map packet_for trace) good_packets connection s stream stands
+
+    prefix : (octets : List ℕ) → IsSent stream.octet octets → IsPrefix octets (file_of start s)
+    prefix octets sent = all_same octets (file_of start s) (λ i below. by i (stream.octet i) (fine.octets i)
+        (subst (λ (k : ℕ). option_map (λ (o : Octet). o.octet) (stream.octet k) ≡ Some (get_or octets i 0)) (let same : 0 + i ≡ i = omega arith in same) (sent.held i below)))
+      where
+        some_is : {x y : ℕ} → (let one : Option ℕ = Some x in one) ≡ Some y → x ≡ y
+        some_is e = cc
+
+        by : (i : ℕ) (o : Option Octet) → IfSome o (λ o. (i < length (file_of start s)) × (o.octet ≡ get_or (file_of start s) i 0))
+            → option_map (λ (o : Octet). o.octet) o ≡ Some (get_or octets i 0) → (i < length (file_of start s)) × (get_or octets i 0 ≡ get_or (file_of start s) i 0)
+        by i None is e = cc
+        by i (Some o) is e = (is.0, sym (some_is e) ∙ is.1)
+
+    end_is : (fin : ToldPlace) → stream.fin ≡ Some fin → fin.place ≡ file_len start s
+    end_is fin is = subst (λ (o : Option ToldPlace). IfSome o (λ told. told.place ≡ file_len start s)) is fine.fin
+
+pub no_whole_run_breaks : (r : Rule) → is_mapping r ≡ true → NoWholeRunBreaks r
+no_whole_run_breaks r is start turns plain whole fit room side at judged read connection s stream there =
+    (fine start turns plain whole fit room side at judged read connection s stream there).untold r is
+
+pub streams_are : StreamsBeginTheFiles
+streams_are start turns plain whole fit room side at judged read connection s stream there = prefix start turns plain whole fit room side at judged read connection s stream there
+
+pub ends_are : DataFinsEndTheFiles
+ends_are start turns plain whole fit room side at judged read connection s stream there = end_is start turns plain whole fit room side at judged read connection s stream there
+
+-- a part as long as all is all
+all_of_it : (octets file : List ℕ) → IsPrefix octets file → length octets ≡ length file → octets ≡ file
+all_of_it octets file begins same =
+    let whole = ap (λ (xs : List ℕ). length xs) begins.whole_is in
+    let both = length-append octets begins.rest in
+    sym (begins.whole_is ∙ ap (λ (rest : List ℕ). octets ++ rest) (nothing begins.rest (omega (arith, whole, both, same))) ∙ append-nil octets)
+  where
+    nothing : (xs : List ℕ) → length xs ≡ 0 → xs ≡ []
+    nothing [] none = refl
+    nothing (x ∷ xs) none = absurd (omega (arith, none))
+
+pub whole_are : WholeStreamsAreTheFiles
+whole_are start turns plain whole fit room side at judged read connection s stream there fin is octets sent same =
+    all_of_it octets (file_of start s) (prefix start turns plain whole fit room side at judged read connection s stream there octets sent)
+    (same ∙ end_is start turns plain whole fit room side at judged read connection s stream there fin is)

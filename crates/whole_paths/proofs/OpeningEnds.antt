@@ -1,0 +1,200 @@
+-- From its beginning on a connection over one path opens in time, and then delivers both files, or an end of the path died.
+use Rattle.std.proofs.Common.{◌≡◌, refl, sym, subst, ap, ◌∙◌, ◌⊎◌, ⊎_elim, inl, inr, ℕ, ◌+◌, ◌-◌, ◌*◌, ◌/◌, ◌^◌, ◌<◌, ◌≤◌, arith, le_refl, Bool, true, false, Some, List, [], ◌∷◌, ◌++◌, length}
+use Rattle.std.proofs.Math.Nat.{div-mul-le_self, lt-div-mul-add}
+use Rattle.std.specs.List.{slice_get}
+use Rattle.std.proofs.lemmas.Bool.{both_ways}
+use Rattle.std.proofs.lemmas.List.{length-append}
+use Rattle.sides.specs.declared.side.Side.{Side}
+use Rattle.sides.specs.declared.side.Side.TheVariants.{A, B}
+use Rattle.subflow_tcp.specs.States.{is_dead}
+use Rattle.subflow_tcp.specs.declared.handshake.State.{State}
+use Rattle.path_core.specs.State.{PathState, end_at}
+use Rattle.path_core.specs.Values.{Carried, values}
+use Rattle.world_laws.specs.declared.member.Member.TheVariants.{App, Path}
+use Rattle.world_laws.specs.declared.outcome.Outcome.TheVariants.{Delivered}
+use Rattle.world_laws.specs.Actors.{Actor, ActorCrew}
+use Rattle.world_laws.specs.Members.{HoldsOfKind}
+use Rattle.world_laws.specs.Openings.{PathPlan, Start, opened_world}
+use Rattle.world_laws.specs.Outcomes.{outcome_of}
+use Rattle.world_laws.specs.RoundDone.{reached}
+use Rattle.world_laws.specs.Worlds.{Turn, WorldState, AreLawful, world_run}
+use Rattle.world_laws.proofs.Weaving.WholeRounds.{run_append}
+use Rattle.whole_paths.specs.AsFar.{IsActorAsFar, IsPathAsFar, stage}
+use Rattle.whole_paths.specs.Finish.{AnEndDied, IsPathAt, harmed, rounds_in}
+use Rattle.whole_paths.specs.Mild.{IsMildStart, LinkIsMild}
+use Rattle.whole_paths.specs.OnePathScripts.{AnEndDiedEarly, for_all_news, way_there_and_back}
+use Rattle.whole_paths.specs.OnlyPaths.{news_within}
+use Rattle.whole_paths.specs.OpeningCourses.{DeliversWithin, IsOpenOrDone, IsOpeningStill, OpensWithin}
+use Rattle.whole_paths.specs.OpeningWaits.{IsAliveAfter}
+use Rattle.whole_paths.specs.SentByTurns.{SentAtMost}
+use Rattle.whole_paths.proofs.Courses.{exchanges_end, harmed_append}
+use Rattle.whole_paths.proofs.Delivery.{what_is_there_is_delivered}
+use Rattle.whole_paths.proofs.GoesOn.{goes_on_so}
+use Rattle.whole_paths.proofs.GoingOn.{path_at}
+use Rattle.whole_paths.proofs.Mild.{links_are_mild}
+use Rattle.whole_paths.proofs.NewsBounds.{news_is_bounded}
+use Rattle.whole_paths.proofs.OnlyPaths.{only_paths_end, ways_short}
+use Rattle.whole_paths.proofs.OpenCourses.{IsFirstPath, each_first, lawful_parts}
+use Rattle.whole_paths.proofs.OpeningCourses.{exchanges}
+use Rattle.whole_paths.proofs.RecordWaits.{path_is}
+use Rattle.whole_paths.proofs.SentByTurns.{each_turn_sends_one_at_most}
+use Rattle.whole_paths.proofs.ThereInTime.{LastRounds, dead_stage, last_rounds}
+
+-- ---- deaths
+
+dead_up : (x y : State) → is_dead x ≡ true → stage x ≤ stage y → is_dead y ≡ true
+dead_up x y dead up = by y (let high = dead_stage x dead in omega (arith, high, up))
+  where
+    by : (y : State) → 7 ≤ stage y → is_dead y ≡ true
+    by State.Dead high = refl
+    by State.Waiting high = absurd (omega (arith, high))
+    by _ high = absurd (omega (arith, high))
+
+-- the path of a later moment
+record LaterPath (w v : WorldState Carried) (p : PathState Carried) : Type 0 where
+  path : PathState Carried
+  here : IsPathAt 0 v path
+  far : IsPathAsFar p path
+
+later_path : (w : WorldState Carried) (more : List Turn) (p : PathState Carried) → IsPathAt 0 w p → LaterPath w (world_run values more w) p
+later_path w more p here =
+    let found = (goes_on_so values w more).crew 2 here.crew here.there in
+    by found.0 found.1 found.0.member refl (subst (λ m. IsActorAsFar m found.0.member) here.is found.2.member)
+  where
+    by : (d : ActorCrew Carried) → slice_get (world_run values more w).crew 2 ≡ Some d → (m : Actor Carried) → d.member ≡ m → IsActorAsFar (Path p) d.member → LaterPath w (world_run values more w) p
+    by d there (Path q) is far = record { path = q; here = record { crew = d; there = there; is = is }; far = subst (λ m. IsActorAsFar (Path p) m) is far }
+    by d there (App a) is far = absurd (subst (λ m. IsActorAsFar (Path p) m) is far)
+
+far_state : (s : Side) (p q : PathState Carried) → IsPathAsFar p q → stage (end_at s p).tcp.state ≤ stage (end_at s q).tcp.state
+far_state A p q far = far.a.subflow.state
+far_state B p q far = far.b.subflow.state
+
+died_stays : (w : WorldState Carried) (more : List Turn) → AnEndDied 0 w → AnEndDied 0 (world_run values more w)
+died_stays w more died =
+    let later = later_path w more died.path died.here in
+    record { path = later.path; here = later.here; side = died.side; dead = dead_up (end_at died.side died.path).tcp.state (end_at died.side later.path).tcp.state died.dead (far_state died.side died.path later.path later.far) }
+
+-- ---- no end dies
+
+module _ (start : Start) (plan : PathPlan) (one : start.paths ≡ plan ∷ []) (mild : IsMildStart start) (turns : List Turn) (few : length turns < 2 ^ 64 - 1) where
+  path_now : (ts : List Turn) → (p : PathState Carried) × IsPathAt 0 (reached values start ts) p
+  path_now ts = let found = path_at start plan one ts in (found.2, record { crew = found.0; there = found.1; is = found.3 })
+
+  module _ (p : PathState Carried) (here : IsPathAt 0 (reached values start turns) p) (living : (s : Side) → is_dead (end_at s p).tcp.state ≡ false) (ts us : List Turn) (is : ts ++ us ≡ turns) where
+    q : PathState Carried
+    q = (path_now ts).0
+
+    there : IsPathAt 0 (reached values start ts) q
+    unfolding q path_now
+    there = (path_now ts).1
+
+    last_is : world_run values us (reached values start ts) ≡ reached values start turns
+    last_is = sym (run_append values ts us (opened_world start)) ∙ ap (reached values start) is
+
+    later : LaterPath (reached values start ts) (world_run values us (reached values start ts)) q
+    later = later_path (reached values start ts) us q there
+
+    same : later.path ≡ p
+    same = path_is (reached values start turns) later.path p (subst (λ (w : WorldState Carried). IsPathAt 0 w later.path) last_is later.here) here
+
+    lived : (s : Side) → is_dead (end_at s q).tcp.state ≡ false
+    lived s = by (is_dead (end_at s q).tcp.state) refl
+      where
+        by : (b : Bool) → is_dead (end_at s q).tcp.state ≡ b → b ≡ false
+        by false was = refl
+        by true was = absurd (both_ways (is_dead (end_at s p).tcp.state) (living s)
+            (subst (λ (x : PathState Carried). is_dead (end_at s x).tcp.state ≡ true) same (dead_up (end_at s q).tcp.state (end_at s later.path).tcp.state was (far_state s q later.path later.far))))
+
+    first : IsFirstPath start q
+    first = subst (HoldsOfKind (λ app. Unit {0}) (IsFirstPath start)) there.is (each_first start ts mild.plain.size there.crew there.there)
+
+    link : LinkIsMild start.lines q
+    link = subst (HoldsOfKind (λ app. Unit {0}) (LinkIsMild start.lines)) there.is ((links_are_mild values start ts mild).each 2 there.crew there.there)
+
+    shorter : length ts ≤ length turns
+    shorter = let sum = length-append ts us in let all = ap length is in omega (arith, sum, all)
+
+    alive_then : IsAliveAfter start 0 ts
+    alive_then = record {
+      path = q;
+      here = there;
+      is_open = record { living = lived };
+      faithful = record { joined = first.first; whole = link.strips; plain = link.alters };
+      few = λ s. let sent = subst (SentAtMost (length ts)) there.is (each_turn_sends_one_at_most values start ts 2 there.crew there.there) s in let most = shorter in omega (arith, sent, most, few);
+    }
+
+  -- at each moment both live, or one died
+  alive_or_died : ((ts us : List Turn) → ts ++ us ≡ turns → IsAliveAfter start 0 ts) ⊎ AnEndDied 0 (reached values start turns)
+  alive_or_died = by (is_dead p.a.tcp.state) refl (is_dead p.b.tcp.state) refl
+    where
+      p : PathState Carried
+      p = (path_now turns).0
+
+      here : IsPathAt 0 (reached values start turns) p
+      here = (path_now turns).1
+
+      by : (a : Bool) → is_dead p.a.tcp.state ≡ a → (b : Bool) → is_dead p.b.tcp.state ≡ b → ((ts us : List Turn) → ts ++ us ≡ turns → IsAliveAfter start 0 ts) ⊎ AnEndDied 0 (reached values start turns)
+      by true dead b is = inr (record { path = p; here = here; side = A; dead = dead })
+      by false living true dead = inr (record { path = p; here = here; side = B; dead = dead })
+      by false living_a false living_b = inl (λ ts us is. alive_then p here (elim [ A ↦ living_a | B ↦ living_b ]) ts us is)
+
+-- ---- it opens
+
+abbrev WaitsOf : Start → ℕ → ℕ → List Turn → Type 0
+WaitsOf start n x turns = IsOpeningStill start (60000 + way_there_and_back start.paths start.lines) n x turns
+
+pub opens_within : OpensWithin (for_all_news news_within)
+opens_within start plan turns most begins firm lawful few low enough = ⊎_elim
+    (λ alive. inl (exchanges_end values start (IsAliveAfter start most) most (news_within start) (λ ts. IsOpenOrDone (reached values start ts)) (WaitsOf start)
+    (exchanges start plan most way (60000 + way) begins.one begins.mild (let least = begins.buffer in omega (arith, least)) (ways_short start plan begins) (le_refl (60000 + way)) firm)
+    (λ ts. news_is_bounded start ts begins.mild.plain begins.mild.fit) [] turns lawful alive low enough))
+    (λ died. inr died)
+    (alive_or_died start plan begins.one begins.mild turns few)
+  where
+    way : ℕ
+    way = way_there_and_back start.paths start.lines
+
+-- ---- and delivers
+
+pub delivers_within : DeliversWithin (for_all_news news_within)
+delivers_within start plan turns most begins firm lawful few low enough =
+    subst Ends (sym parts.is) (by parts.first parts.rest (subst (λ ts. AreLawful values ts (opened_world start)) parts.is lawful) (subst (λ ts. length ts < 2 ^ 64 - 1) parts.is few)
+    (subst (λ ts. harmed values 0 ts (opened_world start) ≤ most) parts.is low) parts.last (let all = parts.all in omega (arith, enough, all, last_few)))
+  where
+    bound : ℕ
+    bound = for_all_news news_within start most
+
+    last : ℕ
+    last = bound / 100 + 4
+
+    last_few : 100 * last ≤ bound + 400
+    last_few = omega (arith, div-mul-le_self bound 100)
+
+    last_enough : bound + 300 < 100 * last
+    last_enough = let high = lt-div-mul-add {a = bound} {b = 100} (omega arith) in omega (arith, high)
+
+    Ends : List Turn → Type 0
+    Ends ts = (outcome_of (reached values start ts).crew ≡ Delivered) ⊎ AnEndDied 0 (reached values start ts)
+
+    parts : LastRounds last turns
+    parts = last_rounds last turns (omega (arith, enough, last_few))
+
+    by : (first rest : List Turn) → AreLawful values (first ++ rest) (opened_world start) → length (first ++ rest) < 2 ^ 64 - 1 → harmed values 0 (first ++ rest) (opened_world start) ≤ most
+        → rounds_in rest ≡ last → bound < 100 * rounds_in first → Ends (first ++ rest)
+    by first rest going short fewer rounds many = ⊎_elim opened (λ died. inr (at_last first rest died))
+        (opens_within start plan first most begins firm parts_lawful.0 (let sum = length-append first rest in omega (arith, short, sum))
+        (let harms = harmed_append values 0 first rest (opened_world start) in omega (arith, harms, fewer)) many)
+      where
+        parts_lawful : AreLawful values first (opened_world start) × AreLawful values rest (reached values start first)
+        parts_lawful = lawful_parts first rest (opened_world start) going
+
+        at_last : (ts us : List Turn) → AnEndDied 0 (reached values start ts) → AnEndDied 0 (reached values start (ts ++ us))
+        at_last ts us died = subst (AnEndDied 0) (sym (run_append values ts us (opened_world start))) (died_stays (reached values start ts) us died)
+
+        early : AnEndDiedEarly values start (first ++ rest) → Ends (first ++ rest)
+        early h = inr (subst (λ ts. AnEndDied 0 (reached values start ts)) (sym h.is) (at_last h.first h.rest h.died))
+
+        opened : IsOpenOrDone (reached values start first) → Ends (first ++ rest)
+        opened (inl whole) = ⊎_elim (λ delivered. inl delivered) early
+            (only_paths_end start plan first rest most begins parts_lawful.1 short whole fewer (let enough_now = last_enough in omega (arith, enough_now, rounds)))
+        opened (inr all) = inl (what_is_there_is_delivered start plan first rest begins.one begins.mild all parts_lawful.1 (let some = rounds in omega (arith, some)))

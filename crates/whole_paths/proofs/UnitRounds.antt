@@ -1,0 +1,298 @@
+-- A unit more in thirteen rounds: of a stream that isn't all there a segment is read, or it is closed, or its end is known.
+use Rattle.std.proofs.Common.{◌≡◌, refl, sym, subst, ap, ◌∙◌, ◌⊎◌, inl, inr, ⊎_elim, ℕ, zero, suc, ◌+◌, ◌*◌, ◌/◌, ◌<◌, ◌≤◌, min, nat_le, arith, Bool, true, false, true≢false, if◌then◌else◌, is_some, Option, Some, None, List, [], ◌∷◌, ◌++◌, length}
+use Rattle.std.proofs.Math.Nat.{div-mul-le_self, mul-le-mul_right}
+use Rattle.std.proofs.lemmas.Bool.{cases_lt, le-leb, leb-true}
+use Rattle.std.proofs.lemmas.Grind.{div_ceil_times}
+use Rattle.std.proofs.lemmas.List.{append-nil, append_assoc}
+use Rattle.std.proofs.lemmas.Nat.{le-div}
+use Rattle.sides.specs.declared.side.Side.{Side}
+use Rattle.sides.specs.declared.side.Side.TheVariants.{A, B}
+use Rattle.sides.specs.Side.{peer}
+use Rattle.send_book.specs.State.{acked_len}
+use Rattle.reassembly_book.specs.State.{received}
+use Rattle.stream_lanes.specs.Words.{Every}
+use Rattle.actor_desk.specs.Words.{pick}
+use Rattle.path_core.specs.Values.{Carried, values}
+use Rattle.world_laws.specs.Openings.{PathPlan, Start}
+use Rattle.world_laws.specs.Promises.{arrived_at, written_by}
+use Rattle.world_laws.specs.RoundDone.{reached}
+use Rattle.world_laws.specs.Worlds.{Turn, WorldState}
+use Rattle.world_laws.proofs.Worlds.CastLifting.{writes_the_files}
+use Rattle.whole_paths.specs.Courses.{round_end}
+use Rattle.whole_paths.specs.Delivery.{AllIsThere, IsAllThere}
+use Rattle.whole_paths.specs.EndRounds.{AnEndComes, EndIsKnown, IsClosed}
+use Rattle.whole_paths.specs.Finish.{payload_of, segments}
+use Rattle.whole_paths.specs.GoingOn.{steps_of}
+use Rattle.whole_paths.specs.Mending.{EachIsToldSoon, EachRecordStaysWell}
+use Rattle.whole_paths.specs.News.{one_if}
+use Rattle.whole_paths.specs.OnePathScripts.{BeginsWithOnePath}
+use Rattle.whole_paths.specs.OpenCourses.{IsOpenAfter}
+use Rattle.whole_paths.specs.SegmentRounds.{IsRound, IsWellAfter, Rounds, StaysOpen, read_after}
+use Rattle.whole_paths.specs.SharpCourses.{segments_read, stream_units, units}
+use Rattle.whole_paths.specs.UnitRounds.{AUnitIsMade, IsAllWell, ShortWaitsGoOn, WaitsGoOn, WellRounds, WhatIsToldIsHeard}
+use Rattle.whole_paths.proofs.Delivery.{bounds_at}
+use Rattle.whole_paths.proofs.EndRounds.{an_end_is_told}
+use Rattle.whole_paths.proofs.News.{known_up, one_up}
+use Rattle.whole_paths.proofs.ReadSegments.{a_segment_is_read}
+use Rattle.whole_paths.proofs.RoundSteps.{Between, between, far, rounds_later, steps_later}
+use Rattle.whole_paths.proofs.SegmentsRead.{segments_up}
+use Rattle.whole_paths.proofs.Courses.{round_next}
+
+-- ---- waits
+
+module _ (start : Start) (Well : List Turn → Type 0) where
+  pub rounds_of : (n : ℕ) (v u : List Turn) → WellRounds start Well n v u → Rounds start n v u
+  rounds_of zero v u r = r.0
+  rounds_of (suc n) v u r = (r.0, (rounds_of n v r.0 r.1.0, r.1.1.0))
+
+  pub well_before : (n : ℕ) (v u : List Turn) → WellRounds start Well n v u → Well v
+  well_before zero v u r = r.1
+  well_before (suc n) v u r = well_before n v r.0 r.1.0
+
+  pub well_after : (n : ℕ) (v u : List Turn) → WellRounds start Well n v u → Well u
+  well_after zero v u r = subst Well r.0 r.1
+  well_after (suc n) v u r = r.1.1.1
+
+  -- the first ones and the others
+  pub record Parted (n m : ℕ) (v u : List Turn) : Type 0 where
+    pub between_them : List Turn
+    pub first : WellRounds start Well n v between_them
+    pub rest : WellRounds start Well m between_them u
+
+  pub parted : (n m k : ℕ) (v u : List Turn) → k ≡ m + n → WellRounds start Well k v u → Parted n m v u
+  parted n zero k v u is r =
+      let some : WellRounds start Well n v u = subst (λ j. WellRounds start Well j v u) (same_as is) r in record { between_them = u; first = some; rest = (refl, well_after n v u some) }
+    where
+      same_as : k ≡ 0 + n → k ≡ n
+      same_as is = omega (arith, is)
+  parted n (suc m) k v u is r =
+      let some : WellRounds start Well (suc (m + n)) v u = subst (λ j. WellRounds start Well j v u) (same_as is) r in
+      let p = parted n m (m + n) v some.0 refl some.1.0 in
+      record { between_them = p.between_them; first = p.first; rest = (some.0, (p.rest, some.1.1)) }
+    where
+      same_as : k ≡ suc m + n → k ≡ suc (m + n)
+      same_as is = omega (arith, is)
+
+  open_more : (turns more : List Turn) (turn : Turn) → StaysOpen start turns more → IsOpenAfter start ((turns ++ more) ++ turn ∷ []) → StaysOpen start turns (more ++ turn ∷ [])
+  open_more turns [] turn h after = (h, subst (λ t. IsOpenAfter start (t ++ turn ∷ [])) (append-nil turns) after)
+  open_more turns (first ∷ more) turn h after =
+      (h.0, open_more (turns ++ first ∷ []) more turn h.1 (subst (λ t. IsOpenAfter start (t ++ turn ∷ [])) (sym (append_assoc turns (first ∷ []) more)) after))
+
+  step_on : (order : List ℕ) (actor : ℕ) → steps_of (order ++ actor ∷ []) ≡ steps_of order ++ Turn.Step actor ∷ []
+  step_on [] actor = refl
+  step_on (other ∷ order) actor = ap (λ t. Turn.Step other ∷ t) (step_on order actor)
+
+  pub goes_on : WaitsGoOn start Well
+  goes_on = record {
+    begins = λ v over well before after. record { last = v; rounds = (refl, well); order = []; is = refl; over = over; stays_open = (before, after) };
+    on = λ count v u actor h after. record {
+      last = h.last;
+      rounds = h.rounds;
+      order = h.order ++ actor ∷ [];
+      is = ap (λ t. t ++ Turn.Step actor ∷ []) h.is ∙ append_assoc h.last (Turn.Round ∷ steps_of h.order) (Turn.Step actor ∷ []) ∙ ap (λ t. h.last ++ Turn.Round ∷ t) (sym (step_on h.order actor));
+      over = h.over;
+      stays_open = subst (λ t. StaysOpen start h.last (Turn.Round ∷ t)) (sym (step_on h.order actor))
+          (open_more h.last (Turn.Round ∷ steps_of h.order) (Turn.Step actor) h.stays_open (subst (λ t. IsOpenAfter start (t ++ Turn.Step actor ∷ [])) h.is after));
+    };
+    next = λ count v u h over well after. record {
+      last = u;
+      rounds = (h.last, (h.rounds, (record { order = h.order; is = h.is; before = h.over; over = over; stays_open = h.stays_open }, well)));
+      order = [];
+      is = refl;
+      over = over;
+      stays_open = (open_here h.last (Turn.Round ∷ steps_of h.order) u h.is h.stays_open, after);
+    };
+    ends = λ count v u h. (
+        let all = rounds_later start count v h.last (rounds_of count v h.last h.rounds) in
+        let next = round_next values start h.last h.over in
+        let steps = steps_later start (h.last ++ Turn.Round ∷ []) h.order in
+        let split = ap (round_end values start) (h.is ∙ sym (append_assoc h.last (Turn.Round ∷ []) (steps_of h.order))) in omega (arith, all, next, steps, split));
+  }
+    where
+      open_at : (turns more : List Turn) → StaysOpen start turns more → IsOpenAfter start (turns ++ more)
+      open_at turns [] h = subst (IsOpenAfter start) (sym (append-nil turns)) h
+      open_at turns (turn ∷ more) h = subst (IsOpenAfter start) (append_assoc turns (turn ∷ []) more) (open_at (turns ++ turn ∷ []) more h.1)
+
+      open_here : (turns more u : List Turn) → u ≡ turns ++ more → StaysOpen start turns more → IsOpenAfter start u
+      open_here turns more u is h = subst (IsOpenAfter start) (sym is) (open_at turns more h)
+
+pub short_waits_go_on : ShortWaitsGoOn
+short_waits_go_on start = goes_on start (IsAllWell start)
+
+-- ---- a unit more
+
+-- a segment's payload more is one segment more
+segment_rises : (mss total read later : ℕ) → read < total → min total (read + payload_of mss) ≤ later → segments_read mss total read < segments_read mss total later
+segment_rises mss total read later low more = by (nat_le total read) refl (nat_le total later) refl
+  where
+    count : Bool → ℕ → ℕ
+    count b n = if b then segments mss total else n / payload_of mss
+
+    some : 0 < payload_of mss
+    some = omega arith
+
+    one_more : read / payload_of mss + 1 ≤ (read + payload_of mss) / payload_of mss
+    one_more = le-div (read / payload_of mss + 1) (read + payload_of mss) (payload_of mss) some (let low = div-mul-le_self read (payload_of mss) in omega (arith, low))
+
+    by : (c : Bool) → nat_le total read ≡ c → (d : Bool) → nat_le total later ≡ d → (if c then segments mss total else read / payload_of mss) < (if d then segments mss total else later / payload_of mss)
+    by true is d same = absurd (let high = leb-true total read is in omega (arith, high, low))
+    by false is true all =
+        let whole = div_ceil_times total (payload_of mss) some in
+        let under = div-mul-le_self read (payload_of mss) in
+        ⊎_elim (λ less. less) (λ most. absurd (let product : segments mss total * payload_of mss ≤ read / payload_of mss * payload_of mss = mul-le-mul_right (payload_of mss) most in omega (arith, whole, under, product, low))) (cases_lt (read / payload_of mss) (segments mss total))
+    by false is false part =
+        let enough : read + payload_of mss ≤ later = ⊎_elim (λ less. absurd (true≢false (sym (le-leb total later (omega (arith, more, less))) ∙ part))) (λ most. omega (arith, most, more)) (cases_lt total (read + payload_of mss)) in
+        let up = le-div ((read + payload_of mss) / payload_of mss) later (payload_of mss) some (let below = div-mul-le_self (read + payload_of mss) (payload_of mss) in omega (arith, below, enough)) in omega (arith, one_more, up)
+
+module _ (start : Start) (plan : PathPlan) (x : BeginsWithOnePath start plan) where
+  abbrev at : List Turn → WorldState Carried
+  at turns = reached values start turns
+
+  -- of one side's stream
+  abbrev units_of : Side → List Turn → ℕ
+  units_of s turns = stream_units plan.mss (length (pick s start.file_a start.file_b)) (written_by s (at turns)) (arrived_at (peer s) (at turns))
+
+  units_up : (s : Side) (v u : List Turn) → Between start v u → units_of s v ≤ units_of s u
+  units_up s v u b =
+      let later = far start v u b in
+      let sent = (later.sides s).send in
+      let arrived = (later.sides (peer s)).arrival in
+      let read = segments_up plan.mss (length (pick s start.file_a start.file_b)) (arrived_at (peer s) (at v)).read (arrived_at (peer s) (at u)).read arrived.read in
+      let closed = one_up (written_by s (at v)).closed (written_by s (at u)).closed sent.closed in
+      let known = known_up (arrived_at (peer s) (at v)).known_end (arrived_at (peer s) (at u)).known_end arrived.end in omega (arith, read, closed, known)
+
+  one_rises : (b c : Bool) → b ≡ false → c ≡ true → one_if b < one_if c
+  one_rises b c was is = rw (was, is) (omega arith)
+
+  -- what was not so before, and is now
+  units_rise : (s : Side) (v u : List Turn) → Between start v u
+      → (segments_read plan.mss (length (pick s start.file_a start.file_b)) (read_after start s v) < segments_read plan.mss (length (pick s start.file_a start.file_b)) (read_after start s u))
+      ⊎ ((one_if (written_by s (at v)).closed < one_if (written_by s (at u)).closed) ⊎ (one_if (is_some (arrived_at (peer s) (at v)).known_end) < one_if (is_some (arrived_at (peer s) (at u)).known_end)))
+      → units_of s v < units_of s u
+  units_rise s v u b rises =
+      let later = far start v u b in
+      let sent = (later.sides s).send in
+      let arrived = (later.sides (peer s)).arrival in
+      let read = segments_up plan.mss (length (pick s start.file_a start.file_b)) (arrived_at (peer s) (at v)).read (arrived_at (peer s) (at u)).read arrived.read in
+      let closed = one_up (written_by s (at v)).closed (written_by s (at u)).closed sent.closed in
+      let known = known_up (arrived_at (peer s) (at v)).known_end (arrived_at (peer s) (at u)).known_end arrived.end in
+      ⊎_elim (λ more. omega (arith, more, closed, known)) (λ others. ⊎_elim (λ more. omega (arith, more, read, known)) (λ more. omega (arith, more, read, closed)) others) rises
+
+  -- a stream that is read, closed, and whose end is known, is there
+  there_so : (v : List Turn) (s : Side) → length (pick s start.file_a start.file_b) ≤ read_after start s v → IsClosed start s v → EndIsKnown start s v → IsAllThere s (at v)
+  there_so v s read closed known = by (arrived_at (peer s) (at v)).known_end refl known
+    where
+      whole : length (written_by s (at v)).written ≡ length (pick s start.file_a start.file_b)
+      whole = of s closed
+        where
+          of : (t : Side) → (written_by t (at v)).closed ≡ true → length (written_by t (at v)).written ≡ length (pick t start.file_a start.file_b)
+          of A is = ap (λ (xs : List ℕ). length xs) ((writes_the_files values start v).a.whole is)
+          of B is = ap (λ (xs : List ℕ). length xs) ((writes_the_files values start v).b.whole is)
+
+      most : received (arrived_at (peer s) (at v)) ≤ length (written_by s (at v)).written
+      most = (bounds_at start v x.mild s).most
+
+      by : (o : Option ℕ) → (arrived_at (peer s) (at v)).known_end ≡ o → is_some o ≡ true → IsAllThere s (at v)
+      by None is known = absurd (true≢false (sym known))
+      by (Some e) is known = record { closed = closed; received = omega (arith, most, whole, read); known = is ∙ ap (λ n. Some n) ((bounds_at start v x.mild s).end e is).1 }
+
+  module _ (well : EachRecordStaysWell) (told : EachIsToldSoon) (small : plan.mss ≤ 1460) (room : 29 ≤ plan.mss) (Well : List Turn → Type 0) (so : ((turns : List Turn) → Well turns → IsAllWell start turns)) (hears : WhatIsToldIsHeard start plan Well)
+      (v u : List Turn) (rounds : WellRounds start Well 13 v u) where
+    -- five rounds, two, five, and one
+    last_part : Parted start Well 12 1 v u
+    last_part = parted start Well 12 1 13 v u refl rounds
+
+    b_part : Parted start Well 7 5 v last_part.between_them
+    b_part = parted start Well 7 5 12 v last_part.between_them refl last_part.first
+
+    a_part : Parted start Well 5 2 v b_part.between_them
+    a_part = parted start Well 5 2 7 v b_part.between_them refl b_part.first
+
+    end_part : Parted start Well 4 1 b_part.between_them last_part.between_them
+    end_part = parted start Well 4 1 5 b_part.between_them last_part.between_them refl b_part.rest
+
+    all_between : Between start v u
+    all_between = between start 12 v u (rounds_of start Well 13 v u rounds)
+
+    well_v : (s : Side) → IsWellAfter start s v
+    well_v s = so v (well_before start Well 13 v u rounds) s
+
+    first_rounds : Rounds start 5 v a_part.between_them
+    first_rounds = rounds_of start Well 5 v a_part.between_them a_part.first
+
+    second_rounds : Rounds start 2 a_part.between_them b_part.between_them
+    second_rounds = rounds_of start Well 2 a_part.between_them b_part.between_them a_part.rest
+
+    third_rounds : Rounds start 5 b_part.between_them last_part.between_them
+    third_rounds = rounds_of start Well 5 b_part.between_them last_part.between_them b_part.rest
+
+    last_round : Between start last_part.between_them u
+    last_round = between start 0 last_part.between_them u (rounds_of start Well 1 last_part.between_them u last_part.rest)
+
+    -- a stream of which bytes are left
+    reads : (s : Side) → read_after start s v < length (pick s start.file_a start.file_b) → units_of s v < units_of s u
+    reads s left =
+        let more = a_segment_is_read well told start plan x small s v a_part.between_them b_part.between_them last_part.between_them first_rounds second_rounds third_rounds (well_v s)
+        (so b_part.between_them (well_after start Well 7 v b_part.between_them b_part.first) s) (hears.heard s v a_part.between_them a_part.first) in
+        let up = ((far start last_part.between_them u last_round).sides (peer s)).arrival.read in
+        units_rise s v u all_between (inl (segment_rises plan.mss (length (pick s start.file_a start.file_b)) (read_after start s v) (read_after start s u) left (omega (arith, more, up, room))))
+
+    -- one that is read
+    ends : (s : Side) → length (pick s start.file_a start.file_b) ≤ read_after start s v → IsAllThere s (at v) ⊎ (units_of s v < units_of s u)
+    ends s all = by_closed (written_by s (at v)).closed refl
+      where
+        acked : length (pick s start.file_a start.file_b) ≤ acked_len (written_by s (at a_part.between_them)).marks
+        acked = (let came = (hears.heard s v a_part.between_them a_part.first).acked in let low : read_after start s v ≤ received (arrived_at (peer s) (at v)) = omega arith in omega (arith, came, low, all))
+
+        comes : AnEndComes start s b_part.between_them end_part.between_them
+        comes = an_end_is_told told start plan x s v a_part.between_them b_part.between_them end_part.between_them first_rounds second_rounds
+            (rounds_of start Well 4 b_part.between_them end_part.between_them end_part.first) (well_v s).path (well_v s).here (well_v s).mended all acked (hears.fins s b_part.between_them end_part.between_them end_part.first)
+
+        to_end : Between start b_part.between_them u
+        to_end = between start 5 b_part.between_them u (rounds_of start Well 6 b_part.between_them u (joined_rounds b_part.rest last_part.rest))
+          where
+            joined_rounds : WellRounds start Well 5 b_part.between_them last_part.between_them → WellRounds start Well 1 last_part.between_them u → WellRounds start Well 6 b_part.between_them u
+            joined_rounds some one = (last_part.between_them, (some, (subst (λ t. IsRound start t u) (sym one.1.0.0) one.1.1.0, one.1.1.1)))
+
+        from_end : Between start end_part.between_them u
+        from_end = between start 1 end_part.between_them u (rounds_of start Well 2 end_part.between_them u (last_part.between_them, (end_part.rest, (subst (λ t. IsRound start t u) (sym last_part.rest.1.0.0) last_part.rest.1.1.0, last_part.rest.1.1.1))))
+
+        closed_last : (written_by s (at u)).closed ≡ true
+        closed_last = ((far start b_part.between_them u to_end).sides s).send.closed comes.closed
+
+        known_last : is_some (arrived_at (peer s) (at u)).known_end ≡ true
+        known_last = by (arrived_at (peer s) (at end_part.between_them)).known_end refl comes.known
+          where
+            by : (o : Option ℕ) → (arrived_at (peer s) (at end_part.between_them)).known_end ≡ o → is_some o ≡ true → is_some (arrived_at (peer s) (at u)).known_end ≡ true
+            by None is known = absurd (true≢false (sym known))
+            by (Some e) is known = ap (λ o. is_some o) (((far start end_part.between_them u from_end).sides (peer s)).arrival.end e is)
+
+        by_known : (written_by s (at v)).closed ≡ true → (c : Bool) → is_some (arrived_at (peer s) (at v)).known_end ≡ c → IsAllThere s (at v) ⊎ (units_of s v < units_of s u)
+        by_known closed true known = inl (there_so v s all closed known)
+        by_known closed false none = inr (units_rise s v u all_between (inr (inr (one_rises (is_some (arrived_at (peer s) (at v)).known_end) (is_some (arrived_at (peer s) (at u)).known_end) none known_last))))
+
+        by_closed : (c : Bool) → (written_by s (at v)).closed ≡ c → IsAllThere s (at v) ⊎ (units_of s v < units_of s u)
+        by_closed true closed = by_known closed (is_some (arrived_at (peer s) (at v)).known_end) refl
+        by_closed false still_open = inr (units_rise s v u all_between (inr (inl (one_rises (written_by s (at v)).closed (written_by s (at u)).closed still_open closed_last))))
+
+    of_side : (s : Side) → IsAllThere s (at v) ⊎ (units_of s v < units_of s u)
+    of_side s = ⊎_elim (λ left. inr (reads s left)) (ends s) (cases_lt (read_after start s v) (length (pick s start.file_a start.file_b)))
+
+    pub unit_more : AllIsThere (at v) ⊎ (units start plan (at v) < units start plan (at u))
+    unit_more =
+        let a_up = units_up A v u all_between in
+        let b_up = units_up B v u all_between in
+        ⊎_elim
+        (λ there_a. ⊎_elim (λ there_b. inl (record { of = elim [ A ↦ there_a | B ↦ there_b ] })) (λ more. inr (omega (arith, more, a_up))) (of_side B))
+        (λ more. inr (omega (arith, more, b_up)))
+        (of_side A)
+
+-- ... whatever says that all is well, so that more may be said of it than that
+pub unit_so : EachRecordStaysWell → EachIsToldSoon → (start : Start) (plan : PathPlan) → BeginsWithOnePath start plan → plan.mss ≤ 1460 → (Well : List Turn → Type 0)
+    → ((turns : List Turn) → Well turns → IsAllWell start turns) → WhatIsToldIsHeard start plan Well → (v u : List Turn) → WellRounds start Well 13 v u
+    → AllIsThere (reached values start v) ⊎ (units start plan (reached values start v) < units start plan (reached values start u))
+unit_so well told start plan x small Well so hears v u rounds =
+    unit_more start plan x well told small ((subst (Every (λ (y : PathPlan). 29 ≤ y.mss)) x.one x.mild.plain.size).each 0 plan refl) Well so hears v u rounds
+
+pub a_unit_is_made : AUnitIsMade
+a_unit_is_made well told start plan x small hears v u rounds = unit_so well told start plan x small (IsAllWell start) (λ turns is. is) hears v u rounds

@@ -1,0 +1,8 @@
+use Rattle.whole_paths.proofs.UnitRounds as units
+use Rattle.whole_paths.proofs.delivery_laws.a_unit_is_made.Goals as goal
+
+pub returns-clause-waits : goal.returns-clause-waits
+returns-clause-waits c = units.short_waits_go_on
+
+pub returns-clause-made : goal.returns-clause-made
+returns-clause-made c = units.a_unit_is_made

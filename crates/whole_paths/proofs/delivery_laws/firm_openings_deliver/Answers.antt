@@ -1,0 +1,8 @@
+use Rattle.whole_paths.proofs.OpeningEnds as ends
+use Rattle.whole_paths.proofs.delivery_laws.firm_openings_deliver.Goals as goal
+
+pub returns-clause-opens : goal.returns-clause-opens
+returns-clause-opens c = ends.opens_within
+
+pub returns-clause-delivers : goal.returns-clause-delivers
+returns-clause-delivers c = ends.delivers_within

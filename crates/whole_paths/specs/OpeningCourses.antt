@@ -1,0 +1,85 @@
+-- A connection over one path from its beginning on: after rounds enough the path is whole, or all of both streams is with the peers, or an end of it died.
+use Rattle.std.specs.Prelude.{ℕ, ◌+◌, ◌-◌, ◌*◌, ◌^◌, ◌≡◌, ◌<◌, ◌≤◌, ◌⊎◌, true, false, List, [], ◌∷◌, length}
+use Rattle.sides.specs.declared.side.Side.{Side}
+use Rattle.sides.specs.declared.side.Side.TheVariants.{B}
+use Rattle.subflow_send.specs.Records.{Record}
+use Rattle.subflow_send.specs.declared.record.RecordKind.TheVariants.{Data}
+use Rattle.path_core.specs.State.{PathState, end_at}
+use Rattle.path_core.specs.Values.{Carried, values}
+use Rattle.world_laws.specs.declared.outcome.Outcome.TheVariants.{Delivered}
+use Rattle.world_laws.specs.Openings.{PathPlan, Start, opened_world}
+use Rattle.world_laws.specs.Outcomes.{outcome_of}
+use Rattle.world_laws.specs.RoundDone.{reached}
+use Rattle.world_laws.specs.Worlds.{Turn, WorldState, AreLawful}
+use Rattle.whole_paths.specs.AsFar.{stage}
+use Rattle.whole_paths.specs.Courses.{round_end}
+use Rattle.whole_paths.specs.Delivery.{AllIsThere, HasFinished, IsAllThere}
+use Rattle.whole_paths.specs.Finish.{AnEndDied, IsPathAt, IsWhole, harmed, rounds_in}
+use Rattle.whole_paths.specs.GoingOn.{IsAboutToGoOn, going_side}
+use Rattle.whole_paths.specs.OnePathScripts.{Allowance, BeginsWithOnePath}
+use Rattle.whole_paths.specs.OpeningWaits.{AwaitsOpening, IsAlive}
+use Rattle.whole_paths.specs.SenderWaits.{AwaitsARecordOf}
+use Rattle.whole_paths.specs.SignWaits.{AwaitsFirstSign}
+use Rattle.whole_paths.specs.Straying.{IsOpenFrom}
+
+-- ---- how the ends stand to one another
+
+-- A's first piece isn't acknowledged, before which nothing came to B behind the SYN
+pub record HasFirstPiece (p : PathState Carried) : Type 0 where
+  pub first : Record
+  pub others : List Record
+  pub records : p.a.tcp.send.records ≡ first ∷ others
+  pub kind : first.kind ≡ Data
+  pub position : first.pos ≡ 1
+  pub edge : p.b.tcp.recv.edge ≡ 1
+
+-- What is so of path 0 while neither of its ends is dead: A may send a DSS only once B may, which is past the handshake then; and only then A's end has
+-- finished, or all of B's stream is with A. Where B may send none yet, though both are past the handshake, A's first piece waits. And where A may
+-- send none yet, an end of B's without a record was granted nothing, and knows of no window that is shut.
+pub record OpensFirmly (w : WorldState Carried) (p : PathState Carried) : Type 0 where
+  pub sure : p.a.modes.clear ≡ true → p.b.modes.clear ≡ true
+  pub past : p.b.modes.clear ≡ true → 3 ≤ stage p.b.tcp.state
+  pub finished : HasFinished p.a → p.a.modes.clear ≡ true
+  pub there : IsAllThere B w → p.a.modes.clear ≡ true
+  pub piece : p.agenda ≡ [] → ((s : Side) → 3 ≤ stage (end_at s p).tcp.state) → p.b.modes.clear ≡ false → HasFirstPiece p
+  pub idle : p.agenda ≡ [] → p.a.modes.clear ≡ false → p.b.modes.clear ≡ true → p.b.tcp.send.records ≡ [] → (p.b.sending.granted ≡ []) × (p.b.sending.shut ≡ false)
+
+-- at every moment
+abbrev pub AlwaysOpensFirmly : Start → Type 0
+AlwaysOpensFirmly start = (turns : List Turn) (p : PathState Carried) → IsPathAt 0 (reached values start turns) p → IsAlive p → OpensFirmly (reached values start turns) p
+
+-- ---- waits
+
+-- on path 0 B's end is open, and A's may send no DSS yet
+pub record IsFromB (start : Start) (turns : List Turn) : Type 0 where
+  pub path : PathState Carried
+  pub here : IsPathAt 0 (reached values start turns) path
+  pub from : IsOpenFrom B path
+  pub unclear : path.a.modes.clear ≡ false
+
+-- What is waited for by this tick, since so much was counted: that an end goes further in the handshake, a first sign of Multipath TCP, or a record of
+-- B's; or that B's side goes on in one of the next rounds, and then a wait of so long.
+pub data IsOpeningStill (start : Start) (within : ℕ) (n x : ℕ) (turns : List Turn) : Type 0 where
+  opening : (by : ℕ) → by ≤ x → AwaitsOpening start by turns → IsOpeningStill start within n x turns
+  sign : (by : ℕ) → by ≤ x → AwaitsFirstSign start by turns → IsOpeningStill start within n x turns
+  piece : (by : ℕ) → by ≤ x → IsFromB start turns → AwaitsARecordOf B start by turns → IsOpeningStill start within n x turns
+  turn : (rounds : ℕ) → IsFromB start turns → (h : IsAboutToGoOn start n rounds turns) → going_side h ≡ B → round_end values start turns + 100 * rounds + within ≤ x
+      → IsOpeningStill start within n x turns
+
+-- ---- what it comes to
+
+-- the path is whole, or all of both streams is with the peers
+abbrev pub IsOpenOrDone : WorldState Carried → Type 0
+IsOpenOrDone w = IsWhole 0 w ⊎ AllIsThere w
+
+-- in fewer than 2^64 - 1 turns
+abbrev pub OpensWithin : Allowance → Type 0
+OpensWithin enough = (start : Start) (plan : PathPlan) (turns : List Turn) (most : ℕ) → BeginsWithOnePath start plan → AlwaysOpensFirmly start
+    → AreLawful values turns (opened_world start) → length turns < 2 ^ 64 - 1 → harmed values 0 turns (opened_world start) ≤ most
+    → enough start most < 100 * rounds_in turns → IsOpenOrDone (reached values start turns) ⊎ AnEndDied 0 (reached values start turns)
+
+-- Both files are delivered, or an end died, after rounds enough for both: until the path is whole, and from then on.
+abbrev pub DeliversWithin : Allowance → Type 0
+DeliversWithin enough = (start : Start) (plan : PathPlan) (turns : List Turn) (most : ℕ) → BeginsWithOnePath start plan → AlwaysOpensFirmly start
+    → AreLawful values turns (opened_world start) → length turns < 2 ^ 64 - 1 → harmed values 0 turns (opened_world start) ≤ most
+    → 2 * enough start most + 500 < 100 * rounds_in turns → (outcome_of (reached values start turns).crew ≡ Delivered) ⊎ AnEndDied 0 (reached values start turns)

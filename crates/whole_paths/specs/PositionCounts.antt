@@ -1,0 +1,26 @@
+-- On the only path of a connection positions count the bytes of the streams (RFC 8684, section 3.3.1): SND.NXT those that the path took, and
+-- RCV.NXT those that the peer's side received.
+use Rattle.std.specs.Prelude.{ℕ, suc, ◌≡◌, ◌<◌, ◌≤◌, false, Some, length, slice_get}
+use Rattle.sides.specs.declared.side.Side.{Side}
+use Rattle.sides.specs.Side.{peer}
+use Rattle.reassembly_book.specs.State.{received}
+use Rattle.path_core.specs.State.{PathState, end_at}
+use Rattle.world_laws.specs.Actors.{ActorCrew}
+use Rattle.world_laws.specs.Members.{HoldsOfKind}
+use Rattle.world_laws.specs.Promises.{arrived_at, written_by}
+use Rattle.world_laws.specs.RoundNumbers.{taken_len}
+use Rattle.world_laws.specs.Worlds.{WorldState}
+
+module _ {C : Type 0} where
+  -- Of this side's stream: SND.NXT lies behind all bytes that the path took, and as long as no FIN was sent no further than behind all that were
+  -- written. RCV.NXT of the peer's end lies behind all that the peer's side received, and then just behind them; position 0 is that of the SYN.
+  pub record CountsBytes (w : WorldState C) (p : PathState C) (s : Side) : Type 0 where
+    pub taken : taken_len 0 (written_by s w).marks < (end_at s p).tcp.send.nxt
+    pub within : (end_at s p).tcp.send.finished ≡ false → (end_at s p).tcp.send.nxt ≤ suc (length (written_by s w).written)
+    pub came : received (arrived_at (peer s) w) < (end_at (peer s) p).tcp.recv.edge
+    pub exact : (end_at s p).tcp.send.finished ≡ false → (end_at (peer s) p).tcp.recv.edge ≡ suc (received (arrived_at (peer s) w))
+
+  -- of both streams, on each path
+  pub record PositionsCountBytes (w : WorldState C) : Type 0 where
+    pub each : (actor : ℕ) (c : ActorCrew C) → slice_get w.crew actor ≡ Some c
+        → HoldsOfKind (λ app. Unit {0}) (λ (p : PathState C). (s : Side) → CountsBytes w p s) c.member

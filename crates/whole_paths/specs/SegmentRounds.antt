@@ -1,0 +1,96 @@
+-- Rounds of a mild connection over one path between open ends, in which nothing is to be mended: in twelve of them the peer's reader reads a full
+-- segment more. What was told is heard, bytes are written, sent, come, are passed, and read.
+use Rattle.std.specs.Prelude.{ℕ, suc, zero, ◌+◌, ◌-◌, ◌*◌, ◌≡◌, ◌≤◌, ◌⊎◌, min, true, List, [], ◌∷◌, ◌++◌, length}
+use Rattle.sides.specs.declared.side.Side.{Side}
+use Rattle.sides.specs.Side.{peer}
+use Rattle.send_book.specs.State.{acked_len}
+use Rattle.reassembly_book.specs.State.{received}
+use Rattle.actor_desk.specs.Words.{pick}
+use Rattle.path_core.specs.State.{PathState, end_at}
+use Rattle.path_core.specs.Values.{Carried, values}
+use Rattle.world_laws.specs.Openings.{PathPlan, Start}
+use Rattle.world_laws.specs.Promises.{arrived_at, written_by}
+use Rattle.world_laws.specs.RoundDone.{reached}
+use Rattle.world_laws.specs.Worlds.{Turn, all_over}
+use Rattle.whole_paths.specs.Delivery.{IsAllThere}
+use Rattle.whole_paths.specs.Finish.{IsPathAt}
+use Rattle.whole_paths.specs.GoingOn.{steps_of}
+use Rattle.whole_paths.specs.Mending.{EachIsToldSoon, EachRecordStaysWell, IsMended}
+use Rattle.whole_paths.specs.OnePathScripts.{BeginsWithOnePath}
+use Rattle.whole_paths.specs.OpenCourses.{IsOpenAfter}
+use Rattle.whole_paths.specs.SentInOrder.{sent_up_to}
+
+module _ (start : Start) where
+  -- path 0 is open after these turns, and after each of the others
+  abbrev pub StaysOpen : List Turn → List Turn → Type 0
+  StaysOpen turns [] = IsOpenAfter start turns
+  StaysOpen turns (turn ∷ more) = IsOpenAfter start turns × StaysOpen (turns ++ turn ∷ []) more
+
+  -- one round: each turn is over before it and after it, and path 0 is open at each moment
+  pub record IsRound (v u : List Turn) : Type 0 where
+    pub order : List ℕ
+    pub is : u ≡ v ++ Turn.Round ∷ steps_of order
+    pub before : all_over (reached values start v).crew ≡ true
+    pub over : all_over (reached values start u).crew ≡ true
+    pub stays_open : StaysOpen v (Turn.Round ∷ steps_of order)
+
+  -- so many rounds, one after the other
+  abbrev pub Rounds : ℕ → List Turn → List Turn → Type 0
+  Rounds zero v u = v ≡ u
+  Rounds (suc n) v u = (w : List Turn) × (Rounds n v w × IsRound w u)
+
+  -- ---- of a side's stream
+
+  -- how much the peer's reader has read, and how much is written and acknowledged
+  abbrev pub read_after : Side → List Turn → ℕ
+  read_after s turns = (arrived_at (peer s) (reached values start turns)).read
+
+  abbrev pub written_after : Side → List Turn → ℕ
+  written_after s turns = length (written_by s (reached values start turns)).written
+
+  -- as a round is over nothing of path 0 is to be mended, and the side's congestion window holds two full segments
+  pub record IsWellAfter (s : Side) (turns : List Turn) : Type 0 where
+    pub path : PathState Carried
+    pub here : IsPathAt 0 (reached values start turns) path
+    pub mended : IsMended path
+    pub wide : 2 * path.profile.mss ≤ (end_at s path).tcp.congestion.reno.window
+
+  -- What the peer could tell of the stream after the first turns is heard after the others: all that its side had received is acknowledged, and
+  -- its window takes a full segment's payload past what its reader had read.
+  pub record IsHeard (plan : PathPlan) (s : Side) (v u : List Turn) : Type 0 where
+    pub acked : received (arrived_at (peer s) (reached values start v)) ≤ acked_len (written_by s (reached values start u)).marks
+    pub window : read_after s v + (plan.mss - 28) ≤ (written_by s (reached values start u)).edge
+
+-- ---- what each round brings, and each four
+
+-- In a round the application writes its file, or as much as a side buffers past what was acknowledged as it began.
+abbrev pub EachRoundWrites : Type 0
+EachRoundWrites = (start : Start) (plan : PathPlan) (v u : List Turn) → BeginsWithOnePath start plan → IsRound start v u → (s : Side)
+    → min (length (pick s start.file_a start.file_b)) (acked_len (written_by s (reached values start v)).marks + start.buffer) ≤ written_after start s u
+
+-- And the peer's reader reads all that had come in order as it began.
+abbrev pub EachRoundReads : Type 0
+EachRoundReads = (start : Start) (plan : PathPlan) (v u : List Turn) → BeginsWithOnePath start plan → IsRound start v u → (s : Side)
+    → received (arrived_at (peer s) (reached values start v)) ≤ read_after start s u
+
+-- In four rounds all comes that is sent, where nothing is to be mended; or all of the stream is there.
+abbrev pub FourRoundsBring : Type 0
+FourRoundsBring = EachRecordStaysWell → (start : Start) (plan : PathPlan) (v u : List Turn) → BeginsWithOnePath start plan → Rounds start 4 v u → (s : Side)
+    → (p q : PathState Carried) → IsPathAt 0 (reached values start v) p → IsPathAt 0 (reached values start u) q → IsMended p
+    → IsAllThere s (reached values start u) ⊎ (sent_up_to (end_at s p).tcp.send ≤ (end_at (peer s) q).tcp.recv.edge)
+
+-- And the end hears how far the peer was.
+abbrev pub FourRoundsTell : Type 0
+FourRoundsTell = EachIsToldSoon → (start : Start) (plan : PathPlan) (v u : List Turn) → BeginsWithOnePath start plan → Rounds start 4 v u → (s : Side)
+    → (p q : PathState Carried) → IsPathAt 0 (reached values start v) p → IsPathAt 0 (reached values start u) q → IsMended p
+    → IsAllThere s (reached values start u) ⊎ ((end_at (peer s) p).tcp.recv.edge ≤ (end_at s q).tcp.send.una)
+
+-- ---- a segment
+
+-- Of a stream the peer's reader reads a full segment's payload more within twelve rounds, or all of it, where nothing is to be mended as the first
+-- one begins and once seven are over, and what was told is heard in the first five.
+abbrev pub ASegmentIsRead : Type 0
+ASegmentIsRead = EachRecordStaysWell → EachIsToldSoon → (start : Start) (plan : PathPlan) → BeginsWithOnePath start plan → plan.mss ≤ 1460
+    → (s : Side) (v a b u : List Turn)
+    → Rounds start 5 v a → Rounds start 2 a b → Rounds start 5 b u → IsWellAfter start s v → IsWellAfter start s b → IsHeard start plan s v a
+    → min (length (pick s start.file_a start.file_b)) (read_after start s v + (plan.mss - 28)) ≤ read_after start s u
