@@ -137,6 +137,7 @@ pub mod Unbroken
 pub mod Unended
 pub mod Unstopped
 pub mod Waiting
+pub mod WindowRoom
 pub mod WindowWaits
 pub mod WindowsHeard
 pub mod Writers
