@@ -180,7 +180,7 @@ before_silent (duties.Send d) before = absurd (true≢false (sym before))
 before_silent duties.End before = absurd (true≢false (sym before))
 
 -- what occupies a position is owed an acknowledgement
-owing_due : (owes : Bool) (x : EndState) (c : Copy) → 0 < occupied c → (owing_if owes (after_occupying c x)).due.ack ≡ true
+pub owing_due : (owes : Bool) (x : EndState) (c : Copy) → 0 < occupied c → (owing_if owes (after_occupying c x)).due.ack ≡ true
 owing_due true x c more = refl
 owing_due false x c more = ap (λ b. (if b then owing_ack x.due else x.due).ack) (lt-ltb 0 (occupied c) more)
 

@@ -135,6 +135,11 @@ pub mod Unmapped
 pub mod Turns
 pub mod Unbroken
 pub mod Unended
+pub mod BareCopies
+pub mod ToldStays
+pub mod MoreOwed
+pub mod RisesOwed
+pub mod Unpassed
 pub mod Unstopped
 pub mod Waiting
 pub mod WindowRoom

@@ -1,6 +1,6 @@
 -- Where each end goes by mappings and no link changes a segment, each copy under way maps all bytes that it carries (RFC 8684, section 3.3.1).
 use Rattle.std.proofs.Common.{◌≡◌, refl, sym, subst, ap, ◌∙◌, ℕ, ◌+◌, ◌-◌, ◌<◌, ◌≤◌, arith, ◌==◌, Bool, true, false, true≢false, not, ◌&&◌, if◌then◌else◌, Option, Some, None, IfSome, List, [], ◌∷◌, length, ⊎_elim}
-use Rattle.std.specs.List.{position, slice_get}
+use Rattle.std.specs.List.{list_any, position, slice_get}
 use Rattle.std.proofs.lemmas.Bool.{and_parts, eqb-true}
 use Rattle.mptcp_options.specs.declared.capable.CapableKeys.TheVariants.{WithData}
 use Rattle.path_segments.specs.Heard.{HeardSegment}
@@ -9,6 +9,8 @@ use Rattle.path_segments.specs.Spelled.{PlainSegment}
 use Rattle.path_segments.specs.declared.segment.PathOption.TheVariants.{Capable, Dss}
 use Rattle.sides.specs.declared.side.Side.{Side}
 use Rattle.sides.specs.declared.side.Side.TheVariants.{A, B}
+use Rattle.path_segments.specs.declared.segment.PathMapping.TheVariants.{Bytes, Infinite}
+use Rattle.subflow_tcp.specs.Emitting.{fin_position}
 use Rattle.sides.specs.Side.{peer}
 use Rattle.link_script.specs.declared.script.ScriptLine.{ScriptLine}
 use Rattle.link_model.specs.Fate.{is_stripped, is_altered}
@@ -34,13 +36,15 @@ use Rattle.path_agenda.specs.declared.duty.StepDuty.TheVariants as step_duties
 use Rattle.path_agenda.specs.declared.heard.Heard.{Heard}
 use Rattle.path_agenda.specs.declared.heard.Heard.TheVariants as says
 use Rattle.path_agenda.specs.declared.notice.OwnNotice.{OwnNotice}
+use Rattle.path_agenda.specs.declared.notice.OwnNotice.TheVariants as notes
+use Rattle.path_store.specs.declared.infinite_mapping.InfiniteMapping.{InfiniteMapping}
 use Rattle.path_store.specs.declared.lines.LineAction.{LineAction}
 use Rattle.path_store.specs.declared.lines.LineAction.TheVariants as actions
 use Rattle.path_core.specs.Arrival.{copy_heard, heard_in}
 use Rattle.path_core.specs.Choices.{is_side_a}
 use Rattle.path_core.specs.DataFin.{is_data_fin_owed}
 use Rattle.path_core.specs.DssIn.{is_clash}
-use Rattle.path_core.specs.DssOut.{checksum_told, first_piece_options, infinite_or, is_first_piece, mapped_options, piece_mapping, plain_options}
+use Rattle.path_core.specs.DssOut.{checksum_told, data_fin_mapping, fail_beside, fail_options, fin_options, first_piece_options, infinite_or, is_first_piece, mapped_options, owes_mapping, piece_mapping, plain_options}
 use Rattle.path_core.specs.Duties.{answered}
 use Rattle.path_core.specs.Emission.{first_record, first_unsent}
 use Rattle.path_core.specs.End.{PathEnd}
@@ -48,8 +52,9 @@ use Rattle.path_core.specs.Events.{after_line, happens_if, next_event}
 use Rattle.path_core.specs.Fallback.{breaks_by_ack}
 use Rattle.path_core.specs.Handover.{handed}
 use Rattle.path_core.specs.Looking.{broken_by, duty_sends, heard_sends, segment_sent, send_of, unsent_sends, Hands, HandsOrTellsNone}
-use Rattle.path_core.specs.MpJoin.{is_never, keys_begun, never_joined, opened_by}
-use Rattle.path_core.specs.OptionsOut.{ack_said, carried_said, noted_said, record_options, record_or_ack, record_said, syn_ack_said}
+use Rattle.path_core.specs.MpJoin.{is_joined, is_never, join_options, keys_begun, never_joined, opened_by, third_options}
+use Rattle.path_core.specs.Modes.{receives_infinite}
+use Rattle.path_core.specs.OptionsOut.{ack_options, ack_said, broken_options, capable_options, carried_said, key_options, noted_said, record_options, record_or_ack, record_said, syn_ack_said, syn_options}
 use Rattle.path_core.specs.Profile.{Profile}
 use Rattle.path_core.specs.Shown.{AltersNothing}
 use Rattle.path_core.specs.Start.{waiting_path}
@@ -102,9 +107,18 @@ pub record IsFirstPiece (x : PlainSegment) : Type 0 where
   pub checksum : Option ℕ
   pub options : x.options ≡ Capable sums false (WithData own other (length x.payload) checksum) ∷ []
 
--- a segment of a side has no bytes, maps all of them, or has no option
+-- the option maps bytes
+abbrev pub maps_bytes : PlainOption → Bool
+maps_bytes (Dss next (Some (Bytes place position len fin checksum))) = true
+maps_bytes (Capable flag_a flag_c (WithData own other len checksum)) = true
+maps_bytes _ = false
+
+abbrev pub MapsNone : List PlainOption → Type 0
+MapsNone options = list_any maps_bytes options ≡ false
+
+-- a segment of a side has no bytes and maps none, maps all of them, or has no option
 pub data MapsAll (s : Side) (x : PlainSegment) : Type 0 where
-  none : x.payload ≡ [] → MapsAll s x
+  none : x.payload ≡ [] → MapsNone x.options → MapsAll s x
   piece : IsPiece x → MapsAll s x
   first : s ≡ A → IsFirstPiece x → MapsAll s x
   bare : x.options ≡ [] → MapsAll s x
@@ -118,6 +132,77 @@ KindBehind Fin r = r.piece ≡ []
 is_a : (s : Side) → is_side_a s ≡ true → s ≡ A
 is_a A is = refl
 is_a B is = absurd (true≢false (sym is))
+
+-- ---- options that map nothing
+
+either : (xs ys : List PlainOption) (b : Bool) → MapsNone xs → MapsNone ys → MapsNone (if b then xs else ys)
+either xs ys true x y = x
+either xs ys false x y = y
+
+module _ (c : Profile) (s : Side) (e : PathEnd) where
+  joins_none : (s : Side) → MapsNone (join_options c s e.modes)
+  joins_none A = refl
+  joins_none B = refl
+
+  capable_none : (s : Side) → MapsNone (capable_options c s e)
+  capable_none A = refl
+  capable_none B = either _ _ (e.modes.capable_asked && not e.modes.identity) refl refl
+
+  syn_none : MapsNone (syn_options c s e)
+  syn_none = elim (is_joined c) as (λ b. MapsNone (if b then join_options c s e.modes else capable_options c s e)) [ true ↦ joins_none s | false ↦ capable_none s ]
+
+  keys_none : (s : Side) (peer : Option ℕ) → MapsNone (key_options c s peer e)
+  keys_none A (Some peer) = refl
+  keys_none A None = refl
+  keys_none B peer = refl
+
+  beside_none : (fin : Option ℕ) → MapsNone (Dss (Some e.receiving.next) (data_fin_mapping c s fin) ∷ fail_beside fin e.modes)
+  beside_none (Some place) = refl
+  beside_none None = by (if receives_infinite e.modes.mode then None else e.modes.failed_mapping)
+    where
+      by : (o : Option ℕ) → MapsNone (Dss (Some e.receiving.next) None ∷ fail_options o)
+      by None = refl
+      by (Some place) = refl
+
+  ack_none : (fin : Option ℕ) → MapsNone (ack_options c s fin e)
+  ack_none fin = by e.modes.identity e.modes.clear e.modes.owes_third
+    where
+      by : (plain clear third : Bool) → MapsNone (if plain then []
+          else (if clear then Dss (Some e.receiving.next) (data_fin_mapping c s fin) ∷ fail_beside fin e.modes else (if third then third_options e.modes else key_options c s e.modes.peer_key e)))
+      by true clear third = refl
+      by false true third = beside_none fin
+      by false false true = refl
+      by false false false = keys_none s e.modes.peer_key
+
+  abbrev own_or : Option InfiniteMapping → Bool → List PlainOption
+  own_or None owes = Dss (Some e.receiving.next) None ∷ []
+  own_or (Some mapping) owes = Dss (Some e.receiving.next) (if owes then Some (Infinite mapping.place mapping.position) else None) ∷ []
+
+  same_own : (own : Option InfiniteMapping) → infinite_or own (Dss (Some e.receiving.next) None ∷ []) e ≡ own_or own (owes_mapping e)
+  same_own None = refl
+  same_own (Some mapping) = refl
+
+  fin_none : (at_position : ℕ) → MapsNone (fin_options at_position e)
+  fin_none at_position = subst (λ (options : List PlainOption). MapsNone (if e.modes.identity then plain_options at_position e else options)) (sym (same_own e.modes.own_infinite))
+      (by e.modes.identity e.modes.own_infinite (owes_mapping e))
+    where
+      by : (plain : Bool) (own : Option InfiniteMapping) (owes : Bool) → MapsNone (if plain then (if owes then Dss None (Some (Infinite (at_position - 1) at_position)) ∷ [] else [])
+          else (own_or own owes))
+      by true own true = refl
+      by true own false = refl
+      by false None owes = refl
+      by false (Some mapping) true = refl
+      by false (Some mapping) false = refl
+
+  broken_maps_none : (reason : Option ℕ) → MapsNone (if e.modes.identity then [] else broken_options e.treated.failed_mapping reason)
+  broken_maps_none reason = by e.modes.identity e.treated.failed_mapping reason
+    where
+      by : (plain : Bool) (failed reason : Option ℕ) → MapsNone (if plain then [] else broken_options failed reason)
+      by true failed reason = refl
+      by false None None = refl
+      by false (Some place) None = refl
+      by false None (Some reason) = refl
+      by false (Some place) (Some reason) = refl
 
 -- ---- what an end says that goes by mappings
 
@@ -174,29 +259,32 @@ module _ (c : Profile) (s : Side) (e : PathEnd) (mapped : e.modes.identity ≡ f
   record_maps r told behind = by r.kind refl told.mapped behind
     where
       by : (kind : RecordKind) → r.kind ≡ kind → RecordKindTells c s kind r → KindBehind kind r → MapsAll s (said r)
-      by Syn kind kinds behind = none behind
+      by Syn kind kinds behind = none behind (ap (λ k. list_any maps_bytes (record_options k c s r e)) kind ∙ syn_none c s e)
       by Data kind kinds behind = (elim (is_first_piece s r e) as (λ b. is_first_piece s r e ≡ b → MapsAll s (said r))
           [ true ↦ λ is. first_said r kind told kinds is | false ↦ λ is. piece_said r kind told kinds behind is ]) refl
-      by Fin kind kinds behind = none behind
+      by Fin kind kinds behind = none behind (ap (λ k. list_any maps_bytes (record_options k c s r e)) kind ∙ fin_none c s e r.pos)
 
 -- ---- what a duty sends
 
 module _ (c : Profile) (s : Side) (e : PathEnd) where
   or_ack : (o : Option Record) → IfSome o (λ r. MapsAll s (record_said c s r e)) → MapsAll s (record_or_ack c s o e)
-  or_ack None maps = none refl
+  or_ack None maps = none refl (ack_none c s e None)
   or_ack (Some r) maps = maps
 
   carried_none : (o : Option ℕ) → MapsAll s (carried_said c s o e)
-  carried_none None = none refl
-  carried_none (Some key) = none refl
+  carried_none None = none refl (ack_none c s e None)
+  carried_none (Some key) = none refl refl
 
   noted_none : (o : Option OwnNotice) → MapsAll s (noted_said c s o e)
-  noted_none None = none refl
-  noted_none (Some notice) = none refl
+  noted_none None = none refl (ack_none c s e None)
+  noted_none (Some (notes.AddAddr id)) = none refl refl
+  noted_none (Some (notes.AddEcho id address port)) = none refl refl
+  noted_none (Some (notes.Removes id)) = none refl refl
+  noted_none (Some (notes.Prio backup)) = none refl refl
 
   answer_none : (b : Bool) → MapsAll s (if b then syn_ack_said c s e else ack_said c s e.tcp.send.nxt None e)
-  answer_none true = none refl
-  answer_none false = none refl
+  answer_none true = none refl (syn_none c s e)
+  answer_none false = none refl (ack_none c s e None)
 
   resent_maps : IfSome (first_record e) (λ r. MapsAll s (record_said c s r e)) → (records third close fin : Bool)
       → MapsAll s (if records then record_or_ack c s (first_record e) e
@@ -205,10 +293,10 @@ module _ (c : Profile) (s : Side) (e : PathEnd) where
       else (if fin then ack_said c s e.tcp.send.nxt e.sending.known_end e
       else ack_said c s (e.tcp.send.una - 1) None e))))
   resent_maps maps true third close fin = or_ack (first_record e) maps
-  resent_maps maps false true close fin = none refl
+  resent_maps maps false true close fin = none refl (ack_none c s e None)
   resent_maps maps false false true fin = carried_none e.notices.carrier
-  resent_maps maps false false false true = none refl
-  resent_maps maps false false false false = none refl
+  resent_maps maps false false false true = none refl (ack_none c s e e.sending.known_end)
+  resent_maps maps false false false false = none refl (ack_none c s e None)
 
 abbrev AllMap : Option ToSend → PathState Carried → Type 0
 AllMap o p = IfSome o (λ (t : ToSend). MapsAll t.from (segment_sent p t))
@@ -218,7 +306,7 @@ abbrev RecordsMap : PathState Carried → Type 0
 RecordsMap p = (s : Side) → Every (λ r. MapsAll s (record_said p.profile s r (end_at s p))) (end_at s p).tcp.send.records
 
 broken_none : (s : Side) (reason : ℕ) (p : PathState Carried) → AllMap (broken_by s reason p) p
-broken_none s reason p = elim (end_at s p).treated.asked as (λ b. AllMap (if b then None else send_of (send_duties.BreakReset s reason)) p) [ true ↦ tt | false ↦ none refl ]
+broken_none s reason p = elim (end_at s p).treated.asked as (λ b. AllMap (if b then None else send_of (send_duties.BreakReset s reason)) p) [ true ↦ tt | false ↦ none refl (broken_maps_none p.profile s (end_at s p) (Some reason)) ]
 
 heard_none : (s : Side) (o : Option Heard) (p : PathState Carried) → AllMap (heard_sends s o p) p
 heard_none s (Some (says.Mapping fin)) p = elim (is_clash (end_at s p)) as (λ b. AllMap (if b then broken_by s 1 p else None) p) [ true ↦ broken_none s 1 p | false ↦ tt ]
@@ -244,16 +332,16 @@ module _ (p : PathState Carried) (maps : RecordsMap p) where
   duty_maps (duties.Send (send_duties.Answer s)) = answer_none p.profile s (end_at s p) (end_at s p).tcp.due.syn_ack
   duty_maps (duties.Send (send_duties.Resend s)) =
       let e : PathEnd = end_at s p in resent_maps p.profile s e (every_at 0 e.tcp.send.records (maps s)) (has_records e.tcp) e.modes.owes_third e.notices.fast_closed (is_data_fin_owed e)
-  duty_maps (duties.Send (send_duties.Update s)) = none refl
-  duty_maps (duties.Send (send_duties.Acknowledge s)) = none refl
-  duty_maps (duties.Send (send_duties.DataFin s)) = none refl
-  duty_maps (duties.Send (send_duties.Fin s)) = none refl
-  duty_maps (duties.Send (send_duties.SynAck s)) = none refl
-  duty_maps (duties.Send (send_duties.Refuse s)) = none refl
-  duty_maps (duties.Send (send_duties.ResetAnswer s)) = none refl
-  duty_maps (duties.Send (send_duties.BreakReset s reason)) = none refl
-  duty_maps (duties.Send (send_duties.Reset s)) = none refl
-  duty_maps (duties.Send (send_duties.ResetNoted s)) = none refl
+  duty_maps (duties.Send (send_duties.Update s)) = none refl (ack_none p.profile s (end_at s p) None)
+  duty_maps (duties.Send (send_duties.Acknowledge s)) = none refl (ack_none p.profile s (end_at s p) None)
+  duty_maps (duties.Send (send_duties.DataFin s)) = none refl (ack_none p.profile s (end_at s p) (end_at s p).sending.known_end)
+  duty_maps (duties.Send (send_duties.Fin s)) = none refl (fin_none p.profile s (end_at s p) (fin_position (end_at s p).tcp.send))
+  duty_maps (duties.Send (send_duties.SynAck s)) = none refl (syn_none p.profile s (end_at s p))
+  duty_maps (duties.Send (send_duties.Refuse s)) = none refl refl
+  duty_maps (duties.Send (send_duties.ResetAnswer s)) = none refl refl
+  duty_maps (duties.Send (send_duties.BreakReset s reason)) = none refl (broken_maps_none p.profile s (end_at s p) (Some reason))
+  duty_maps (duties.Send (send_duties.Reset s)) = none refl (broken_maps_none p.profile s (end_at s p) None)
+  duty_maps (duties.Send (send_duties.ResetNoted s)) = none refl (broken_maps_none p.profile s (end_at s p) None)
   duty_maps _ = tt
 
 -- ---- a link

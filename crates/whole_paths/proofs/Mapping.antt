@@ -204,7 +204,7 @@ opened_maps : (keys : Option KeyPair) (e : PathEnd) → MapMoves e (opened_by ke
 opened_maps None e = same refl
 opened_maps (Some keys) e = same refl
 
-window_maps : (r : Reply) (v : Receiving) → (window_in r v).mappings ≡ v.mappings
+pub window_maps : (r : Reply) (v : Receiving) → (window_in r v).mappings ≡ v.mappings
 window_maps (replies.Reassembly (reassembly_replies.Ack next window)) v = refl
 window_maps _ v = refl
 

@@ -100,7 +100,7 @@ behind_next : (o : Option ℕ) (edge : ℕ) → is_at edge o ≡ true → is_beh
 behind_next None edge is = absurd (true≢false (sym is))
 behind_next (Some pos) edge is = (let equal = eqb-true pos edge is in lt-ltb pos (edge + 1) (omega (arith, equal)))
 
-fin_over : (t : EndState) → is_fin_next t ≡ true → is_fin_passed (after_passing_fin t) ≡ true
+pub fin_over : (t : EndState) → is_fin_next t ≡ true → is_fin_passed (after_passing_fin t) ≡ true
 fin_over t is = behind_next t.fin_at t.recv.edge (and_parts (is_at t.recv.edge t.fin_at) (nat_lt t.recv.edge (2 ^ 62)) is).0
 
 pass_fin_moves : (e : PathEnd) → Moves e (after_pass_fin e)

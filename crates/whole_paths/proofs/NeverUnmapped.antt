@@ -278,7 +278,7 @@ module _ (s : Side) (y : PlainSegment) (p : PathState Carried) (first : is_joine
   sender_a B is = refl
 
   maps_so : (pos at : ℕ) → y.position ≡ pos → y.rst ≡ false → y.syn ≡ false → pos ≤ at → at < pos + length y.payload → MapsAll (peer s) y → Maps p.profile s h pos
-  maps_so pos at is rst syn from below (maps.none empty) = absurd (let none = ap (λ (octets : List ℕ). length octets) empty in omega (arith, from, below, none))
+  maps_so pos at is rst syn from below (maps.none empty unmapped) = absurd (let none = ap (λ (octets : List ℕ). length octets) empty in omega (arith, from, below, none))
   maps_so pos at is rst syn from below (maps.piece x) = subst (Maps p.profile s h) is (piece_maps p.profile s h y refl options x)
   maps_so pos at is rst syn from below (maps.first of_a x) =
       subst (Maps p.profile s h) is (subst (λ t. Maps p.profile t h y.position) (sym (sender_a s of_a)) (first_maps p.profile h y first refl options x))

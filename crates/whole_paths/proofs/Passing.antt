@@ -187,7 +187,7 @@ nil_so : (ds : List Duty) → is_nil ds ≡ true → ds ≡ []
 nil_so [] is = refl
 nil_so (d ∷ ds) is = absurd (true≢false (sym is))
 
-died_now : (e : PathEnd) → is_gone (died_unless_dead e) ≡ true
+pub died_now : (e : PathEnd) → is_gone (died_unless_dead e) ≡ true
 died_now e = (elim (is_dead e.tcp.state) as (λ b. is_dead e.tcp.state ≡ b → is_gone (if b then e else died e) ≡ true) [ true ↦ λ dead. dead | false ↦ λ living. refl ]) refl
 
 none_of : (o : Option Piece) → is_some o ≡ false → o ≡ None
@@ -355,7 +355,7 @@ ack_recv : (pos now : ℕ) (s : EndState) → (after_acknowledgement pos now s).
 ack_recv pos now s = elim (ack_kind pos s.send) as (λ kind. (after_ack_kind kind (sample_of pos s.send) now (record s { send = after_acknowledge pos s.send })).recv ≡ s.recv)
     [ New octets ↦ refl | Duplicate ↦ refl | Old ↦ refl | Future ↦ refl ]
 
-heard_modes : (joined : Bool) (items : List Heard) (m : Meaning) (options : List HeardOption) (state : EndPhase) (mods : Modes)
+pub heard_modes : (joined : Bool) (items : List Heard) (m : Meaning) (options : List HeardOption) (state : EndPhase) (mods : Modes)
     → let n = asked_in m options (if joined then cleared_in m state (answered_in m items mods) else mods) in (n.identity ≡ mods.identity) × (n.peer_infinite ≡ mods.peer_infinite)
 heard_modes true items (means.Accepts pos) options state mods = elim (join_answer items mods) as (λ o. ((with_answer o mods).identity ≡ mods.identity) × ((with_answer o mods).peer_infinite ≡ mods.peer_infinite))
     [ None ↦ (refl, refl) | Some answer ↦ (refl, refl) ]
@@ -415,7 +415,7 @@ module _ (s t : Side) (away : s ≡ t → ⊥) (X : Type 0) where
   judged_let joined count (judged.As m) = template_let joined count m
   judged_let joined count verdict = all_free t X (template_judged joined s count verdict) refl
 
-abbrev is_other : Meaning → Bool
+abbrev pub is_other : Meaning → Bool
 is_other means.Kills = false
 is_other (means.Taken pos acknowledged) = false
 is_other _ = true
@@ -424,7 +424,7 @@ module _ (c : Profile) (s : Side) (now : ℕ) (x : HeardSegment) (count : ℕ) (
   abbrev heard_as : Meaning → PathEnd
   heard_as m = copy_judged (is_joined c) (held_of c s x) (reset_for c s x) s now x m e
 
-  heard_recv : (m : Meaning) → is_other m ≡ true → (heard_as m).tcp.recv ≡ e.tcp.recv
+  pub heard_recv : (m : Meaning) → is_other m ≡ true → (heard_as m).tcp.recv ≡ e.tcp.recv
   heard_recv (means.Taken pos acknowledged) other = absurd (true≢false (sym other))
   heard_recv means.Kills other = absurd (true≢false (sym other))
   heard_recv (means.Accepts pos) other = ack_recv pos now (record (after_hearing (after_payload 1 (hint_of (items_of (is_joined c) s x)) (copy_of x) e.tcp)) { state = phase.Established })

@@ -90,7 +90,7 @@ use Rattle.whole_paths.proofs.Waiting.{Far, same_far, far_then, gone_stays, path
 -- ---- what a duty makes of what an end owes
 
 -- an acknowledgement that is owed still is, or the end is dead
-data Owed (e f : PathEnd) : Type 0 where
+pub data Owed (e f : PathEnd) : Type 0 where
   still : (e.tcp.due.ack ≡ true → f.tcp.due.ack ≡ true) → Owed e f
   dies_now : is_gone f ≡ true → Owed e f
 
@@ -138,7 +138,7 @@ refusing (duties.Step (step_duties.Unmapped t)) s others ds sends may own is = a
 refusing _ s others ds sends may own is = absurd (true≢false (sym may))
 
 -- unless the duty is to send a segment of this side
-data Pays (d : Duty) (o : Option ToSend) (s : Side) (e f : PathEnd) : Type 0 where
+pub data Pays (d : Duty) (o : Option ToSend) (s : Side) (e f : PathEnd) : Type 0 where
   owed : Owed e f → Pays d o s e f
   paid : (t : ToSend) → o ≡ Some t → t.from ≡ s → sends_on d ≡ true → side_of d ≡ s → Pays d o s e f
 
@@ -203,7 +203,7 @@ module _ {C : Type 0} where
   answered_other_due k (duties.Step step_duties.Events) r p other = absurd (true≢false other)
   answered_other_due k d r p other = other_due (side_of d) (writes d) p _ refl (writes_no_more k d r p)
 
-  answered_pays : (k : Codec C) (s : Side) (d : Duty) (r : Reply) (p : PathState C) → is_event d ≡ false → Pays d (duty_sends d p) s (end_at s p) (end_at s (answered k d r p))
+  pub answered_pays : (k : Codec C) (s : Side) (d : Duty) (r : Reply) (p : PathState C) → is_event d ≡ false → Pays d (duty_sends d p) s (end_at s p) (end_at s (answered k d r p))
   answered_pays k s d r p other =
       let q = answered k d r p in
       ⊎_elim
@@ -234,7 +234,7 @@ module _ {C : Type 0} where
   passed_other_due (duties.Step step_duties.Events) p = refl
   passed_other_due d p = other_due (side_of d) (writes d) p _ refl (passes_no_more d p)
 
-  passed_due : (s : Side) (d : Duty) (p : PathState C) → (end_at s (passed d p)).tcp.due ≡ (end_at s p).tcp.due
+  pub passed_due : (s : Side) (d : Duty) (p : PathState C) → (end_at s (passed d p)).tcp.due ≡ (end_at s p).tcp.due
   passed_due s d p = ⊎_elim
       (λ own. subst (λ t. (end_at t (passed d p)).tcp.due ≡ (end_at t p).tcp.due) own (own_due d p))
       (λ away. subst (λ t. (end_at t (passed d p)).tcp.due ≡ (end_at t p).tcp.due) away (passed_other_due d p))

@@ -243,7 +243,7 @@ other_rests s e f x = calm s e f
     (unwritten false e.modes.clear f.modes.clear refl (ap (λ (v : EndView). v.clear) x.same))
     (unwritten false e.modes.own_infinite f.modes.own_infinite refl (ap (λ (v : EndView). v.own_infinite) x.same))
 
-fin_stays : (s : Side) (e f : PathEnd) → Rests s e f → e.tcp.recv.edge ≤ f.tcp.recv.edge → is_fin_passed e.tcp ≡ true → is_fin_passed f.tcp ≡ true
+pub fin_stays : (s : Side) (e f : PathEnd) → Rests s e f → e.tcp.recv.edge ≤ f.tcp.recv.edge → is_fin_passed e.tcp ≡ true → is_fin_passed f.tcp ≡ true
 fin_stays s e f x up is = subst (λ o. is_behind o f.tcp.recv.edge ≡ true) (sym x.fin_at) (by e.tcp.fin_at is)
   where
     by : (o : Option ℕ) → is_behind o e.tcp.recv.edge ≡ true → is_behind o f.tcp.recv.edge ≡ true
@@ -320,7 +320,7 @@ module _ {C : Type 0} where
   kept_passes s pos octet d ds p quiet h = lies (kept_moves pos octet (end_at s p) (end_at s (passed d p)) h (passed_moves s d p refl refl))
 
   -- a duty before the payload is kept leaves it in hand
-  before_passes : (d : Duty) (p : PathState C) → comes_before_keeping d ≡ true → (end_at (side_of d) (passed d p)).tcp.recv ≡ (end_at (side_of d) p).tcp.recv
+  pub before_passes : (d : Duty) (p : PathState C) → comes_before_keeping d ≡ true → (end_at (side_of d) (passed d p)).tcp.recv ≡ (end_at (side_of d) p).tcp.recv
   before_passes (duties.Step (step_duties.Heard s index)) p before =
       let e = end_at s p in ap (λ (f : PathEnd). f.tcp.recv) (own_end s (item_passed s (item_of index e) e) p.a p.b) ∙ item_recv s (item_of index e) e
   before_passes (duties.Step (step_duties.PlainAck s)) p before = ap (λ (f : PathEnd). f.tcp.recv) (own_end s (with_plain_ack (end_at s p)) p.a p.b)

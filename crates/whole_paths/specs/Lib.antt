@@ -118,6 +118,8 @@ pub mod Pushed
 pub mod SegmentRounds
 pub mod EndRounds
 pub mod UnitRounds
+pub mod RisesOwed
+pub mod ToldStays
 pub mod Rising
 pub mod FirstSigns
 pub mod SignWaits

@@ -39,6 +39,7 @@ ghost use Rattle.whole_paths.specs.PositionCounts.{PositionsCountBytes};
 ghost use Rattle.whole_paths.specs.Pushed.{WhatHasRoomIsSent, WhatIsUnsentWaitsForRoom};
 ghost use Rattle.whole_paths.specs.Received.{HoldsOfOnlyPaths};
 ghost use Rattle.whole_paths.specs.RecordWaits.{NoRoundCounts, RecordsAreAwaitedAlways};
+ghost use Rattle.whole_paths.specs.RisesOwed.{WhatRisesIsOwed};
 ghost use Rattle.whole_paths.specs.SegmentRounds.{ASegmentIsRead, EachRoundReads, EachRoundWrites, FourRoundsBring, FourRoundsTell};
 ghost use Rattle.whole_paths.specs.SenderWaits.{SendersAreAwaited};
 ghost use Rattle.whole_paths.specs.SentInOrder.{EachIsSentInOrder};
@@ -47,6 +48,7 @@ ghost use Rattle.whole_paths.specs.ShutWindows.{ShutWindowsHaveRoom};
 ghost use Rattle.whole_paths.specs.SignWaits.{FirstSignsAreAwaited};
 ghost use Rattle.whole_paths.specs.StayingWhole.{WholePathsStayWhole};
 ghost use Rattle.whole_paths.specs.Straying.{OpenEndsHardlyStray, SendersHardlyStray, WholePathsAreOpen};
+ghost use Rattle.whole_paths.specs.ToldStays.{WhoIsToldStaysTold};
 ghost use Rattle.whole_paths.specs.Unmended.{HarmsAloneLoseRecords};
 ghost use Rattle.whole_paths.specs.UnitRounds.{AUnitIsMade, ShortWaitsGoOn};
 ghost use Rattle.whole_paths.specs.Unstopped.{MildPathsAreNeverStopped};
@@ -267,6 +269,22 @@ pub fn each_answer_comes_soon()
 /// (`what_is_finished_is_there`).
 pub fn each_window_has_room()
     ensures { EachWindowHasRoom }
+{}
+
+/// A law: an end of path 0 of a mild connection owes an acknowledgement as its RCV.NXT moves over octets.
+///
+/// What came in order is passed in the turn of the copy that brought it (`what_is_in_order_is_passed`), and a copy with octets is owed an
+/// acknowledgement from its arrival on. One without octets tells no mapping, so that nothing comes to be in order by it.
+pub fn what_rises_is_owed()
+    ensures { WhatRisesIsOwed }
+{}
+
+/// A law: between open ends of the only path of a mild connection an end that is told soon how far its peer is stays so, or an answer was harmed.
+///
+/// The peer's answer goes (`each_answer_comes_soon`), since the end's window has room for it (`each_window_has_room`); where RCV.NXT rises
+/// meanwhile the next answer is owed (`what_rises_is_owed`).
+pub fn who_is_told_stays_told()
+    ensures { WhoIsToldStaysTold }
 {}
 
 /// A law: a wait for a record of data goes on between open ends of a mild connection until the record is acknowledged, or something is
