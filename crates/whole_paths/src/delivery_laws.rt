@@ -27,6 +27,7 @@ ghost use Rattle.whole_paths.specs.Outstanding.{WhatIsOutstandingIsAwaited};
 ghost use Rattle.whole_paths.specs.OverOctets.{FewLossesFinishAsOverValues, OctetsAreAsFarAsValues, OnePathEndsAsOverValues, BriefPathsDeliverAsOverValues, WholePathsDeliverAsOverValues};
 ghost use Rattle.whole_paths.specs.Overruns.{NoEndOverruns};
 ghost use Rattle.whole_paths.specs.RecordWaits.{NoRoundCounts, RecordsAreAwaitedAlways};
+ghost use Rattle.whole_paths.specs.RecordsPassed.{FirstRecordsArePassed};
 ghost use Rattle.whole_paths.specs.SenderWaits.{SendersAreAwaited};
 ghost use Rattle.whole_paths.specs.ShutWaits.{ShutWindowsOpenInTime};
 ghost use Rattle.whole_paths.specs.ShutWindows.{ShutWindowsHaveRoom};
@@ -400,4 +401,11 @@ pub fn lost_records_are_mended()
 /// no such wait ends before the round does.
 pub fn lost_records_are_awaited()
     ensures { LostRecordsAreAwaited }
+{}
+
+/// A law: where a turn is over, the first record of a side that came whole lies below the peer's RCV.NXT (RFC 9293, section 3.10.7.4).
+///
+/// It is said of a record of data on path 0 of a mild connection between open ends, which came, or was to come by a tick of the round that ends.
+pub fn first_records_are_passed()
+    ensures { FirstRecordsArePassed }
 {}
