@@ -1,5 +1,5 @@
 -- Where a round is over an end has passed each first record that came whole: its octets are kept, with their mapping.
-use Rattle.std.proofs.Common.{◌≡◌, refl, sym, subst, ap, ◌∙◌, ◌⊎◌, inl, inr, ⊎_elim, ℕ, ◌+◌, ◌<◌, ◌≤◌, arith, Bool, true, false, true≢false, is_some, Option, Some, None, List, [], ◌∷◌, le_refl}
+use Rattle.std.proofs.Common.{◌≡◌, subst, ap, ◌⊎◌, ⊎_elim, ℕ, ◌<◌, ◌≤◌, arith, is_some, Some, List, [], le_refl}
 use Rattle.std.specs.Prelude.{IsSome}
 use Rattle.std.specs.List.{slice_get}
 use Rattle.std.proofs.lemmas.Bool.{both_ways, cases_lt}
@@ -10,21 +10,16 @@ use Rattle.link_model.specs.declared.flight.Flight.{Flight}
 use Rattle.subflow_send.specs.Records.{Record, end_of}
 use Rattle.subflow_send.specs.declared.record.RecordKind.TheVariants.{Data}
 use Rattle.subflow_recv.specs.Receiving.{octet_at}
-use Rattle.subflow_tcp.specs.States.{is_dead}
-use Rattle.path_agenda.specs.declared.duty.Duty.{Duty}
 use Rattle.path_agenda.specs.declared.heard.Heard.{Heard}
 use Rattle.path_core.specs.Deliver.{failing_mapping}
 use Rattle.path_core.specs.State.{PathState, end_at}
 use Rattle.path_core.specs.Values.{Carried, values}
 use Rattle.world_laws.specs.Actors.{ActorCrew}
 use Rattle.world_laws.specs.Members.{HoldsOfKind}
-use Rattle.world_laws.specs.Openings.{Start}
 use Rattle.world_laws.specs.RoundDone.{reached}
-use Rattle.world_laws.specs.Worlds.{Turn}
-use Rattle.whole_paths.specs.Brought.{IsKept, IsThere, IsToKeep}
+use Rattle.whole_paths.specs.Brought.{IsThere, IsToKeep}
 use Rattle.whole_paths.specs.Brought.{IsThere as is_there}
 use Rattle.whole_paths.specs.Came.{HasCome}
-use Rattle.whole_paths.specs.Copies.{IsUnderWay}
 use Rattle.whole_paths.specs.Flights.{IsFirst}
 use Rattle.whole_paths.specs.InHand.{IsPartial}
 use Rattle.whole_paths.specs.InTime.{ComesFrom}
