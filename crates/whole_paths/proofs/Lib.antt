@@ -87,6 +87,7 @@ pub mod Pieces
 pub mod Probes
 pub mod Reasons
 pub mod RecordsGo
+pub mod RecordsInTime
 pub mod RecordsPassed
 pub mod Received
 pub mod RecordsWell

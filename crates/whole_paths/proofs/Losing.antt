@@ -44,11 +44,11 @@ use Rattle.whole_paths.proofs.RecordsWell.{each_record_stays_well}
 pub back : (r t : Record) → IsSameRecord r t → IsSameRecord t r
 back r t x = record { pos = sym x.pos; kind = sym x.kind; piece = sym x.piece; mapping = sym x.mapping }
 
-same_end : (r t : Record) → IsSameRecord r t → end_of t ≡ end_of r
+pub same_end : (r t : Record) → IsSameRecord r t → end_of t ≡ end_of r
 same_end r t x = rw (x.pos, x.kind, x.piece) refl
 
 module _ (s : Side) (r t : Record) (same : IsSameRecord r t) (p : PathState Carried) where
-  all_there : IsAllThereOf s r p → IsAllThereOf s t p
+  pub all_there : IsAllThereOf s r p → IsAllThereOf s t p
   all_there h pos from low = h pos (let at = same.pos in omega (arith, at, from)) (let end = same_end r t same in omega (arith, end, low))
 
   but_sendings : t ≡ record r { sending = t.sending }
