@@ -1,10 +1,9 @@
 -- A side's first record that may be lost is mended: SND.UNA rises past it, or its timer runs out, and it goes again.
-use Rattle.std.proofs.Common.{◌≡◌, refl, sym, subst, ap, ◌∙◌, ◌⊎◌, inl, inr, ⊎_elim, ℕ, zero, suc, ◌+◌, ◌==◌, ◌<◌, ◌≤◌, max, arith, Bool, true, false, true≢false, if◌then◌else◌, Some, List, [], ◌∷◌, ◌++◌, length, map, le_refl}
+use Rattle.std.proofs.Common.{◌≡◌, refl, sym, subst, ap, ◌∙◌, ◌⊎◌, inl, inr, ⊎_elim, ℕ, zero, suc, ◌+◌, ◌==◌, ◌<◌, ◌≤◌, max, arith, Bool, true, false, true≢false, if◌then◌else◌, Some, List, [], ◌∷◌, ◌++◌, length, map}
 use Rattle.std.specs.List.{slice_get}
 use Rattle.std.proofs.lemmas.Bool.{cases_lt, eq-eqb, eqb-true}
 use Rattle.std.proofs.lemmas.Option.{same_Some}
 use Rattle.sides.specs.declared.side.Side.{Side}
-use Rattle.sides.specs.Side.{peer}
 use Rattle.stream_lanes.specs.Words.{Has}
 use Rattle.subflow_send.specs.declared.record.RecordKind.{RecordKind}
 use Rattle.subflow_send.specs.declared.record.RecordKind.TheVariants as kinds
@@ -29,7 +28,7 @@ use Rattle.whole_paths.specs.FirstLost.{MendsFirstOn as mending}
 use Rattle.whole_paths.specs.Flights.{IsFirst}
 use Rattle.whole_paths.specs.InTime.{ComesFrom}
 use Rattle.whole_paths.specs.Kept.{AreKept, EndsKeepWhatWaits, IsSameRecord, KeepsWhatWaits}
-use Rattle.whole_paths.specs.Mending.{EachIsToldSoon, EachRecordStaysWell, IsRecordOf, IsToldSoon, IsWell, RecordsStayWell, WasSent, WhatIsSentComesSoon}
+use Rattle.whole_paths.specs.Mending.{IsRecordOf, IsWell, RecordsStayWell, WasSent}
 use Rattle.whole_paths.specs.Mending.{IsWell as is_well}
 use Rattle.whole_paths.specs.Mends.{MendsByExpiry}
 use Rattle.whole_paths.specs.Unmended.{AreWellBut, LosesNoMore}

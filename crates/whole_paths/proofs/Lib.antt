@@ -98,6 +98,8 @@ pub mod Probes
 pub mod Reaching
 pub mod Reasons
 pub mod RecordsGo
+pub mod RecordsInTime
+pub mod RecordsPassed
 pub mod Received
 pub mod RecordsWell
 pub mod Refusals

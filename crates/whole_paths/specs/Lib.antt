@@ -70,6 +70,7 @@ pub mod Passed
 pub mod Probes
 pub mod Reasons
 pub mod RecordsGo
+pub mod RecordsPassed
 pub mod Received
 pub mod Room
 pub mod Rounds

@@ -40,6 +40,7 @@ ghost use Rattle.whole_paths.specs.Pushed.{WhatHasRoomIsSent, WhatIsUnsentWaitsF
 ghost use Rattle.whole_paths.specs.Received.{HoldsOfOnlyPaths};
 ghost use Rattle.whole_paths.specs.RecordWaits.{NoRoundCounts, RecordsAreAwaitedAlways};
 ghost use Rattle.whole_paths.specs.SegmentRounds.{ASegmentIsRead, EachRoundReads, EachRoundWrites, FourRoundsBring, FourRoundsTell};
+ghost use Rattle.whole_paths.specs.RecordsPassed.{FirstRecordsArePassed, RecordsComeInTime};
 ghost use Rattle.whole_paths.specs.SenderWaits.{SendersAreAwaited};
 ghost use Rattle.whole_paths.specs.SentInOrder.{EachIsSentInOrder};
 ghost use Rattle.whole_paths.specs.ShutWaits.{ShutWindowsOpenInTime};
@@ -549,4 +550,20 @@ pub fn lost_records_are_mended()
 /// no such wait ends before the round does.
 pub fn lost_records_are_awaited()
     ensures { LostRecordsAreAwaited }
+{}
+
+/// A law: where a turn is over, the first record of a side that came whole lies below the peer's RCV.NXT (RFC 9293, section 3.10.7.4).
+///
+/// It is said of a record of data on path 0 of a mild connection between open ends, which came, or was to come by a tick of the round that ends.
+pub fn first_records_are_passed()
+    ensures { FirstRecordsArePassed }
+{}
+
+/// A law: a record of data that comes by a tick comes by that tick still, by each turn of a mild connection between open ends, until it is
+/// acknowledged (RFC 9293, section 3.10.7.4).
+///
+/// Neither what comes before it nor what is sent again puts it off (`on`). Where a turn is over such a record came whole by a tick of the round that
+/// ends, or is acknowledged (`due`).
+pub fn records_come_in_time()
+    ensures { RecordsComeInTime }
 {}
