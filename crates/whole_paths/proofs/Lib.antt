@@ -178,6 +178,7 @@ pub mod SegmentRounds
 pub mod ReadSegments
 pub mod EndRounds
 pub mod UnitRounds
+pub mod ShortWaits
 pub mod UnderWay
 pub mod ByTurns
 pub mod Rising

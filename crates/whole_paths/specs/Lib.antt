@@ -118,6 +118,7 @@ pub mod Pushed
 pub mod SegmentRounds
 pub mod EndRounds
 pub mod UnitRounds
+pub mod ShortWaits
 pub mod Rising
 pub mod FirstSigns
 pub mod SignWaits

@@ -49,7 +49,7 @@ ghost use Rattle.whole_paths.specs.SignWaits.{FirstSignsAreAwaited};
 ghost use Rattle.whole_paths.specs.StayingWhole.{WholePathsStayWhole};
 ghost use Rattle.whole_paths.specs.Straying.{OpenEndsHardlyStray, SendersHardlyStray, WholePathsAreOpen};
 ghost use Rattle.whole_paths.specs.Unmended.{HarmsAloneLoseRecords};
-ghost use Rattle.whole_paths.specs.UnitRounds.{AUnitIsMade, ShortWaitsGoOn};
+ghost use Rattle.whole_paths.specs.UnitRounds.{AUnitIsMade, AllUnitsAreThere, ShortWaitsGoOn};
 ghost use Rattle.whole_paths.specs.Unstopped.{MildPathsAreNeverStopped};
 ghost use Rattle.whole_paths.specs.WindowWaits.{WindowsAreAwaitedAlways};
 ghost use Rattle.world_laws.specs.Promises.{HoldsAnyway};
@@ -182,8 +182,8 @@ pub fn what_has_room_is_sent()
     ensures { WhatHasRoomIsSent }
 {}
 
-/// A law: in each round of a mild connection over one path an application writes its file, or as much as a side buffers past what was acknowledged as the
-/// round began; and the peer's reader reads all that had come in order then.
+/// A law: in each round of a mild connection over one path an application writes its file, or as much as a side buffers past what was acknowledged
+/// as the round began; and the peer's reader reads all that had come in order then.
 pub fn each_round_writes_and_reads()
     ensures writes { EachRoundWrites }
     ensures reads { EachRoundReads }
@@ -192,10 +192,10 @@ pub fn each_round_writes_and_reads()
 /// A law: where nothing is to be mended, all that an open end sent comes within four rounds (`brought`), and as soon the end is told how far the peer
 /// was (`told`); so the peer's reader reads a full segment more in twelve rounds (`read`), or all of the stream.
 ///
-/// It is said of a mild connection over one path with segments of 1,460 octets at most, between moments at which the path is open, whose records stay
-/// well and whose ends are told soon. For `read` nothing is to be mended as the rounds begin and after seven of them, the congestion window
-/// holds two full segments then, and what the peer could tell of the stream is heard in the first five: the Data ACK, and a window that takes a full
-/// segment. Then come a round in which the application writes, one in which the end sends, four in which that comes, and one in which it is read.
+/// It is said of a mild connection over one path, between moments at which the path is open, whose ends are told soon, as a premise says. For `read`
+/// nothing is to be mended as the rounds begin and after seven of them, the congestion window holds two full segments then, and what the
+/// peer could tell of the stream is heard in the first five: the Data ACK, and a window that takes a full segment. Then come a round in which the
+/// application writes, one in which the end sends, four in which that comes, and one in which it is read.
 pub fn a_segment_is_read()
     ensures brought { FourRoundsBring }
     ensures told { FourRoundsTell }
@@ -211,14 +211,16 @@ pub fn an_end_is_told()
     ensures { AnEndIsTold }
 {}
 
-/// A law: in thirteen rounds in which nothing is to be mended a stream goes on by a full segment or by its end, or both streams are all there.
+/// A law: in thirteen rounds in which nothing is to be mended a stream goes on by a full segment or by its end, or all is read and told.
 ///
-/// It is said of any way in which all is well: nothing of path 0 is to be mended then, and both congestion windows hold two full segments. A wait
-/// for such rounds begins with each of them, and it goes on by each turn as long as all is well. What the peer could tell is heard in
-/// five rounds, and a DATA_FIN comes in four: these are premises.
+/// It is said of a mild connection over one path, as long as all is well: nothing of path 0 is to be mended then, and both congestion windows hold two
+/// full segments. A wait for such rounds begins with each of them, and it goes on by each turn as long as all is well. That each end is told
+/// soon, that what the peer could tell is heard in five rounds, and that a DATA_FIN comes in four, are premises. Where there are as many units as
+/// can be (`all`), all of both streams is with the peers.
 pub fn a_unit_is_made()
     ensures waits { ShortWaitsGoOn }
     ensures made { AUnitIsMade }
+    ensures all { AllUnitsAreThere }
 {}
 
 /// A law: where no line of a script speaks of a direction, each segment of a path that is harmed uses a line by which one is lost or late.

@@ -6,3 +6,6 @@ returns-clause-waits c = units.short_waits_go_on
 
 pub returns-clause-made : goal.returns-clause-made
 returns-clause-made c = units.a_unit_is_made
+
+pub returns-clause-all : goal.returns-clause-all
+returns-clause-all c = units.all_units_are_there
