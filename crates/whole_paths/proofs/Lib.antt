@@ -34,6 +34,15 @@ pub mod Duties
 pub mod Exchanges
 pub mod ExpiriesInARow
 pub mod Deaths
+pub mod HarmlessDeaths
+pub mod KeptAddresses
+pub mod NoRemovals
+pub mod RemovedItems
+pub mod HarmlessLines
+pub mod HeardRemovals
+pub mod KeptBooks
+pub mod SaidRemovals
+pub mod QueuedRemovals
 pub mod Debts
 pub mod FewLossesEnd
 pub mod OpenCopies

@@ -16,6 +16,7 @@ ghost use Rattle.whole_paths.specs.FirstSigns.{EachFirstSignComes};
 ghost use Rattle.whole_paths.specs.GoingOn.{EndsGoOn, RoundsBeginToGoOn, RoundsGoOn, StepsLetItGoOn};
 ghost use Rattle.whole_paths.specs.Halted.{WhoHaltsGoesOnHalting};
 ghost use Rattle.whole_paths.specs.Lanes.Laws.{LossyLanesEnd, LossyLanesFinish};
+ghost use Rattle.whole_paths.specs.KeptAddresses.{FirstAddressesStay, HarmlessEndsDieOfExpiries};
 ghost use Rattle.whole_paths.specs.LastFin.{FinsAreLast};
 ghost use Rattle.whole_paths.specs.Mending.{EachAnswerComesSoon, EachRecordStaysWell};
 ghost use Rattle.whole_paths.specs.Mends.{WhatRunsOutIsMended};
@@ -95,6 +96,19 @@ pub fn mild_scripts_never_break()
 /// between two ends that live, none is refused, and no mapping clashes or is missing.
 pub fn mild_ends_die_of_expiries()
     ensures { MildEndsDieOfExpiries }
+{}
+
+/// A law: no side counts the address of path 0 as removed, always, where no line of the script takes it back (RFC 8684, section 3.4.2) or lets
+/// a path die.
+///
+/// Neither book is told to take id 0 back, no path has it to note, no segment says so, and no end hears it.
+pub fn first_addresses_stay()
+    ensures { FirstAddressesStay }
+{}
+
+/// A law: in a mild connection without such lines an end of path 0 dies by its sixth expiry in a row alone, as long as its peer lives too.
+pub fn harmless_ends_die_of_expiries()
+    ensures { HarmlessEndsDieOfExpiries }
 {}
 
 /// A law: as long as both ends of path 0 of a mild connection live, what an end owes its peer goes: an acknowledgement of what came, at
