@@ -63,6 +63,7 @@ pub use delivery_laws::whole_paths_deliver;
 pub use delivery_laws::whole_paths_stay_whole;
 pub use delivery_laws::windows_are_awaited_always;
 pub use laws::a_copy_leaves_by_arriving;
+pub use laws::clear_ends_are_past;
 pub use laws::copies_arrive_as_sent;
 pub use laws::each_acknowledgement_counts;
 pub use laws::each_ask_is_answered;
