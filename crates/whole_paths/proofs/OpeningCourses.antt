@@ -54,6 +54,7 @@ use Rattle.whole_paths.proofs.GoingOn.{ends_go_on, open_behind, step_side, steps
 use Rattle.whole_paths.proofs.Clearing.{clear_ends_are_past}
 use Rattle.path_core.specs.MpJoin.{is_joined}
 use Rattle.whole_paths.proofs.Handshaking.{living_ends_open_or_are_past}
+use Rattle.whole_paths.proofs.SendsEnds.{who_is_done_is_clear}
 use Rattle.whole_paths.specs.Clear.{IsPastIfClear}
 use Rattle.whole_paths.proofs.InTime.{nil_so}
 use Rattle.whole_paths.proofs.Keyed.{keys_are_known}
@@ -206,7 +207,7 @@ module _ (start : Start) (plan : PathPlan) (most way within : ℕ) (one : start.
   never_done v now done p here low =
       let f = firm_at v now done.path done.here in
       let first : is_joined done.path.profile ≡ false = subst (λ (q : PathState Carried). is_joined q.profile ≡ false) (path_is (at v) now.path done.path now.here done.here) now.faithful.joined in
-      let past = subst (HoldsOfKind (λ app. Unit {0}) IsPastIfClear) done.here.is (clear_ends_are_past values start v 2 done.here.crew done.here.there) first B (f.sure (f.finished done.finished)) in
+      let past = subst (HoldsOfKind (λ app. Unit {0}) IsPastIfClear) done.here.is (clear_ends_are_past values start v 2 done.here.crew done.here.there) first B (f.sure (who_is_done_is_clear start v mild done.path done.here done.finished)) in
       let high : 3 ≤ stage p.b.tcp.state = subst (λ (q : PathState Carried). 3 ≤ stage q.b.tcp.state) (path_is (at v) done.path p done.here here) past in
       omega (arith, high, low)
 
@@ -283,7 +284,7 @@ module _ (start : Start) (plan : PathPlan) (most way within : ℕ) (one : start.
         where
           by : (b : Bool) → may_finish p.a.tcp.state ≡ b → p.a.tcp.send.finished ≡ false
           by true may = first.may A may
-          by false behind = absurd (both_ways p.a.modes.clear unclear (f.finished (HasFinished.sent_fin (open_behind p.a.tcp.state (past A) (alive.living A) behind) (alive.living A))))
+          by false behind = absurd (both_ways p.a.modes.clear unclear (who_is_done_is_clear start v mild p here (HasFinished.sent_fin (open_behind p.a.tcp.state (past A) (alive.living A) behind) (alive.living A))))
 
       room : p.a.tcp.send.nxt ≤ p.b.tcp.recv.edge + 1048576
       room = let few = within_window A in let none = ap one_if a_unfinished in let low = came.una A (alive.living A) in omega (arith, few, none, low)

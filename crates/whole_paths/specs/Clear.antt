@@ -5,12 +5,21 @@ use Rattle.sides.specs.declared.side.Side.{Side}
 use Rattle.path_core.specs.Codec.{Codec}
 use Rattle.path_core.specs.MpJoin.{is_joined}
 use Rattle.path_core.specs.State.{PathState, end_at}
+use Rattle.path_core.specs.Values.{Carried, values}
 use Rattle.world_laws.specs.Actors.{ActorCrew}
 use Rattle.world_laws.specs.Members.{HoldsOfKind}
 use Rattle.world_laws.specs.Openings.{Start}
 use Rattle.world_laws.specs.RoundDone.{reached}
 use Rattle.world_laws.specs.Worlds.{Turn}
 use Rattle.whole_paths.specs.AsFar.{stage}
+use Rattle.whole_paths.specs.Delivery.{HasFinished}
+use Rattle.whole_paths.specs.Finish.{IsPathAt}
+use Rattle.whole_paths.specs.Mild.{IsMildStart}
+
+-- On path 0 of a mild connection A's end has finished, its DATA_FIN acknowledged or its FIN sent, only where it may send a DSS.
+abbrev pub WhoIsDoneIsClear : Type 0
+WhoIsDoneIsClear = (start : Start) (turns : List Turn) → IsMildStart start → (p : PathState Carried) → IsPathAt 0 (reached values start turns) p → HasFinished p.a
+    → p.a.modes.clear ≡ true
 
 module _ {C : Type 0} where
   abbrev pub IsPastIfClear : PathState C → Type 0
