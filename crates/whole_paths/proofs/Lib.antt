@@ -128,9 +128,11 @@ pub mod Settling
 pub mod OpeningStates
 pub mod OpeningWaits
 pub mod SenderWaits
+pub mod SendsEnds
 pub mod SharpCourses
 pub mod ShutWaits
 pub mod Standing
+pub mod StatesByDuties
 pub mod Staying
 pub mod StayingWhole
 pub mod Straying

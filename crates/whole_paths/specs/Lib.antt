@@ -10,6 +10,7 @@ pub mod Between
 pub mod AwaitedThere
 pub mod Brought
 pub mod Came
+pub mod Clear
 pub mod Closing
 pub mod ClosingAsked
 pub mod ClosingFin
