@@ -33,6 +33,7 @@ mod OwnUntold
 mod FinePositions
 mod MapPositions
 mod SentGrows
+mod Passed
 mod Reached
 mod FineMoments
 mod MapKept
