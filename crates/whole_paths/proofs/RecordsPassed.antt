@@ -40,7 +40,7 @@ use Rattle.whole_paths.proofs.Knowing.{what_is_told_is_known}
 use Rattle.whole_paths.proofs.Mild.{mapping_is_kept}
 use Rattle.whole_paths.proofs.Passing.{what_is_in_order_is_passed}
 use Rattle.whole_paths.proofs.Reached.{EndsAreReached, each_is_reached, first_reached}
-use Rattle.whole_paths.proofs.WholeMappings.{mappings_are_whole}
+use Rattle.whole_paths.proofs.WholeMappings.{first_has, mappings_are_whole}
 
 module _ (p : PathState Carried) (over : p.agenda ≡ []) (is_open : IsOpen p) (past : ComesFrom p.until p) (reached_p : EndsAreReached p) (came : HasCome p) (live : EndsAreLive p) (mapped : EndsGoByMappings p)
     (passed : HasPassed p) (whole : NoneIsPartial p) (s : Side) (r : Record) (first : IsFirst r (end_at s p)) (data_is : r.kind ≡ Data) where
@@ -86,7 +86,7 @@ module _ (p : PathState Carried) (over : p.agenda ≡ []) (is_open : IsOpen p) (
     not_behind : ⊥
     not_behind = ⊎_elim
         (λ fails. both_ways (is_some (failing_mapping p.profile (end_at t p))) (ap is_some (mapped t).right) fails)
-        (λ partial. whole s r first data_is partial)
+        (λ partial. whole s r (first_has r (end_at s p) first) data_is partial)
         hinders
 
   -- no copy of it is under way that was to come in this round
