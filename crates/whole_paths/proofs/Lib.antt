@@ -150,6 +150,7 @@ pub mod Unbroken
 pub mod Unended
 pub mod Unstopped
 pub mod Waiting
+pub mod WindowRoom
 pub mod WindowWaits
 pub mod WindowsHeard
 pub mod Writers

@@ -86,6 +86,14 @@ module _ (v : View) (lane : Lane) (holds : LaneHolds v 0 lane) (alone : v.alone 
   sent_before_end : finished ≡ false → nxt ≤ suc (length v.written)
   sent_before_end none = let next = shows.next none in let within = sent_within in omega (arith, next, within)
 
+  -- with a FIN behind it
+  sent_most : nxt ≤ suc (suc (length v.written))
+  sent_most = by finished refl
+    where
+      by : (b : Bool) → finished ≡ b → nxt ≤ suc (suc (length v.written))
+      by false none = let next = sent_before_end none in omega (arith, next)
+      by true is = let fin = shows.fin is in let at = fin.holds in let last = (holds.fins.each fin.at fin.item fin.there).last in let within = sent_within in omega (arith, at, last, within)
+
   module _ (recv : Receiving) (fin_at : Option ℕ) (fin : IfSome fin_at (HasFin lane.fins)) (edge : IsAtEdge recv lane ⊎ IsPastFin fin_at recv lane) (low : v.received ≤ lane.edge) where
     came_before : v.received < recv.edge
     came_before = by edge
@@ -134,6 +142,7 @@ module _ (start : Start) (plan : PathPlan) (one : start.paths ≡ plan ∷ []) (
           record {
             taken = taken_sent _ x.ab lane (ap not none) _ _ _ _ sent;
             within = sent_before_end _ x.ab lane (ap not none) _ _ _ _ sent;
+            most = sent_most _ x.ab lane (ap not none) _ _ _ _ sent;
             came = came_before _ x.ab lane (ap not none) _ _ _ _ sent p.b.tcp.recv p.b.tcp.fin_at x.shows.b.receiver.fin x.shows.b.receiver.edge (omega (arith, low, within));
             exact = came_exactly _ x.ab lane (ap not none) _ _ _ _ sent p.b.tcp.recv p.b.tcp.fin_at x.shows.b.receiver.fin x.shows.b.receiver.edge (omega (arith, low, within));
           }
@@ -145,6 +154,7 @@ module _ (start : Start) (plan : PathPlan) (one : start.paths ≡ plan ∷ []) (
           record {
             taken = taken_sent _ x.ba lane (ap not none) _ _ _ _ sent;
             within = sent_before_end _ x.ba lane (ap not none) _ _ _ _ sent;
+            most = sent_most _ x.ba lane (ap not none) _ _ _ _ sent;
             came = came_before _ x.ba lane (ap not none) _ _ _ _ sent p.a.tcp.recv p.a.tcp.fin_at x.shows.a.receiver.fin x.shows.a.receiver.edge (omega (arith, low, within));
             exact = came_exactly _ x.ba lane (ap not none) _ _ _ _ sent p.a.tcp.recv p.a.tcp.fin_at x.shows.a.receiver.fin x.shows.a.receiver.edge (omega (arith, low, within));
           }

@@ -94,6 +94,7 @@ pub mod Unharmed
 pub mod Unmended
 pub mod Unstopped
 pub mod Waits
+pub mod WindowRoom
 pub mod WindowWaits
 pub mod WindowsHeard
 pub mod Writers

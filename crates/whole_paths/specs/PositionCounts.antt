@@ -13,10 +13,11 @@ use Rattle.world_laws.specs.Worlds.{WorldState}
 
 module _ {C : Type 0} where
   -- Of this side's stream: SND.NXT lies behind all bytes that the path took, and as long as no FIN was sent no further than behind all that were
-  -- written. RCV.NXT of the peer's end lies behind all that the peer's side received, and then just behind them; position 0 is that of the SYN.
+  -- written, then one position further. RCV.NXT of the peer's end lies behind all that the peer's side received, and then just behind them; position 0 is that of the SYN.
   pub record CountsBytes (w : WorldState C) (p : PathState C) (s : Side) : Type 0 where
     pub taken : taken_len 0 (written_by s w).marks < (end_at s p).tcp.send.nxt
     pub within : (end_at s p).tcp.send.finished ≡ false → (end_at s p).tcp.send.nxt ≤ suc (length (written_by s w).written)
+    pub most : (end_at s p).tcp.send.nxt ≤ suc (suc (length (written_by s w).written))
     pub came : received (arrived_at (peer s) w) < (end_at (peer s) p).tcp.recv.edge
     pub exact : (end_at s p).tcp.send.finished ≡ false → (end_at (peer s) p).tcp.recv.edge ≡ suc (received (arrived_at (peer s) w))
 

@@ -52,6 +52,7 @@ ghost use Rattle.whole_paths.specs.Straying.{OpenEndsHardlyStray, SendersHardlyS
 ghost use Rattle.whole_paths.specs.Unmended.{HarmsAloneLoseRecords};
 ghost use Rattle.whole_paths.specs.UnitRounds.{AUnitIsMade, AllUnitsAreThere, ShortWaitsGoOn};
 ghost use Rattle.whole_paths.specs.Unstopped.{MildPathsAreNeverStopped};
+ghost use Rattle.whole_paths.specs.WindowRoom.{EachWindowHasRoom};
 ghost use Rattle.whole_paths.specs.WindowWaits.{WindowsAreAwaitedAlways};
 ghost use Rattle.world_laws.specs.Promises.{HoldsAnyway};
 
@@ -274,6 +275,15 @@ pub fn each_record_stays_well()
 /// by octets or a FIN needn't be heard, since what overtook it acknowledges as much.
 pub fn each_answer_comes_soon()
     ensures { EachAnswerComesSoon }
+{}
+
+/// A law: between open ends of the only path of a mild connection no end sent more than 2^20 positions past RCV.NXT of its peer, so that the
+/// peer's window has room for all it sent, its FIN included.
+///
+/// An unfinished end has no more outstanding than the window (`no_end_overruns`). Of one that sent its FIN all but the FIN is there
+/// (`what_is_finished_is_there`).
+pub fn each_window_has_room()
+    ensures { EachWindowHasRoom }
 {}
 
 /// A law: a wait for a record of data goes on between open ends of a mild connection until the record is acknowledged, or something is
