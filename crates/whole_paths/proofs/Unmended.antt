@@ -1,10 +1,12 @@
 -- No more of a path's segments is to be mended than before, but one for each segment that is harmed.
-use Rattle.std.proofs.Common.{◌≡◌, refl, sym, subst, ap, ◌∙◌, ◌⊎◌, inl, inr, ⊎_elim, ℕ, ◌+◌, ◌≤◌, arith, Bool, true, false, true≢false, Some, List, [], ◌∷◌, ◌++◌}
+use Rattle.std.proofs.Common.{◌≡◌, refl, sym, subst, ap, ◌∙◌, ◌⊎◌, inl, inr, ⊎_elim, ℕ, ◌+◌, ◌≤◌, arith, Bool, true, false, true≢false, Some, List, [], ◌∷◌, ◌++◌, length}
 use Rattle.std.specs.List.{slice_get}
 use Rattle.std.proofs.lemmas.Bool.{cases_lt}
 use Rattle.sides.specs.declared.side.Side.{Side}
 use Rattle.sides.specs.declared.side.Side.TheVariants.{A, B}
 use Rattle.sides.specs.Side.{peer}
+use Rattle.stream_lanes.specs.Words.{Has}
+use Rattle.subflow_send.specs.Records.{Record}
 use Rattle.path_core.specs.State.{PathState, end_at}
 use Rattle.path_core.specs.Values.{Carried, values}
 use Rattle.world_laws.specs.declared.member.Member.TheVariants.{Path}
@@ -15,7 +17,7 @@ use Rattle.whole_paths.specs.AsFar.{IsActorAsFar, IsPathAsFar}
 use Rattle.whole_paths.specs.Courses.{harmed_so_far}
 use Rattle.whole_paths.specs.Debts.{OwesOn}
 use Rattle.whole_paths.specs.Finish.{harms_between, harms_of, is_harmed}
-use Rattle.whole_paths.specs.Mending.{EachIsToldSoon, IsOpenTurn, IsToldSoon, IsToldBy, StaysTold}
+use Rattle.whole_paths.specs.Mending.{EachIsToldSoon, IsMended, IsOpenTurn, IsRecordOf, IsToldSoon, IsToldBy, IsWell, StaysTold}
 use Rattle.whole_paths.specs.Mending.{IsToldBy as told_by}
 use Rattle.whole_paths.specs.Mending.{IsToldSoon as told_soon}
 use Rattle.whole_paths.specs.News.{one_if}
@@ -186,3 +188,31 @@ module _ (told : EachIsToldSoon) where
       subst (λ t. OwesOn start plan most (Owes start) debts turns t) (sym step.is) (owes_then start plan most mild turns (Turn.Step step.actor) debts step.before (subst (IsOpenAfter start) step.is step.after) h)
   debts_go_on start plan most debts turns later mild (inr step) h =
       subst (λ t. OwesOn start plan most (Owes start) debts turns t) (sym step.is) (owes_then start plan most mild turns Turn.Round debts step.before (subst (IsOpenAfter start) step.is step.after) h)
+
+-- ---- nothing is owed
+
+empty : (ns : List ℕ) (i n : ℕ) → ns ≡ [] → slice_get ns i ≡ Some n → ⊥
+empty [] i n is there = cc
+empty (m ∷ ns) i n is there = cc
+
+none_lost : (s : Side) (debts : ℕ) (p : PathState Carried) → debts ≡ 0 → OwesBy s debts p → (r : Record) → IsRecordOf (end_at s p) r → IsWell s p r
+none_lost s debts p none h r has = ⊎_elim (λ is. is) (λ among. absurd (by h.lost among (let few = h.few in omega (arith, few, none)))) (h.well r has)
+  where
+    by : (lost : List ℕ) → Has (λ n. n ≡ r.pos) lost → length lost ≤ 0 → ⊥
+    by [] among few = empty [] among.at among.item refl among.there
+    by (n ∷ ns) among few = omega (arith, few)
+
+all_told : (s : Side) (debts : ℕ) (p : PathState Carried) → debts ≡ 0 → OwesBy s debts p → IsToldSoon (peer s) p
+all_told s debts p none h = ⊎_elim (λ is. is) (λ one. absurd (let few = h.few in omega (arith, few, none, one))) h.told
+
+-- where nothing is owed nothing is to be mended
+pub none_owed : (p : PathState Carried) → OwesAt 0 p → IsMended p
+none_owed p h = record { records = λ s. record { each = λ i r there. well s r (record { at = i; item = r; there = there; holds = refl }) }; told = told }
+  where
+    well : (s : Side) (r : Record) → IsRecordOf (end_at s p) r → IsWell s p r
+    well A = none_lost A h.by_a p (let few = h.few in omega (arith, few)) h.a
+    well B = none_lost B h.by_b p (let few = h.few in omega (arith, few)) h.b
+
+    told : (s : Side) → IsToldSoon s p
+    told A = all_told B h.by_b p (let few = h.few in omega (arith, few)) h.b
+    told B = all_told A h.by_a p (let few = h.few in omega (arith, few)) h.a
