@@ -16,7 +16,6 @@ use Rattle.world_laws.specs.RoundDone.{reached}
 use Rattle.world_laws.specs.Worlds.{Turn, WorldState}
 use Rattle.whole_paths.specs.Delivery.{IsAllThere}
 use Rattle.whole_paths.specs.Finish.{IsPathAt}
-use Rattle.whole_paths.specs.Mending.{EachIsToldSoon}
 use Rattle.whole_paths.specs.OnePathScripts.{BeginsWithOnePath}
 use Rattle.whole_paths.specs.Pushed.{IsPushed}
 use Rattle.whole_paths.specs.SegmentRounds.{ASegmentIsRead, IsHeard, IsRound, IsWellAfter, Rounds, read_after, written_after}
@@ -28,7 +27,7 @@ use Rattle.whole_paths.proofs.RecordWaits.{path_is}
 use Rattle.whole_paths.proofs.RoundSteps.{Between, IsPathThere, begins_so, begun, between, ended, far, one_between, open_last, path_there, read, same_books, silent, then_between, there_whole, wrote}
 use Rattle.whole_paths.proofs.SegmentRounds.{bring, counts, if_may, path_far, stays_there, tell, una_up, unfinished}
 
-module _ (told : EachIsToldSoon) (start : Start) (plan : PathPlan) (x : BeginsWithOnePath start plan) (s : Side) (v a b u : List Turn)
+module _ (start : Start) (plan : PathPlan) (x : BeginsWithOnePath start plan) (s : Side) (v a b u : List Turn)
     (first : Rounds start 5 v a) (second : Rounds start 2 a b) (third : Rounds start 5 b u) (well_v : IsWellAfter start s v) (well_b : IsWellAfter start s b) (heard : IsHeard start plan s v a) where
   abbrev total : ℕ
   total = length (pick s start.file_a start.file_b)
@@ -145,7 +144,7 @@ module _ (told : EachIsToldSoon) (start : Start) (plan : PathPlan) (x : BeginsWi
 
   is_read : Goal
   is_read = ⊎_elim (λ all. whole (stays_there start plan x heard_at came_at s (then_between start heard_at b came_at to_sent to_came) all)) comes
-      (tell start plan x told v heard_at first.1.0 s p told_path.path well_v.here told_path.here well_v.mended)
+      (tell start plan x v heard_at first.1.0 s p told_path.path well_v.here told_path.here well_v.mended)
 
 pub a_segment_is_read : ASegmentIsRead
-a_segment_is_read told start plan x s v a b u first second third well_v well_b heard = is_read told start plan x s v a b u first second third well_v well_b heard
+a_segment_is_read start plan x s v a b u first second third well_v well_b heard = is_read start plan x s v a b u first second third well_v well_b heard

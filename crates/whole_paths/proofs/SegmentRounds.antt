@@ -41,7 +41,7 @@ use Rattle.whole_paths.specs.Delivery.{FinishedIsThere, HasFinished, IsAllThere}
 use Rattle.whole_paths.specs.Finish.{IsPathAt}
 use Rattle.whole_paths.specs.Kept.{AreKept, EndsKeepWhatWaits, IsSameRecord, KeepsWhatWaits}
 use Rattle.whole_paths.specs.Mapped.{EndsAreLive, IsMapped, IsToLearn}
-use Rattle.whole_paths.specs.Mending.{EachIsToldSoon, IsAllThereOf, IsThereBy, IsToldBy, IsToldSoon, IsWell}
+use Rattle.whole_paths.specs.Mending.{IsAllThereOf, IsThereBy, IsToldBy, IsToldSoon, IsWell}
 use Rattle.whole_paths.specs.Mending.{IsThereBy as there_by, IsToldBy as told_by, IsToldSoon as told_soon, IsWell as well_by}
 use Rattle.whole_paths.specs.Mild.{EndsGoByMappings}
 use Rattle.whole_paths.specs.OnePathScripts.{BeginsWithOnePath}
@@ -69,6 +69,7 @@ use Rattle.whole_paths.proofs.PositionCounts.{positions_count_bytes}
 use Rattle.whole_paths.proofs.Reached.{EndsAreReached, Joined, Line, each_is_reached}
 use Rattle.whole_paths.proofs.RecordWaits.{path_is}
 use Rattle.whole_paths.proofs.RecordsWell.{each_record_stays_well}
+use Rattle.whole_paths.proofs.ToldSoon.{each_answer_comes_soon}
 use Rattle.whole_paths.proofs.RoundSteps.{Between, between, carried, early, far, none_comes, open_first, open_last, over_after, over_before, rounds_later, silent}
 use Rattle.whole_paths.proofs.WholeMappings.{mappings_are_whole}
 
@@ -376,7 +377,7 @@ module _ (start : Start) (plan : PathPlan) (x : BeginsWithOnePath start plan) wh
 
   -- ---- what is told in four rounds
 
-  module _ (told : EachIsToldSoon) (v u : List Turn) (rounds : Rounds start 4 v u) (s : Side) (p q : PathState Carried) (here : IsPathAt 0 (at v) p) (there : IsPathAt 0 (at u) q) (mended : NothingIsToMend p) where
+  module _ (v u : List Turn) (rounds : Rounds start 4 v u) (s : Side) (p q : PathState Carried) (here : IsPathAt 0 (at v) p) (there : IsPathAt 0 (at u) q) (mended : NothingIsToMend p) where
     told_between : Between start v u
     told_between = between start 3 v u rounds
 
@@ -387,7 +388,7 @@ module _ (start : Start) (plan : PathPlan) (x : BeginsWithOnePath start plan) wh
     edge = (end_at (peer s) p).tcp.recv.edge
 
     follows : IsToldBy s edge (p.clock + 400) p → edge ≤ (end_at s q).tcp.send.una
-    follows h = by (carried start (IsToldBy s edge (p.clock + 400)) (λ turns turn before after. (told start turns turn (record { mild = x.mild; before = before; after = after }) s).comes edge (p.clock + 400))
+    follows h = by (carried start (IsToldBy s edge (p.clock + 400)) (λ turns turn before after. (each_answer_comes_soon start turns turn (record { mild = x.mild; before = before; after = after }) s).comes edge (p.clock + 400))
         v told_between.more told_between.stays_open p q here (subst (λ t. IsPathAt 0 (at t) q) told_between.is there) h)
       where
         by : IsToldBy s edge (p.clock + 400) q → edge ≤ (end_at s q).tcp.send.una
@@ -416,4 +417,4 @@ pub four_rounds_bring : FourRoundsBring
 four_rounds_bring start plan v u x rounds s p q here there mended = bring start plan x v u rounds s p q here there mended
 
 pub four_rounds_tell : FourRoundsTell
-four_rounds_tell told start plan v u x rounds s p q here there mended = tell start plan x told v u rounds s p q here there mended
+four_rounds_tell start plan v u x rounds s p q here there mended = tell start plan x v u rounds s p q here there mended

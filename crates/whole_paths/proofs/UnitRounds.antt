@@ -23,7 +23,6 @@ use Rattle.whole_paths.specs.Delivery.{AllIsThere, IsAllThere}
 use Rattle.whole_paths.specs.EndRounds.{AnEndComes, EndIsKnown, IsClosed}
 use Rattle.whole_paths.specs.Finish.{payload_of, segments}
 use Rattle.whole_paths.specs.GoingOn.{steps_of}
-use Rattle.whole_paths.specs.Mending.{EachIsToldSoon}
 use Rattle.whole_paths.specs.News.{one_if}
 use Rattle.whole_paths.specs.Mild.{IsMildStart}
 use Rattle.whole_paths.specs.OnePathScripts.{BeginsWithOnePath}
@@ -190,7 +189,7 @@ module _ (start : Start) (plan : PathPlan) (x : BeginsWithOnePath start plan) wh
       let of_closed : one_if (written_by s (at v)).closed ≡ 1 = ap one_if closed in
       let of_known : one_if (is_some (arrived_at (peer s) (at v)).known_end) ≡ 1 = ap one_if known in omega (arith, of_read, of_closed, of_known)
 
-  module _ (told : EachIsToldSoon) (room : 29 ≤ plan.mss) (Well : List Turn → Type 0) (so : ((turns : List Turn) → Well turns → IsAllWell start turns)) (hears : WhatIsToldIsHeard start plan Well)
+  module _ (room : 29 ≤ plan.mss) (Well : List Turn → Type 0) (so : ((turns : List Turn) → Well turns → IsAllWell start turns)) (hears : WhatIsToldIsHeard start plan Well)
       (v u : List Turn) (rounds : WellRounds start Well 13 v u) where
     -- five rounds, two, five, and one
     last_part : Parted start Well 12 1 v u
@@ -226,7 +225,7 @@ module _ (start : Start) (plan : PathPlan) (x : BeginsWithOnePath start plan) wh
     -- a stream of which bytes are left
     reads : (s : Side) → read_after start s v < length (pick s start.file_a start.file_b) → units_of s v < units_of s u
     reads s left =
-        let more = a_segment_is_read told start plan x s v a_part.between_them b_part.between_them last_part.between_them first_rounds second_rounds third_rounds (well_v s)
+        let more = a_segment_is_read start plan x s v a_part.between_them b_part.between_them last_part.between_them first_rounds second_rounds third_rounds (well_v s)
         (so b_part.between_them (well_after start Well 7 v b_part.between_them b_part.first) s) (hears.heard s v a_part.between_them a_part.first) in
         let up = ((far start last_part.between_them u last_round).sides (peer s)).arrival.read in
         units_rise s v u all_between (inl (segment_rises plan.mss (length (pick s start.file_a start.file_b)) (read_after start s v) (read_after start s u) left (omega (arith, more, up, room))))
@@ -239,7 +238,7 @@ module _ (start : Start) (plan : PathPlan) (x : BeginsWithOnePath start plan) wh
         acked = (let came = (hears.heard s v a_part.between_them a_part.first).acked in let low : read_after start s v ≤ received (arrived_at (peer s) (at v)) = omega arith in omega (arith, came, low, all))
 
         comes : AnEndComes start s b_part.between_them end_part.between_them
-        comes = an_end_is_told told start plan x s v a_part.between_them b_part.between_them end_part.between_them first_rounds second_rounds
+        comes = an_end_is_told start plan x s v a_part.between_them b_part.between_them end_part.between_them first_rounds second_rounds
             (rounds_of start Well 4 b_part.between_them end_part.between_them end_part.first) (well_v s).path (well_v s).here (well_v s).mended all acked (hears.fins s b_part.between_them end_part.between_them end_part.first)
 
         to_end : Between start b_part.between_them u
@@ -282,14 +281,14 @@ module _ (start : Start) (plan : PathPlan) (x : BeginsWithOnePath start plan) wh
         (of_side A)
 
 -- ... whatever says that all is well, so that more may be said of it than that
-pub unit_so : EachIsToldSoon → (start : Start) (plan : PathPlan) → BeginsWithOnePath start plan → (Well : List Turn → Type 0)
+pub unit_so : (start : Start) (plan : PathPlan) → BeginsWithOnePath start plan → (Well : List Turn → Type 0)
     → ((turns : List Turn) → Well turns → IsAllWell start turns) → WhatIsToldIsHeard start plan Well → (v u : List Turn) → WellRounds start Well 13 v u
     → (most_units start plan ≤ units start plan (reached values start v)) ⊎ (units start plan (reached values start v) < units start plan (reached values start u))
-unit_so told start plan x Well so hears v u rounds =
-    unit_more start plan x told ((subst (Every (λ (y : PathPlan). 29 ≤ y.mss)) x.one x.mild.plain.size).each 0 plan refl) Well so hears v u rounds
+unit_so start plan x Well so hears v u rounds =
+    unit_more start plan x ((subst (Every (λ (y : PathPlan). 29 ≤ y.mss)) x.one x.mild.plain.size).each 0 plan refl) Well so hears v u rounds
 
 pub a_unit_is_made : AUnitIsMade
-a_unit_is_made told start plan x hears v u rounds = unit_so told start plan x (IsAllWell start) (λ turns is. is) hears v u rounds
+a_unit_is_made start plan x hears v u rounds = unit_so start plan x (IsAllWell start) (λ turns is. is) hears v u rounds
 
 -- ---- where all units are there
 

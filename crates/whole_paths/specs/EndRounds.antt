@@ -12,7 +12,6 @@ use Rattle.world_laws.specs.Promises.{arrived_at, written_by}
 use Rattle.world_laws.specs.RoundDone.{reached}
 use Rattle.world_laws.specs.Worlds.{Turn}
 use Rattle.whole_paths.specs.Finish.{IsPathAt}
-use Rattle.whole_paths.specs.Mending.{EachIsToldSoon}
 use Rattle.whole_paths.specs.OnePathScripts.{BeginsWithOnePath}
 use Rattle.whole_paths.specs.SegmentRounds.{NothingIsToMend, Rounds, read_after}
 
@@ -37,7 +36,7 @@ pub record AnEndComes (start : Start) (s : Side) (b u : List Turn) : Type 0 wher
   pub known : EndIsKnown start s u
 
 abbrev pub AnEndIsTold : Type 0
-AnEndIsTold = EachIsToldSoon → (start : Start) (plan : PathPlan) → BeginsWithOnePath start plan → (s : Side) (v a b u : List Turn)
+AnEndIsTold = (start : Start) (plan : PathPlan) → BeginsWithOnePath start plan → (s : Side) (v a b u : List Turn)
     → Rounds start 5 v a → Rounds start 2 a b → Rounds start 4 b u
     → (p : PathState Carried) → IsPathAt 0 (reached values start v) p → NothingIsToMend p
     → let file = length (pick s start.file_a start.file_b) in file ≤ read_after start s v

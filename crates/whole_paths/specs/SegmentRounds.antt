@@ -16,7 +16,7 @@ use Rattle.world_laws.specs.Worlds.{Turn, all_over}
 use Rattle.whole_paths.specs.Delivery.{IsAllThere}
 use Rattle.whole_paths.specs.Finish.{IsPathAt}
 use Rattle.whole_paths.specs.GoingOn.{steps_of}
-use Rattle.whole_paths.specs.Mending.{EachIsToldSoon, IsToldSoon, IsWell}
+use Rattle.whole_paths.specs.Mending.{IsToldSoon, IsWell}
 use Rattle.whole_paths.specs.OnePathScripts.{BeginsWithOnePath}
 use Rattle.whole_paths.specs.OpenCourses.{IsOpenAfter}
 use Rattle.whole_paths.specs.SentInOrder.{sent_up_to}
@@ -88,7 +88,7 @@ FourRoundsBring = (start : Start) (plan : PathPlan) (v u : List Turn) → Begins
 
 -- And the end hears how far the peer was.
 abbrev pub FourRoundsTell : Type 0
-FourRoundsTell = EachIsToldSoon → (start : Start) (plan : PathPlan) (v u : List Turn) → BeginsWithOnePath start plan → Rounds start 4 v u → (s : Side)
+FourRoundsTell = (start : Start) (plan : PathPlan) (v u : List Turn) → BeginsWithOnePath start plan → Rounds start 4 v u → (s : Side)
     → (p q : PathState Carried) → IsPathAt 0 (reached values start v) p → IsPathAt 0 (reached values start u) q → NothingIsToMend p
     → IsAllThere s (reached values start u) ⊎ ((end_at (peer s) p).tcp.recv.edge ≤ (end_at s q).tcp.send.una)
 
@@ -97,6 +97,6 @@ FourRoundsTell = EachIsToldSoon → (start : Start) (plan : PathPlan) (v u : Lis
 -- Of a stream the peer's reader reads a full segment's payload more within twelve rounds, or all of it, where nothing is to be mended as the first
 -- one begins and once seven are over, and what was told is heard in the first five.
 abbrev pub ASegmentIsRead : Type 0
-ASegmentIsRead = EachIsToldSoon → (start : Start) (plan : PathPlan) → BeginsWithOnePath start plan → (s : Side) (v a b u : List Turn)
+ASegmentIsRead = (start : Start) (plan : PathPlan) → BeginsWithOnePath start plan → (s : Side) (v a b u : List Turn)
     → Rounds start 5 v a → Rounds start 2 a b → Rounds start 5 b u → IsWellAfter start s v → IsWellAfter start s b → IsHeard start plan s v a
     → min (length (pick s start.file_a start.file_b)) (read_after start s v + (plan.mss - 28)) ≤ read_after start s u

@@ -1,14 +1,16 @@
 -- Short waits, in which a unit is made: they begin where nothing is to be mended, and thirteen rounds in which nothing is bring a unit more.
-use Rattle.std.specs.Prelude.{ℕ, ◌+◌, ◌<◌, ◌≤◌, ◌⊎◌, List}
+use Rattle.std.specs.Prelude.{ℕ, ◌+◌, ◌*◌, ◌<◌, ◌≤◌, ◌⊎◌, List}
+use Rattle.sides.specs.declared.side.Side.{Side}
+use Rattle.path_core.specs.State.{end_at}
 use Rattle.path_core.specs.Values.{values}
 use Rattle.world_laws.specs.Openings.{PathPlan, Start}
 use Rattle.world_laws.specs.RoundDone.{reached}
 use Rattle.world_laws.specs.Worlds.{Turn}
 use Rattle.whole_paths.specs.Courses.{harmed_so_far, round_end}
 use Rattle.whole_paths.specs.Debts.{AreMended, AwaitsEither, DebtsAreMended, ShortWaits}
-use Rattle.whole_paths.specs.Mending.{EachIsToldSoon}
 use Rattle.whole_paths.specs.OnePathScripts.{BeginsWithOnePath}
 use Rattle.whole_paths.specs.SharpCourses.{SharpExchanges, most_units, price, units}
+use Rattle.whole_paths.specs.Unmended.{Owes}
 use Rattle.whole_paths.specs.UnitRounds.{IsAllWell, WaitsSince, WellRounds, WhatIsToldIsHeard}
 
 module _ (start : Start) (plan : PathPlan) (Owes : ℕ → List Turn → Type 0) where
@@ -44,7 +46,12 @@ UnitsAreAwaited = (start : Start) (plan : PathPlan) (most : ℕ) (Owes : ℕ →
 
 -- So exchanges go on as `patience` asks where debts are mended, where all is well without any, and where what is told is heard then.
 abbrev pub ExchangesGoOnSo : Type 1
-ExchangesGoOnSo = EachIsToldSoon → (start : Start) (plan : PathPlan) (most : ℕ) (Owes : ℕ → List Turn → Type 0) (Mends : ℕ → ℕ → List Turn → Type 0)
+ExchangesGoOnSo = (start : Start) (plan : PathPlan) (most : ℕ) (Owes : ℕ → List Turn → Type 0) (Mends : ℕ → ℕ → List Turn → Type 0)
     → BeginsWithOnePath start plan → DebtsAreMended start plan most Owes Mends → ((turns : List Turn) → Owes 0 turns → IsAllWell start turns)
     → WhatIsToldIsHeard start plan (Owes 0)
     → SharpExchanges start plan most (AreMended start plan most Owes) (AwaitsEither start plan most Owes Mends (WaitsForAUnit start plan Owes))
+
+-- Where no debt is, of records that may be lost and of acknowledgements, all is well, as long as both congestion windows hold two full segments.
+abbrev pub WhatIsNotOwedIsWell : Type 0
+WhatIsNotOwedIsWell = (start : Start) (turns : List Turn) (h : Owes start 0 turns)
+    → ((s : Side) → 2 * h.path.profile.mss ≤ (end_at s h.path).tcp.congestion.reno.window) → IsAllWell start turns

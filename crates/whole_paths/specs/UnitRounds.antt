@@ -10,7 +10,6 @@ use Rattle.whole_paths.specs.Courses.{round_end}
 use Rattle.whole_paths.specs.Delivery.{AllIsThere}
 use Rattle.whole_paths.specs.EndRounds.{EndIsKnown, FinIsSent}
 use Rattle.whole_paths.specs.GoingOn.{steps_of}
-use Rattle.whole_paths.specs.Mending.{EachIsToldSoon}
 use Rattle.whole_paths.specs.Mild.{IsMildStart}
 use Rattle.whole_paths.specs.OnePathScripts.{BeginsWithOnePath}
 use Rattle.whole_paths.specs.OpenCourses.{IsOpenAfter}
@@ -60,7 +59,7 @@ abbrev pub ShortWaitsGoOn : Type 0
 ShortWaitsGoOn = (start : Start) → WaitsGoOn start (IsAllWell start)
 
 abbrev pub AUnitIsMade : Type 0
-AUnitIsMade = EachIsToldSoon → (start : Start) (plan : PathPlan) → BeginsWithOnePath start plan
+AUnitIsMade = (start : Start) (plan : PathPlan) → BeginsWithOnePath start plan
     → WhatIsToldIsHeard start plan (IsAllWell start) → (v u : List Turn) → WellRounds start (IsAllWell start) 13 v u
     → (most_units start plan ≤ units start plan (reached values start v))
     ⊎ (units start plan (reached values start v) < units start plan (reached values start u))

@@ -44,6 +44,7 @@ ghost use Rattle.whole_paths.specs.SegmentRounds.{ASegmentIsRead, EachRoundReads
 ghost use Rattle.whole_paths.specs.RecordsPassed.{FirstRecordsArePassed, RecordsComeInTime};
 ghost use Rattle.whole_paths.specs.SenderWaits.{SendersAreAwaited};
 ghost use Rattle.whole_paths.specs.SentInOrder.{EachIsSentInOrder};
+ghost use Rattle.whole_paths.specs.ShortWaits.{WhatIsNotOwedIsWell};
 ghost use Rattle.whole_paths.specs.ShutWaits.{ShutWindowsOpenInTime};
 ghost use Rattle.whole_paths.specs.ShutWindows.{ShutWindowsHaveRoom};
 ghost use Rattle.whole_paths.specs.SignWaits.{FirstSignsAreAwaited};
@@ -207,10 +208,10 @@ pub fn each_round_writes_and_reads()
 /// A law: where nothing is to be mended, all that an open end sent comes within four rounds (`brought`), and as soon the end is told how far the peer
 /// was (`told`); so the peer's reader reads a full segment more in twelve rounds (`read`), or all of the stream.
 ///
-/// It is said of a mild connection over one path, between moments at which the path is open, whose ends are told soon, as a premise says. For `read`
-/// nothing is to be mended as the rounds begin and after seven of them, the congestion window holds two full segments then, and what the
-/// peer could tell of the stream is heard in the first five: the Data ACK, and a window that takes a full segment. Then come a round in which the
-/// application writes, one in which the end sends, four in which that comes, and one in which it is read.
+/// It is said of a mild connection over one path, between moments at which the path is open. For `read` nothing is to be mended as the rounds begin and
+/// after seven of them, the congestion window holds two full segments then, and what the peer could tell of the stream is heard in the first
+/// five, as a premise says: the Data ACK, and a window that takes a full segment. Then come a round in which the application writes, one in which the
+/// end sends, four in which that comes, and one in which it is read.
 pub fn a_segment_is_read()
     ensures brought { FourRoundsBring }
     ensures told { FourRoundsTell }
@@ -219,9 +220,9 @@ pub fn a_segment_is_read()
 
 /// A law: where nothing is to be mended, and all of a stream is read, the peer's side knows where it ends in eleven rounds (RFC 8684, section 3.3.3).
 ///
-/// It is said of a mild connection over one path, between moments at which the path is open, whose ends are told soon, and where all of the stream is
-/// acknowledged in the first five rounds. Then it is closed in the next one, and in the one after that its end sends the DATA_FIN, or the
-/// peer's side knows the end. That the DATA_FIN which is sent so comes in four more rounds is a premise.
+/// It is said of a mild connection over one path, between moments at which the path is open, where all of the stream is acknowledged in the first five
+/// rounds. Then it is closed in the next one, and in the one after that its end sends the DATA_FIN, or the peer's side knows the end. That the
+/// DATA_FIN which is sent so comes in four more rounds is a premise.
 pub fn an_end_is_told()
     ensures { AnEndIsTold }
 {}
@@ -229,13 +230,14 @@ pub fn an_end_is_told()
 /// A law: in thirteen rounds in which nothing is to be mended a stream goes on by a full segment or by its end, or all is read and told.
 ///
 /// It is said of a mild connection over one path, as long as all is well: nothing of path 0 is to be mended then, and both congestion windows hold two
-/// full segments. A wait for such rounds begins with each of them, and it goes on by each turn as long as all is well. That each end is told
-/// soon, that what the peer could tell is heard in five rounds, and that a DATA_FIN comes in four, are premises. Where there are as many units as
-/// can be (`all`), all of both streams is with the peers.
+/// full segments. A wait for such rounds begins with each of them, and it goes on by each turn as long as all is well. That what the peer could
+/// tell is heard in five rounds, and that a DATA_FIN comes in four, are premises. Where there are as many units as can be (`all`), all of
+/// both streams is with the peers. Where no record may be lost and each end is told soon (`free`), nothing is to be mended.
 pub fn a_unit_is_made()
     ensures waits { ShortWaitsGoOn }
     ensures made { AUnitIsMade }
     ensures all { AllUnitsAreThere }
+    ensures free { WhatIsNotOwedIsWell }
 {}
 
 /// A law: where no line of a script speaks of a direction, each segment of a path that is harmed uses a line by which one is lost or late.
