@@ -294,8 +294,11 @@ run_clean = run_so values AllClean
 
 opened_clean : (start : Start) → list_all is_harmless_to_ends start.lines ≡ true → AllClean (opened_world start)
 opened_clean start harmless = record {
-  crew = λ actor c there. ((each_spared values start [] harmless).each actor c there, (opened_lifted (λ c. CleanMember c.member) start tt tt
-      (λ number plan at. turn_clean (waiting_path (path_begins start number plan) start.lines) (elim [ A ↦ refl | B ↦ refl ]) (elim [ A ↦ refl | B ↦ refl ]) (record { each = λ i f at. cc }))).each actor c there);
+  crew = λ actor c there. (
+    (each_spared values start [] harmless).each actor c there,
+    (opened_lifted (λ c. CleanMember c.member) start tt tt
+        (λ number plan at. turn_clean (waiting_path (path_begins start number plan) start.lines) (elim [ A ↦ refl | B ↦ refl ]) (elim [ A ↦ refl | B ↦ refl ]) (record { each = λ i f at. cc }))).each actor c there,
+  );
   books = elim [ A ↦ opening_keeps A start.key_a | B ↦ opening_keeps B start.key_b ];
 }
 
