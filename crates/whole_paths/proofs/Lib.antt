@@ -158,6 +158,7 @@ pub mod Writers
 pub mod Endings
 pub mod EndedStreams
 pub mod Ends
+pub mod EndsHeard
 pub mod Counted
 pub mod OpenCourses
 pub mod Finishing

@@ -133,7 +133,7 @@ lawful_rest : (ts us : List Turn) (w : WorldState Carried) → AreLawful values 
 lawful_rest [] us w lawful = lawful
 lawful_rest (t ∷ ts) us w lawful = lawful_rest ts us (after_turn values t w) lawful.1
 
-rounds_so : (n rounds : ℕ) → n / 100 + 4 ≤ rounds → n + 300 < 100 * rounds
+pub rounds_so : (n rounds : ℕ) → n / 100 + 4 ≤ rounds → n + 300 < 100 * rounds
 rounds_so n rounds many = let less = lt-div-mul-add {a = n} {b = 100} (omega arith) in omega (arith, less, many)
 
 pub ends_as_it_begins : EndsAsItBegins values

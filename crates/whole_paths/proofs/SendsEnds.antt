@@ -259,7 +259,7 @@ plain_none_next : (e : PathEnd) → e.modes.identity ≡ false → e.modes.own_i
 plain_none_next e identity infinite = rw (identity, infinite) refl
 
 pub record EndsClear (p : PathState Carried) : Type 0 where
-  leads : LeadsWell p
+  pub leads : LeadsWell p
   pub acked : own_acked p ≡ true → p.a.modes.clear ≡ true
   pub ended : is_ending p.a.tcp.state ≡ true → p.a.modes.clear ≡ true
 
@@ -359,7 +359,7 @@ module _ (start : Start) (mild : IsMildStart start) where
     each = λ c there. (opened_lifted (λ c. Of EndsClear c.member) start tt tt (λ number plan at. opened_ends start number plan)).each 2 c there;
   }
 
-  each_ends : (turns : List Turn) → OfFirst EndsClear (reached values start turns)
+  pub each_ends : (turns : List Turn) → OfFirst EndsClear (reached values start turns)
   each_ends = each_first_moment values start Known EndsClear known opened_first (λ r p k h. takes_ends start p k.given k.met k.maps h r) (λ p k h. next_ends start p k.given k.met k.maps h)
 
   done_clear : (p : PathState Carried) → EndsClear p → HasFinished p.a → p.a.modes.clear ≡ true

@@ -1,9 +1,10 @@
 -- An end of a path that doesn't join may send a DSS only past the handshake: it may from the first copy on that it takes.
-use Rattle.std.specs.Prelude.{◌≡◌, ◌≤◌, ℕ, Some, List, false, true}
+use Rattle.std.specs.Prelude.{◌≡◌, ◌≤◌, ℕ, None, Some, List, [], false, true}
 use Rattle.std.specs.List.{slice_get}
 use Rattle.sides.specs.declared.side.Side.{Side}
 use Rattle.path_core.specs.Codec.{Codec}
 use Rattle.path_core.specs.MpJoin.{is_joined}
+use Rattle.path_core.specs.End.{PathEnd}
 use Rattle.path_core.specs.State.{PathState, end_at}
 use Rattle.path_core.specs.Values.{Carried, values}
 use Rattle.world_laws.specs.Actors.{ActorCrew}
@@ -20,6 +21,16 @@ use Rattle.whole_paths.specs.Mild.{IsMildStart}
 abbrev pub WhoIsDoneIsClear : Type 0
 WhoIsDoneIsClear = (start : Start) (turns : List Turn) → IsMildStart start → (p : PathState Carried) → IsPathAt 0 (reached values start turns) p → HasFinished p.a
     → p.a.modes.clear ≡ true
+
+-- no end of the peer's stream is to be told at the end: none that a DATA_FIN said, alone or behind bytes
+pub record HearsNoEnd (e : PathEnd) : Type 0 where
+  pub fins : e.treated.fins ≡ []
+  pub mapped : e.receiving.mapped_data_fin ≡ None
+
+-- on path 0 of a mild connection none is at A's end, as long as it may send no DSS
+abbrev pub AHearsNoEndBefore : Type 0
+AHearsNoEndBefore = (start : Start) (turns : List Turn) → IsMildStart start → (p : PathState Carried) → IsPathAt 0 (reached values start turns) p → p.a.modes.clear ≡ false
+    → HearsNoEnd p.a
 
 module _ {C : Type 0} where
   abbrev pub IsPastIfClear : PathState C → Type 0

@@ -31,7 +31,7 @@ ghost use Rattle.whole_paths.specs.OpenAsks.{OpenAsksAreInTime, OpenAsksGoOn, Op
 ghost use Rattle.whole_paths.specs.OnlyPaths.{long_patience, news_within};
 ghost use Rattle.whole_paths.specs.OverOctets.{FewLossesFinishAsOverValues, OctetsAreAsFarAsValues, OnePathEndsAsOverValues, BriefPathsDeliverAsOverValues, WholePathsDeliverAsOverValues};
 ghost use Rattle.whole_paths.specs.OpenCourses.{WhatHoldsUpCounts};
-ghost use Rattle.whole_paths.specs.OpeningCourses.{DeliversWithin, OpensWithin};
+ghost use Rattle.whole_paths.specs.OpeningCourses.{opening_patience, DeliversWithin, FirmPathsEnd, OpensWithin};
 ghost use Rattle.whole_paths.specs.OpeningWaits.{EndsOpenOrArePast, LivingEndsOpenOrArePast, OpeningsAreAwaited};
 ghost use Rattle.whole_paths.specs.Outstanding.{WhatIsOutstandingIsAwaited};
 ghost use Rattle.whole_paths.specs.OverOctets.{FewLossesFinishAsOverValues, OctetsAreAsFarAsValues, OnePathEndsAsOverValues, BriefPathsDeliverAsOverValues, WholePathsDeliverAsOverValues};
@@ -532,11 +532,13 @@ pub fn whole_paths_deliver()
 /// a premise: A may send a DSS only once B may, and may where all of B's stream is with A; A's first piece waits while B, past the handshake, may
 /// send none; and until A may, an end of B's without a record was granted nothing and knows of no shut window (RFC 8684, section 3.1). What else
 /// it needs is so: an end that may send a DSS is past the handshake, and A's end has finished only where it may (`clear_ends_are_past`). It is
-/// said of mild connections over one path with buffers of 4,096 octets at least, over segments as values, and of fewer than 2^64 - 1 turns.
-/// Enough rounds are as many as in `whole_paths_deliver`, twice.
+/// said of mild connections over one path with buffers of 4,096 octets at least, and of fewer than 2^64 - 1 turns; and of scripts of one path,
+/// over segments as values and over octets (`values`, `octets`). Enough rounds are as many as in `whole_paths_deliver`, twice.
 pub fn firm_openings_deliver()
     ensures opens { OpensWithin (for_all_news news_within) }
     ensures delivers { DeliversWithin (for_all_news news_within) }
+    ensures octets { FirmPathsEnd octets opening_patience }
+    ensures values { FirmPathsEnd values opening_patience }
 {}
 
 /// A law: on a lane that loses segments all is acknowledged, or the end gave up, after five rounds or so for each segment and two

@@ -1,6 +1,7 @@
 use Rattle.path_core.specs.Octets.{octets}
 use Rattle.path_core.specs.Values.{values}
 use Rattle.whole_paths.proofs.Clearing as clearing
+use Rattle.whole_paths.proofs.EndsHeard as ends_heard
 use Rattle.whole_paths.proofs.SendsEnds as sends_ends
 use Rattle.whole_paths.proofs.laws.clear_ends_are_past.Goals as goal
 
@@ -12,3 +13,6 @@ returns-clause-values c = clearing.clear_ends_are_past values
 
 pub returns-clause-done : goal.returns-clause-done
 returns-clause-done c = sends_ends.who_is_done_is_clear
+
+pub returns-clause-unheard : goal.returns-clause-unheard
+returns-clause-unheard c = ends_heard.a_hears_no_end_before
