@@ -34,6 +34,11 @@ mod FinePositions
 mod MapPositions
 mod SentGrows
 mod Passed
+mod Granted
+mod Begun
+mod Pending
+mod Handed
+mod WasSent
 mod Reached
 mod FineMoments
 mod MapKept
