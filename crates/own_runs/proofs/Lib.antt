@@ -7,6 +7,11 @@ mod Traces
 mod Own
 mod Values
 mod Nonces
+mod RecordsKept
+mod ShortPieces
+mod ShortOctets
+mod FateWords
+mod Ticks
 mod Syns
 mod Speaking
 mod Offering
@@ -43,6 +48,7 @@ mod Reached
 mod FineMoments
 mod MapKept
 mod OwnTrace
+mod Fitting
 mod TokenSegments
 mod TokenState
 mod TokenPackets
