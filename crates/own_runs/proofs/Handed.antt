@@ -1,6 +1,6 @@
 -- What was granted to a path was handed to its link in a segment of the trace, or goes out by the path's next step. So what a receiver passed was
 -- sent before.
-use Rattle.std.proofs.Common.{◌≡◌, refl, sym, ap, ◌∙◌, subst, ℕ, suc, ◌+◌, ◌≤◌, ◌<◌, ◌⊎◌, inl, inr, ⊎_elim, true, Option, Some, None, option_map, List, ◌++◌, length, arith}
+use Rattle.std.proofs.Common.{◌≡◌, refl, sym, ap, ◌∙◌, subst, ℕ, suc, ◌+◌, ◌≤◌, ◌<◌, ◌⊎◌, inl, inr, ⊎_elim, true, Option, Some, None, option_map, List, ◌++◌, length, take, drop, arith}
 use Rattle.std.specs.Prelude.{is_some}
 use Rattle.std.specs.List.{slice_get}
 use Rattle.std.specs.Option.{IfSome, option_to_list}
@@ -24,7 +24,7 @@ use Rattle.sides.specs.declared.side.Side.{Side}
 use Rattle.stream_lanes.proofs.Lists.{Has-more, in_map}
 use Rattle.stream_lanes.specs.Duo.{Duo}
 use Rattle.stream_lanes.specs.Holding.{Holds, LaneHolds}
-use Rattle.stream_lanes.specs.Lane.{Lane}
+use Rattle.stream_lanes.specs.Lane.{Cell, Lane}
 use Rattle.path_core.specs.Profile.{Profile}
 use Rattle.stream_lanes.specs.Words.{Every, Has}
 use Rattle.subflow_send.specs.Records.{Record}
@@ -37,13 +37,21 @@ use Rattle.world_laws.specs.Actors.{Actor, ActorCrew}
 use Rattle.world_laws.specs.Openings.{PathPlan, Start}
 use Rattle.world_laws.specs.Worlds.{WorldState}
 use Rattle.world_laws.specs.declared.member.Member.TheVariants.{Path}
+use Rattle.own_runs.specs.Runs.{file_of}
 use Rattle.own_runs.proofs.Granted.{way}
 use Rattle.own_runs.proofs.Moments.{end_shown, first_same}
 use Rattle.own_runs.proofs.Pending.{SendsNext}
 use Rattle.own_runs.proofs.Speaking.{ToSend}
 
--- the segment has the octet at a position of a side's subflow, where positions count octets alone, from 0 on
-pub record Covers (n : ℕ) (s : Side) (position : ℕ) (x : Sent) : Type 0 where
+-- these octets of a side's file from a place on have this one
+pub record HasPart (file : List ℕ) (place : ℕ) (piece : List ℕ) : Type 0 where
+  pub first : ℕ
+  pub below : first ≤ place
+  pub above : place < first + length piece
+  pub part : piece ≡ take (length piece) (drop first file)
+
+-- The segment has the octet at a position of a side's subflow, where positions count octets alone, from 0 on, and that octet has this place.
+pub record Covers (start : Start) (n : ℕ) (s : Side) (position place : ℕ) (x : Sent) : Type 0 where
   pub path : x.path ≡ n
   pub from : x.from ≡ s
   pub spelling : Spelling
@@ -51,6 +59,7 @@ pub record Covers (n : ℕ) (s : Side) (position : ℕ) (x : Sent) : Type 0 wher
   pub octets : x.octets ≡ made spelling s segment
   pub low : segment.position ≤ suc position
   pub high : suc position < segment.position + length segment.payload
+  pub has : HasPart (file_of start s) place segment.payload
 
 -- ---- a path, and the lane of one of its sides, at a moment
 
@@ -132,44 +141,59 @@ module _ (links : Links) (start : Start) (size : Every (λ (plan : PathPlan). 29
 -- ---- what was sent
 
 -- the rest of what was granted goes out by the path's next step, and its receiver didn't pass any of it
-pub record Waits (s : Side) (p : PathState Carried) (lane : Lane) (upto : ℕ) : Type 0 where
+pub record Waits (start : Start) (s : Side) (p : PathState Carried) (lane : Lane) (upto : ℕ) : Type 0 where
   pub piece : List ℕ
+  pub first : ℕ
+  pub part : piece ≡ take (length piece) (drop first (file_of start s))
+  pub places : (i : ℕ) (cell : Cell) → slice_get lane.sent (upto + i) ≡ Some cell → cell.place ≡ first + i
   pub next : SendsNext s (suc upto) piece p
   pub all : upto + length piece ≡ length lane.sent
   pub bound : (end_at (peer s) p).tcp.recv.edge ≤ suc upto
 
 -- each octet before a position is in the trace, the receiver passed none behind it, and what is behind it goes out next
-pub record SideSent (trace : List Sent) (n : ℕ) (s : Side) (p : PathState Carried) (lane : Lane) : Type 0 where
+pub record SideSent (start : Start) (trace : List Sent) (n : ℕ) (s : Side) (p : PathState Carried) (lane : Lane) : Type 0 where
   pub upto : ℕ
-  pub told : (position : ℕ) → position < upto → Has (Covers n s position) trace
+  pub told : (position : ℕ) (cell : Cell) → position < upto → slice_get lane.sent position ≡ Some cell → Has (Covers start n s position cell.place) trace
   pub edge : lane.edge ≤ upto
-  pub rest : (upto ≡ length lane.sent) ⊎ Waits s p lane upto
+  pub rest : (upto ≡ length lane.sent) ⊎ Waits start s p lane upto
 
-module _ (trace more : List Sent) (n : ℕ) (s : Side) (lane later : Lane) (same : later.sent ≡ lane.sent) where
+module _ (start : Start) (trace more : List Sent) (n : ℕ) (s : Side) (lane later : Lane) (same : later.sent ≡ lane.sent) where
+  was_there : (position : ℕ) (cell : Cell) → slice_get later.sent position ≡ Some cell → slice_get lane.sent position ≡ Some cell
+  was_there position cell there = ap (λ (cells : List Cell). slice_get cells position) (sym same) ∙ there
+
   lengths : length later.sent ≡ length lane.sent
-  lengths = ap (λ (cells : _). length cells) same
+  lengths = ap (λ (cells : List Cell). length cells) same
 
   -- a path that makes no step
-  pub stay_sent : (p : PathState Carried) → IsAt n s p later → SideSent trace n s p lane → SideSent (trace ++ more) n s p later
+  pub stay_sent : (p : PathState Carried) → IsAt n s p later → SideSent start trace n s p lane → SideSent start (trace ++ more) n s p later
   stay_sent p at h = record {
     upto = h.upto;
-    told = λ position below. Has-more more (h.told position below);
+    told = λ position cell below there. Has-more more (h.told position cell below (was_there position cell there));
     edge = edge h.rest;
-    rest = ⊎_elim (λ full. inl (full ∙ sym lengths)) (λ waits. inr (record { piece = waits.piece; next = waits.next; all = waits.all ∙ sym lengths; bound = waits.bound })) h.rest;
+    rest = ⊎_elim (λ full. inl (full ∙ sym lengths)) (λ waits. inr (record {
+      piece = waits.piece;
+      first = waits.first;
+      part = waits.part;
+      places = λ i cell there. waits.places i cell (was_there (h.upto + i) cell there);
+      next = waits.next;
+      all = waits.all ∙ sym lengths;
+      bound = waits.bound;
+    })) h.rest;
   }
     where
-      edge : (h.upto ≡ length lane.sent) ⊎ Waits s p lane h.upto → later.edge ≤ h.upto
+      edge : (h.upto ≡ length lane.sent) ⊎ Waits start s p lane h.upto → later.edge ≤ h.upto
       edge (inl full) = let within = at.within in let long = lengths in omega (arith, within, long, full)
       edge (inr waits) =
           let bound = waits.bound in
           ⊎_elim (λ edge. omega (arith, edge, bound)) (λ fin. let behind = fin.0 in omega (arith, behind, bound)) at.recv
 
   -- a path that has nothing to send
-  pub full_sent : (p q : PathState Carried) → IsAt n s q later → (upto : ℕ) → ((position : ℕ) → position < upto → Has (Covers n s position) trace) → upto ≡ length lane.sent
-      → SideSent (trace ++ more) n s q later
+  pub full_sent : (p q : PathState Carried) → IsAt n s q later → (upto : ℕ)
+      → ((position : ℕ) (cell : Cell) → position < upto → slice_get lane.sent position ≡ Some cell → Has (Covers start n s position cell.place) trace) → upto ≡ length lane.sent
+      → SideSent start (trace ++ more) n s q later
   full_sent p q at upto told full = record {
     upto = upto;
-    told = λ position below. Has-more more (told position below);
+    told = λ position cell below there. Has-more more (told position cell below (was_there position cell there));
     edge = let within = at.within in let long = lengths in omega (arith, within, long, full);
     rest = inl (full ∙ sym lengths);
   }
@@ -184,7 +208,7 @@ last_has : (trace : List Sent) (P : Sent → Type 0) (o : Option Sent) → is_so
 last_has trace P None some is = cc
 last_has trace P (Some x) some is = has_last trace x is
 
-module _ (n : ℕ) (s : Side) (p : PathState Carried) (numbered : path_of p ≡ n) (upto : ℕ) (piece : List ℕ) (next : SendsNext s (suc upto) piece p) where
+module _ (start : Start) (n : ℕ) (s : Side) (p : PathState Carried) (numbered : path_of p ≡ n) (upto : ℕ) (piece : List ℕ) (next : SendsNext s (suc upto) piece p) where
   r : Record
   r = next.record_of
 
@@ -194,8 +218,9 @@ module _ (n : ℕ) (s : Side) (p : PathState Carried) (numbered : path_of p ≡ 
   unsent : first_unsent (end_at s (shown_path p)) ≡ Some next.record_of
   unsent = ap first_unsent (sym (end_shown s p)) ∙ next.unsent
 
-  covers : (position : ℕ) → upto ≤ position → position < upto + length piece → IfSome (sent_of (shown_path p) (unsent_sends s (Some next.record_of))) (Covers n s position)
-  covers position low high = record {
+  covers : (position place : ℕ) → upto ≤ position → position < upto + length piece → HasPart (file_of start s) place piece
+      → IfSome (sent_of (shown_path p) (unsent_sends s (Some next.record_of))) (Covers start n s position place)
+  covers position place low high has = record {
     path = numbered;
     from = refl;
     spelling = p.profile.spelling;
@@ -203,17 +228,18 @@ module _ (n : ℕ) (s : Side) (p : PathState Carried) (numbered : path_of p ≡ 
     octets = ap (λ (o : Option Record). made p.profile.spelling s (record_or_ack p.profile s o (end_at s (shown_path p)))) unsent;
     low = let at = next.position_is in omega (arith, at, low);
     high = let at = next.position_is in let whole = ap (λ (xs : List ℕ). length xs) next.piece_is in omega (arith, at, high, whole);
+    has = subst (HasPart (file_of start s) place) (sym next.piece_is) has;
   }
 
   -- and it is the next one
   is_next : sent_of (shown_path p) (first_sends p.agenda (shown_path p)) ≡ sent_of (shown_path p) (unsent_sends s (Some next.record_of))
   is_next = ap (sent_of (shown_path p)) (first_same p.agenda p ∙ next.sends)
 
-  pub handed : (trace : List Sent) (o : Option Sent) → o ≡ sent_of (shown_path p) (first_sends p.agenda (shown_path p)) → (position : ℕ) → upto ≤ position → position < upto + length piece
-      → Has (Covers n s position) (trace ++ option_to_list o)
-  handed trace o is position low high =
-      last_has trace (Covers n s position) o (ap is_some (is ∙ is_next))
-      (subst (λ (o : Option Sent). IfSome o (Covers n s position)) (sym (is ∙ is_next)) (covers position low high))
+  pub handed : (trace : List Sent) (o : Option Sent) → o ≡ sent_of (shown_path p) (first_sends p.agenda (shown_path p)) → (position place : ℕ) → upto ≤ position → position < upto + length piece
+      → HasPart (file_of start s) place piece → Has (Covers start n s position place) (trace ++ option_to_list o)
+  handed trace o is position place low high has =
+      last_has trace (Covers start n s position place) o (ap is_some (is ∙ is_next))
+      (subst (λ (o : Option Sent). IfSome o (Covers start n s position place)) (sym (is ∙ is_next)) (covers position place low high has))
 
   -- its step asks for no bytes
   pub asks_told : HandsOrTellsNone values p (unsent_sends s (Some next.record_of))

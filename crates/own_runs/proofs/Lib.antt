@@ -44,6 +44,7 @@ mod Begun
 mod Pending
 mod Handed
 mod WasSent
+mod CameSent
 mod Reached
 mod FineMoments
 mod MapKept

@@ -1,9 +1,13 @@
 -- At each moment of a run whose script alters no payload: what was granted to a path is in the trace, or goes out by its next step.
-use Rattle.std.proofs.Common.{◌≡◌, refl, sym, ap, ◌∙◌, subst, ℕ, zero, suc, ◌+◌, ◌-◌, ◌≤◌, ◌<◌, ◌⊎◌, inl, inr, ⊎_elim, Bool, true, false, if◌then◌else◌, Option, Some, None, List, [], ◌∷◌, ◌++◌, append_assoc, append-nil, length, length-append, map, arith}
+use Rattle.std.proofs.Common.{◌≡◌, refl, sym, ap, ◌∙◌, subst, ℕ, zero, suc, ◌+◌, ◌-◌, ◌≤◌, ◌<◌, ◌⊎◌, inl, inr, ⊎_elim, Bool, true, false, if◌then◌else◌, Option, Some, None, List, [], ◌∷◌, ◌++◌, append_assoc, append-nil, length, length-append, take, drop, map, arith}
 use Rattle.std.specs.List.{slice_get}
 use Rattle.std.specs.Option.{option_and_then, option_map, option_to_list}
 use Rattle.std.proofs.Math.ListN.{set}
+use Rattle.std.specs.Prelude.{Result, Ok, Err}
 use Rattle.std.proofs.lemmas.Bool.{and_parts, cases_lt, false≢true}
+use Rattle.std.proofs.lemmas.List.{drop-append-le, length-drop, length-take, take-append-le}
+use Rattle.std.proofs.lemmas.Option.{slice_get_within}
+use Rattle.octet_text.specs.Prefix.{IsPrefix}
 use Rattle.actor_desk.specs.Books.{books_in}
 use Rattle.actor_desk.specs.Desk.{send_of}
 use Rattle.actor_desk.specs.Words.{is_nil}
@@ -26,9 +30,12 @@ use Rattle.path_core.specs.Turns.{FirstStands}
 use Rattle.path_core.specs.Values.{Carried, values}
 use Rattle.run_trace.specs.Trace.{sent_at, sent_by, sent_next, trace_of}
 use Rattle.send_book.proofs.Grants.{granted_pieces_are_whole}
+use Rattle.send_book.proofs.Lists.{slice_get-append_left}
 use Rattle.send_book.specs.Laws.{IsPieceOf}
 use Rattle.send_book.specs.State.{Sending, Tile}
-use Rattle.send_book.specs.Steps.{reply_to as send_reply}
+use Rattle.send_book.specs.Steps.{decision, reply_by, reply_to as send_reply}
+use Rattle.send_book.specs.declared.call.Span.{Span}
+use Rattle.send_book.specs.declared.call.Why.{Why}
 use Rattle.send_book.specs.declared.call.SendCall.{SendCall}
 use Rattle.send_book.specs.declared.call.SendReply.{SendReply}
 use Rattle.sides.specs.Side.{peer}
@@ -37,8 +44,8 @@ use Rattle.sides.specs.declared.side.Side.{Side}
 use Rattle.stream_apps.specs.AppSteps.{app_ask, app_asks_first, app_asks_of}
 use Rattle.stream_apps.specs.Apps.{AppState}
 use Rattle.stream_apps.specs.declared.duty.AppDuty.{AppDuty}
-use Rattle.stream_lanes.proofs.Bytes.{length-cells_from}
-use Rattle.stream_lanes.proofs.Lists.{Has-more, in_map, in_set}
+use Rattle.stream_lanes.proofs.Bytes.{in_cells_from, length-cells_from}
+use Rattle.stream_lanes.proofs.Lists.{Has-more, in_append, in_map, in_set}
 use Rattle.path_core.specs.Octets.{octets}
 use Rattle.stream_lanes.proofs.Duos.{any_held}
 use Rattle.stream_lanes.proofs.Promises.{records_fit}
@@ -59,7 +66,7 @@ use Rattle.world_laws.proofs.Lanes.Showing.{is_unfinished}
 use Rattle.world_laws.proofs.Rounds.PiecesFit.{MemberFits, PathFits, fits_at}
 use Rattle.world_laws.proofs.Promises.Made.{run_fresh}
 use Rattle.world_laws.proofs.Weaving.WholeRounds.{run_append}
-use Rattle.world_laws.proofs.Worlds.CastLifting.{each_actor}
+use Rattle.world_laws.proofs.Worlds.CastLifting.{each_actor, writes_the_files}
 use Rattle.world_laws.proofs.Worlds.Casts.{map_there}
 use Rattle.world_laws.proofs.Worlds.Steady.{always_steady}
 use Rattle.world_laws.specs.Actors.{Actor, ActorCrew, is_over, member_asks, member_next, member_takes}
@@ -69,9 +76,10 @@ use Rattle.world_laws.specs.Promises.{IsPlain, NumbersFit}
 use Rattle.world_laws.specs.StampedBooks.{answer_to}
 use Rattle.world_laws.specs.Worlds.{Turn, WorldState, after_turn, all_over, asked, begins, crew_after, end_round, greatest, stepped, world_run, world_step}
 use Rattle.world_laws.specs.declared.member.Member.TheVariants.{App, Path}
+use Rattle.own_runs.specs.Runs.{file_of}
 use Rattle.own_runs.proofs.Begun.{always_begun}
 use Rattle.own_runs.proofs.Granted.{GivesTo, Silently, call_so, silent_events, way}
-use Rattle.own_runs.proofs.Handed.{Covers, IsAt, SideSent, Waits, asks_told, full_sent, handed, is_at, lane_there, sent_of, stay_sent}
+use Rattle.own_runs.proofs.Handed.{Covers, HasPart, IsAt, SideSent, Waits, asks_told, full_sent, handed, is_at, lane_there, sent_of, stay_sent}
 use Rattle.own_runs.proofs.Pending.{SendsNext, duty_asks, gives, granted_next, granted_other}
 
 -- ---- what a turn makes of a lane
@@ -150,7 +158,7 @@ lane_turn ask d e t s n lane later there later_there =
 -- ---- a moment
 
 -- what is known of the actors and lanes of a world
-pub record Moment (d : Duo) (w : WorldState Carried) : Type 0 where
+pub record Moment (start : Start) (d : Duo) (w : WorldState Carried) : Type 0 where
   pub at : (n : ℕ) (c : ActorCrew Carried) → slice_get w.crew (suc (suc n)) ≡ Some c → (p : PathState Carried) → c.member ≡ Path p → (s : Side) (lane : Lane)
       → slice_get (way s d).lanes n ≡ Some lane → IsAt n s p lane
   pub lane : (n : ℕ) (c : ActorCrew Carried) → slice_get w.crew (suc (suc n)) ≡ Some c → (s : Side) → (lane : Lane) × (slice_get (way s d).lanes n ≡ Some lane)
@@ -158,11 +166,12 @@ pub record Moment (d : Duo) (w : WorldState Carried) : Type 0 where
   pub fits : (i : ℕ) (c : ActorCrew Carried) → slice_get w.crew i ≡ Some c → MemberFits c.member
   pub book : (s : Side) → (way s d).send ≡ send_of s (books_in w.books)
   pub tile : (s : Side) → Tile (way s d).send
+  pub prefix : (s : Side) → IsPrefix (way s d).send.written (file_of start s)
 
 -- each side of each path
-abbrev pub AllSent : List Sent → Duo → WorldState Carried → Type 0
-AllSent trace d w = (n : ℕ) (c : ActorCrew Carried) → slice_get w.crew (suc (suc n)) ≡ Some c → (p : PathState Carried) → c.member ≡ Path p → (s : Side) (lane : Lane)
-    → slice_get (way s d).lanes n ≡ Some lane → SideSent trace n s p lane
+abbrev pub AllSent : Start → List Sent → Duo → WorldState Carried → Type 0
+AllSent start trace d w = (n : ℕ) (c : ActorCrew Carried) → slice_get w.crew (suc (suc n)) ≡ Some c → (p : PathState Carried) → c.member ≡ Path p → (s : Side) (lane : Lane)
+    → slice_get (way s d).lanes n ≡ Some lane → SideSent start trace n s p lane
 
 -- an application asks for no bytes
 no_grant : (a : AppState) (s : Side) (n most : ℕ) (standby : Bool) → app_asks_of a ≡ Some (Ask.Send s (SendCall.Grant n most standby)) → ⊥
@@ -196,14 +205,14 @@ data_next p s n most standby is = by p.agenda refl is
         let by_data = duty_asks p s n most standby d (some_same (ask_for values d p) (Ask.Send s (SendCall.Grant n most standby)) is) in
         (ds, todo ∙ ap (λ (x : Duty). x ∷ ds) by_data.duty, by_data.none, by_data.path_is, by_data.most_is)
 
-module _ (trace more : List Sent) (n : ℕ) (s : Side) (p : PathState Carried) (lane later : Lane) (old : IsAt n s p lane) (fits : PathFits p) (b : Sending) (tile : Tile b)
+module _ (start : Start) (trace more : List Sent) (n : ℕ) (s : Side) (p : PathState Carried) (lane later : Lane) (old : IsAt n s p lane) (fits : PathFits p) (b : Sending) (tile : Tile b) (prefix : IsPrefix b.written (file_of start s))
     (most : ℕ) (standby : Bool) (asks : asks_of values p ≡ Some (Ask.Send s (SendCall.Grant n most standby)))
-    (edge : later.edge ≡ lane.edge) (upto : ℕ) (told : (position : ℕ) → position < upto → Has (Covers n s position) trace) (full : upto ≡ length lane.sent) where
+    (edge : later.edge ≡ lane.edge) (upto : ℕ) (told : (position : ℕ) (cell : Cell) → position < upto → slice_get lane.sent position ≡ Some cell → Has (Covers start n s position cell.place) trace) (full : upto ≡ length lane.sent) where
   abbrev q : Reply → PathState Carried
   q reply = takes values reply p
 
   given : (reply : SendReply) → send_reply b (SendCall.Grant n most standby) ≡ reply → later.sent ≡ grown reply lane.sent → IsAt n s (q (Reply.Send reply)) later
-      → SideSent (trace ++ more) n s (q (Reply.Send reply)) later
+      → SideSent start (trace ++ more) n s (q (Reply.Send reply)) later
   given (SendReply.Granted span piece) is sent new =
       let next = data_next p s n most standby asks in
       let stood : stands (Duty.Step (StepDuty.Data s)) p ≡ true = subst (λ (todo : List Duty). FirstStands todo p) next.1 old.settled in
@@ -221,16 +230,51 @@ module _ (trace more : List Sent) (n : ℕ) (s : Side) (p : PathState Carried) (
       let same_edge : (end_at (peer s) (q (gives span piece))).tcp.recv.edge ≡ (end_at (peer s) p).tcp.recv.edge = ap (λ (e : PathEnd). e.tcp.recv.edge) other in
       record {
         upto = upto;
-        told = λ position below. Has-more more (told position below);
+        told = λ position cell below there. Has-more more (told position cell below (before position cell (omega (arith, below, full)) there));
         edge = let within = old.within in omega (arith, within, full, edge);
         rest = inr (record {
           piece = piece;
+          first = span.from;
+          part = part whole.some whole.whole is;
+          places = λ i cell there. (in_cells_from span.from piece i cell (behind i cell there)).0;
           next = subst (λ (k : ℕ). SendsNext s k piece (q (gives span piece))) (first ∙ ap suc (sym full)) sends;
           all = sym (long ∙ ap (λ (k : ℕ). k + length piece) (sym full));
           bound = bound (length piece) whole.some long same_edge old.recv new.recv;
         });
       }
     where
+      before : (position : ℕ) (cell : Cell) → position < length lane.sent → slice_get later.sent position ≡ Some cell → slice_get lane.sent position ≡ Some cell
+      before position cell below there =
+          sym (slice_get-append_left lane.sent (cells_from span.from piece) position below) ∙ ap (λ (cells : List Cell). slice_get cells position) (sym sent) ∙ there
+
+      behind : (i : ℕ) (cell : Cell) → slice_get later.sent (upto + i) ≡ Some cell → slice_get (cells_from span.from piece) i ≡ Some cell
+      behind i cell there = by (in_append lane.sent (cells_from span.from piece) (upto + i) cell (ap (λ (cells : List Cell). slice_get cells (upto + i)) (sym sent) ∙ there))
+        where
+          by : (slice_get lane.sent (upto + i) ≡ Some cell) ⊎ ((length lane.sent ≤ upto + i) × (slice_get (cells_from span.from piece) ((upto + i) - length lane.sent) ≡ Some cell))
+              → slice_get (cells_from span.from piece) i ≡ Some cell
+          by (inl old) = absurd (let within = slice_get_within lane.sent (upto + i) cell old in omega (arith, within, full))
+          by (inr new) = ap (slice_get (cells_from span.from piece)) (let same : i ≡ (upto + i) - length lane.sent = omega (arith, full) in same) ∙ new.1
+
+      -- what is granted is a part of the file
+      is_part : (r : Result Span Why) → reply_by r b ≡ SendReply.Granted span piece → piece ≡ take (span.to - span.from) (drop span.from b.written)
+      is_part (Ok given) is = cc
+      is_part (Err why) is = cc
+
+      part : 1 ≤ length piece → length piece ≡ span.to - span.from → send_reply b (SendCall.Grant n most standby) ≡ SendReply.Granted span piece
+          → piece ≡ take (length piece) (drop span.from (file_of start s))
+      part some whole is =
+          let count = span.to - span.from in
+          let same = is_part (decision n most standby b) is in
+          let taken = ap (λ (xs : List ℕ). length xs) same in
+          let left = length-take count (drop span.from b.written) in
+          let long = length-drop span.from b.written in
+          let within : span.from + count ≤ length b.written = omega (arith, some, whole, taken, left, long) in
+          same
+          ∙ sym (ap (λ (xs : List ℕ). take count (drop span.from xs)) prefix.whole_is
+          ∙ ap (take count) (drop-append-le span.from b.written prefix.rest (omega (arith, within)))
+          ∙ take-append-le count (drop span.from b.written) prefix.rest (omega (arith, within, long)))
+          ∙ ap (λ (k : ℕ). take k (drop span.from (file_of start s))) (sym whole)
+
       bound : (count : ℕ) → 1 ≤ count → length later.sent ≡ length lane.sent + count → (end_at (peer s) (q (gives span piece))).tcp.recv.edge ≡ (end_at (peer s) p).tcp.recv.edge
           → ((end_at (peer s) p).tcp.recv.edge ≡ suc lane.edge) ⊎ (((end_at (peer s) p).tcp.recv.edge ≡ suc (suc lane.edge)) × (lane.fin_in ≡ true))
           → ((end_at (peer s) (q (gives span piece))).tcp.recv.edge ≡ suc later.edge)
@@ -240,7 +284,7 @@ module _ (trace more : List Sent) (n : ℕ) (s : Side) (p : PathState Carried) (
       bound count some long same (inr fin) (inl at) = let behind = fin.0 in absurd (omega (arith, behind, at, same, edge))
       bound count some long same (inr fin) (inr end) =
           let passed = new.past end.1 in let within = old.within in absurd (omega (arith, passed, within, long, some, edge))
-  given reply is sent new = full_sent trace more n s lane later sent p (q (Reply.Send reply)) new upto told full
+  given reply is sent new = full_sent start trace more n s lane later sent p (q (Reply.Send reply)) new upto told full
 
 -- ---- a turn
 
@@ -249,8 +293,8 @@ over_at [] i c over there = cc
 over_at (x ∷ crew) zero c over there = subst (λ (y : ActorCrew Carried). is_over y.member ≡ true) (some_same x c there) (and_parts (is_over x.member) (all_over crew) over).0
 over_at (x ∷ crew) (suc i) c over there = over_at crew i c (and_parts (is_over x.member) (all_over crew) over).1 there
 
-waits_none : (s : Side) (p : PathState Carried) (lane : Lane) (upto : ℕ) → is_nil p.agenda ≡ true → Waits s p lane upto → ⊥
-waits_none s p lane upto over waits = by p.agenda over waits.next.sends
+waits_none : (start : Start) (s : Side) (p : PathState Carried) (lane : Lane) (upto : ℕ) → is_nil p.agenda ≡ true → Waits start s p lane upto → ⊥
+waits_none start s p lane upto over waits = by p.agenda over waits.next.sends
   where
     by : (todo : List Duty) → is_nil todo ≡ true → first_sends todo p ≡ unsent_sends s (Some waits.next.record_of) → ⊥
     by [] over is = cc
@@ -259,40 +303,40 @@ waits_none s p lane upto over waits = by p.agenda over waits.next.sends
 member_same : {x y : PathState Carried} → (let one : Actor Carried = Path x in one) ≡ Path y → x ≡ y
 member_same e = cc
 
-module _ (d e : Duo) (w : WorldState Carried) (m : Moment d w) (trace : List Sent) (h : AllSent trace d w) where
+module _ (start : Start) (d e : Duo) (w : WorldState Carried) (m : Moment start d w) (trace : List Sent) (h : AllSent start trace d w) where
   -- a path that is as it was, and is granted nothing
   same_path : (turn : Turn) (t : TurnShows (asked_in turn w) d e) (more : List Sent) (n : ℕ) (c : ActorCrew Carried) → slice_get w.crew (suc (suc n)) ≡ Some c → (p : PathState Carried) → c.member ≡ Path p
       → (s : Side) (later : Lane) → slice_get (way s e).lanes n ≡ Some later → ((most : ℕ) (standby : Bool) → asked_in turn w ≡ Some (Ask.Send s (SendCall.Grant n most standby)) → ⊥)
-      → IsAt n s p later → SideSent (trace ++ more) n s p later
+      → IsAt n s p later → SideSent start (trace ++ more) n s p later
   same_path turn t more n c there p member s later later_there none at =
       let lane = m.lane n c there s in
       ⊎_elim
-      (λ same. stay_sent trace more n s lane.0 later same p at (h n c there p member s lane.0 lane.1))
+      (λ same. stay_sent start trace more n s lane.0 later same p at (h n c there p member s lane.0 lane.1))
       (λ g. absurd (none g.most g.standby g.ask_is))
       (lane_turn (asked_in turn w) d e t s n lane.0 later lane.1 later_there)
 
-  round_sent : (t : TurnShows (asked_in Turn.Round w) d e) → Moment e (end_round w) → AllSent (trace ++ []) e (end_round w)
+  round_sent : (t : TurnShows (asked_in Turn.Round w) d e) → Moment start e (end_round w) → AllSent start (trace ++ []) e (end_round w)
   round_sent t = by (all_over w.crew) refl
     where
       began : (n : ℕ) (c : ActorCrew Carried) → slice_get w.crew (suc (suc n)) ≡ Some c → is_over c.member ≡ true → (stamp : ℕ) (p : PathState Carried) → (begins stamp c).member ≡ Path p → (s : Side) (later : Lane)
-          → slice_get (way s e).lanes n ≡ Some later → IsAt n s p later → SideSent (trace ++ []) n s p later
+          → slice_get (way s e).lanes n ≡ Some later → IsAt n s p later → SideSent start (trace ++ []) n s p later
       began n c there over stamp p member s later later_there at = of_member c.member refl member over
         where
           none_asked : (most : ℕ) (standby : Bool) → None ≡ Some (Ask.Send s (SendCall.Grant n most standby)) → ⊥
           none_asked most standby is = cc
 
-          of_member : (x : Actor Carried) → c.member ≡ x → member_next x ≡ Path p → is_over x ≡ true → SideSent (trace ++ []) n s p later
+          of_member : (x : Actor Carried) → c.member ≡ x → member_next x ≡ Path p → is_over x ≡ true → SideSent start (trace ++ []) n s p later
           of_member (App a) is next over = cc
           of_member (Path p0) is next over =
               let lane = m.lane n c there s in
               let old = h n c there p0 is s lane.0 lane.1 in
               ⊎_elim
-              (λ same. ⊎_elim (λ full. full_sent trace [] n s lane.0 later same p0 p at old.upto old.told full) (λ waits. absurd (waits_none s p0 lane.0 old.upto over waits)) old.rest)
+              (λ same. ⊎_elim (λ full. full_sent start trace [] n s lane.0 later same p0 p at old.upto old.told full) (λ waits. absurd (waits_none start s p0 lane.0 old.upto over waits)) old.rest)
               (λ g. absurd (none_asked g.most g.standby g.ask_is))
               (lane_turn (asked_in Turn.Round w) d e t s n lane.0 later lane.1 later_there)
 
-      by : (b : Bool) → all_over w.crew ≡ b → Moment e (if b then record w { crew = map (begins (greatest 0 w.crew)) w.crew } else w)
-          → AllSent (trace ++ []) e (if b then record w { crew = map (begins (greatest 0 w.crew)) w.crew } else w)
+      by : (b : Bool) → all_over w.crew ≡ b → Moment start e (if b then record w { crew = map (begins (greatest 0 w.crew)) w.crew } else w)
+          → AllSent start (trace ++ []) e (if b then record w { crew = map (begins (greatest 0 w.crew)) w.crew } else w)
       by false over new n c there p member s later later_there =
           same_path Turn.Round t [] n c there p member s later later_there (λ most standby is. none_is is) (new.at n c there p member s later later_there)
         where
@@ -310,10 +354,10 @@ module _ (d e : Duo) (w : WorldState Carried) (m : Moment d w) (trace : List Sen
     -- the path that makes the step
     own_sent : (n : ℕ) (c : ActorCrew Carried) → slice_get w.crew i ≡ Some c → suc (suc n) ≡ i → (x : Ask) → member_asks values c.member ≡ Some x → (p0 : PathState Carried) → c.member ≡ Path p0
         → (s : Side) (later : Lane) → slice_get (way s e).lanes n ≡ Some later → IsAt n s (takes values (answer_to w.books x) p0) later
-        → SideSent (trace ++ more) n s (takes values (answer_to w.books x) p0) later
+        → SideSent start (trace ++ more) n s (takes values (answer_to w.books x) p0) later
     own_sent n c there i_is x asks p0 member s later later_there at =
         ⊎_elim
-        (λ same. ⊎_elim (λ full. full_sent trace more n s lane.0 later same p0 (takes values (answer_to w.books x) p0) at old.upto old.told full) (λ waits. goes waits same) old.rest)
+        (λ same. ⊎_elim (λ full. full_sent start trace more n s lane.0 later same p0 (takes values (answer_to w.books x) p0) at old.upto old.told full) (λ waits. goes waits same) old.rest)
         (λ g. ⊎_elim (λ full. grants g full) (λ waits. absurd (neither waits g)) old.rest)
         (lane_turn (asked_in (Turn.Step i) w) d e t s n lane.0 later lane.1 later_there)
       where
@@ -323,7 +367,7 @@ module _ (d e : Duo) (w : WorldState Carried) (m : Moment d w) (trace : List Sen
         lane : (l : Lane) × (slice_get (way s d).lanes n ≡ Some l)
         lane = m.lane n c there_n s
 
-        old : SideSent trace n s p0 lane.0
+        old : SideSent start trace n s p0 lane.0
         old = h n c there_n p0 member s lane.0 lane.1
 
         old_at : IsAt n s p0 lane.0
@@ -336,18 +380,27 @@ module _ (d e : Duo) (w : WorldState Carried) (m : Moment d w) (trace : List Sen
         asked_is most standby is = some_same x (Ask.Send s (SendCall.Grant n most standby)) (sym (ap asked_by there ∙ asks) ∙ is)
 
         -- what waited goes out
-        goes : Waits s p0 lane.0 old.upto → later.sent ≡ lane.0.sent → SideSent (trace ++ more) n s (takes values (answer_to w.books x) p0) later
+        goes : Waits start s p0 lane.0 old.upto → later.sent ≡ lane.0.sent → SideSent start (trace ++ more) n s (takes values (answer_to w.books x) p0) later
         goes waits same = record {
           upto = length later.sent;
-          told = λ position below. ⊎_elim
-              (λ before. Has-more more (old.told position before))
+          told = λ position cell below there_cell.
+              let was = ap (λ (cells : List Cell). slice_get cells position) (sym same) ∙ there_cell in
+              ⊎_elim
+              (λ before. Has-more more (old.told position cell before was))
               (λ behind. let long = ap (λ (cells : List Cell). length cells) same in let all = waits.all in
-              handed n s p0 old_at.numbered old.upto waits.piece waits.next trace (sent_next i (shown_world w)) next_is position behind (omega (arith, below, long, all)))
+              handed start n s p0 old_at.numbered old.upto waits.piece waits.next trace (sent_next i (shown_world w)) next_is position cell.place behind (omega (arith, below, long, all))
+              (has_part position cell behind (omega (arith, below, long, all)) was))
               (cases_lt position old.upto);
           edge = at.within;
           rest = inl refl;
         }
           where
+            has_part : (position : ℕ) (cell : Cell) → old.upto ≤ position → position < old.upto + length waits.piece → slice_get lane.0.sent position ≡ Some cell
+                → HasPart (file_of start s) cell.place waits.piece
+            has_part position cell low high was =
+                let place = waits.places (position - old.upto) cell (ap (slice_get lane.0.sent) (let at : old.upto + (position - old.upto) ≡ position = omega (arith, low) in at) ∙ was) in
+                record { first = waits.first; below = omega (arith, place); above = omega (arith, place, low, high); part = waits.part }
+
             next_is : sent_next i (shown_world w) ≡ sent_of (shown_path p0) (first_sends p0.agenda (shown_path p0))
             next_is =
                 ap (λ (o : Option (ActorCrew (List ℕ))). option_and_then sent_by (crew_path o)) (map_there shown_crew w.crew i ∙ ap (option_map shown_crew) there)
@@ -358,30 +411,30 @@ module _ (d e : Duo) (w : WorldState Carried) (m : Moment d w) (trace : List Sen
         answer_is A n most standby = refl
         answer_is B n most standby = refl
 
-        grants : LaneGiven s (asked_in (Turn.Step i) w) d n lane.0 later → old.upto ≡ length lane.0.sent → SideSent (trace ++ more) n s (takes values (answer_to w.books x) p0) later
+        grants : LaneGiven s (asked_in (Turn.Step i) w) d n lane.0 later → old.upto ≡ length lane.0.sent → SideSent start (trace ++ more) n s (takes values (answer_to w.books x) p0) later
         grants g full =
             let x_is = asked_is g.most g.standby g.ask_is in
             let reply : answer_to w.books x ≡ Reply.Send (send_reply (way s d).send (SendCall.Grant n g.most g.standby)) =
             ap (answer_to w.books) x_is ∙ answer_is s n g.most g.standby ∙ ap (λ (b : Sending). Reply.Send (send_reply b (SendCall.Grant n g.most g.standby))) (sym (m.book s)) in
-            subst (λ (r : Reply). SideSent (trace ++ more) n s (takes values r p0) later) (sym reply)
-            (given trace more n s p0 lane.0 later old_at (subst MemberFits member (m.fits i c there)) (way s d).send (m.tile s) g.most g.standby (own_asks ∙ ap (λ (y : Ask). Some y) x_is) g.edge old.upto old.told full
+            subst (λ (r : Reply). SideSent start (trace ++ more) n s (takes values r p0) later) (sym reply)
+            (given start trace more n s p0 lane.0 later old_at (subst MemberFits member (m.fits i c there)) (way s d).send (m.tile s) (m.prefix s) g.most g.standby (own_asks ∙ ap (λ (y : Ask). Some y) x_is) g.edge old.upto old.told full
             (send_reply (way s d).send (SendCall.Grant n g.most g.standby)) refl g.sent (subst (λ (r : Reply). IsAt n s (takes values r p0) later) reply at))
 
-        neither : Waits s p0 lane.0 old.upto → LaneGiven s (asked_in (Turn.Step i) w) d n lane.0 later → ⊥
+        neither : Waits start s p0 lane.0 old.upto → LaneGiven s (asked_in (Turn.Step i) w) d n lane.0 later → ⊥
         neither waits g =
-            let told : HandsOrTellsNone values p0 (unsent_sends s (Some waits.next.record_of)) = asks_told n s p0 old_at.numbered old.upto waits.piece waits.next in
+            let told : HandsOrTellsNone values p0 (unsent_sends s (Some waits.next.record_of)) = asks_told start n s p0 old_at.numbered old.upto waits.piece waits.next in
             none (sym told.told ∙ own_asks ∙ ap (λ (y : Ask). Some y) (asked_is g.most g.standby g.ask_is))
           where
             none : {a : LocalStep} {c : SendCall} → (let one : Option Ask = Some (Ask.Local a) in one) ≡ Some (Ask.Send s c) → ⊥
             none is = cc
 
-    step_sent : Moment e (world_step values i w) → AllSent (trace ++ more) e (world_step values i w)
+    step_sent : Moment start e (world_step values i w) → AllSent start (trace ++ more) e (world_step values i w)
     step_sent = by (slice_get w.crew i) refl
       where
         none_is : {x : Ask} → None ≡ Some x → ⊥
         none_is is = cc
 
-        asking : (c : ActorCrew Carried) → slice_get w.crew i ≡ Some c → (o : Option Ask) → member_asks values c.member ≡ o → Moment e (asked values i o c w) → AllSent (trace ++ more) e (asked values i o c w)
+        asking : (c : ActorCrew Carried) → slice_get w.crew i ≡ Some c → (o : Option Ask) → member_asks values c.member ≡ o → Moment start e (asked values i o c w) → AllSent start (trace ++ more) e (asked values i o c w)
         asking c there None asks new n x x_there p member s later later_there =
             same_path (Turn.Step i) t more n x x_there p member s later later_there (λ most standby is. none_is (sym (ap asked_by there ∙ asks) ∙ is)) (new.at n x x_there p member s later later_there)
         asking c there (Some ask) asks new n x x_there p member s later later_there =
@@ -397,23 +450,23 @@ module _ (d e : Duo) (w : WorldState Carried) (m : Moment d w) (trace : List Sen
                     other (sym (m.number i c there p0 at ∙ ap (λ (k : ℕ). suc (suc k)) next.3))
 
             one : IsAt n s p later → ((suc (suc n) ≡ i) × (crew_after values ask w.books c ≡ x)) ⊎ ((suc (suc n) ≡ i → ⊥) × (slice_get w.crew (suc (suc n)) ≡ Some x))
-                → SideSent (trace ++ more) n s p later
+                → SideSent start (trace ++ more) n s p later
             one at (inr other) = same_path (Turn.Step i) t more n x other.1 p member s later later_there (others other.0) at
             one at (inl own) = of_member c.member refl (ap (λ (y : ActorCrew Carried). y.member) own.1 ∙ member)
               where
-                of_member : (y : Actor Carried) → c.member ≡ y → member_takes values (answer_to w.books ask) y ≡ Path p → SideSent (trace ++ more) n s p later
+                of_member : (y : Actor Carried) → c.member ≡ y → member_takes values (answer_to w.books ask) y ≡ Path p → SideSent start (trace ++ more) n s p later
                 of_member (App a) is takes_so = cc
                 of_member (Path p0) is takes_so =
                     let same : takes values (answer_to w.books ask) p0 ≡ p = member_same takes_so in
-                    subst (λ (q : PathState Carried). SideSent (trace ++ more) n s q later) same
+                    subst (λ (q : PathState Carried). SideSent start (trace ++ more) n s q later) same
                     (own_sent n c there own.0 ask asks p0 is s later later_there (subst (λ (q : PathState Carried). IsAt n s q later) (sym same) at))
 
-        by : (o : Option (ActorCrew Carried)) → slice_get w.crew i ≡ o → Moment e (stepped values i o w) → AllSent (trace ++ more) e (stepped values i o w)
+        by : (o : Option (ActorCrew Carried)) → slice_get w.crew i ≡ o → Moment start e (stepped values i o w) → AllSent start (trace ++ more) e (stepped values i o w)
         by None none new = λ n x x_there p member s later later_there.
             same_path (Turn.Step i) t more n x x_there p member s later later_there (λ most standby is. none_is (sym (ap asked_by none) ∙ is)) (new.at n x x_there p member s later later_there)
         by (Some c) there new = asking c there (member_asks values c.member) refl new
 
-  pub turn_sent : (turn : Turn) → TurnShows (asked_in turn w) d e → Moment e (after_turn values turn w) → AllSent (trace ++ sent_at turn (shown_world w)) e (after_turn values turn w)
+  pub turn_sent : (turn : Turn) → TurnShows (asked_in turn w) d e → Moment start e (after_turn values turn w) → AllSent start (trace ++ sent_at turn (shown_world w)) e (after_turn values turn w)
   turn_sent (Turn.Step i) t new = step_sent i t new
   turn_sent Turn.Round t new = round_sent t new
 
@@ -426,7 +479,7 @@ trace_append (x ∷ xs) ys w =
     ∙ sym (append_assoc (sent_at x w) (trace_of xs (after_turn octets x w)) (trace_of ys (world_run octets xs (after_turn octets x w))))
 
 module _ (start : Start) (plain : IsPlain start) (fit : NumbersFit start) where
-  abbrev can : MayCarry start
+  abbrev pub can : MayCarry start
   can = plainly start plain
 
   -- the world after these turns
@@ -434,7 +487,7 @@ module _ (start : Start) (plain : IsPlain start) (fit : NumbersFit start) where
   world turns = world_run values turns (opened_world start)
 
   moment : (turns : List Turn) (events : List Event) (h : WorldShows can.links start (after_events events (first_duo can.links start)) (world turns))
-      → Moment (after_events events (first_duo can.links start)) (world turns)
+      → Moment start (after_events events (first_duo can.links start)) (world turns)
   moment turns events h = record {
     at = λ n c there p member s lane lane_at. is_at can.links start plain.size d (world turns) h holds n c there p member s lane lane_at;
     lane = λ n c there s. lane_there can.links start plain.size d (world turns) h holds n c there s;
@@ -442,6 +495,7 @@ module _ (start : Start) (plain : IsPlain start) (fit : NumbersFit start) where
     fits = λ i c there. (always_begun start turns).each i c there;
     book = book;
     tile = tile;
+    prefix = prefix;
   }
     where
       d : Duo
@@ -460,6 +514,10 @@ module _ (start : Start) (plain : IsPlain start) (fit : NumbersFit start) where
       book A = ap (λ (e : Duo). e.ab.send) h.duo_is ∙ ap (λ (w : WorldState Carried). (books_in w.books).send_a) (sym h.is)
       book B = ap (λ (e : Duo). e.ba.send) h.duo_is ∙ ap (λ (w : WorldState Carried). (books_in w.books).send_b) (sym h.is)
 
+      prefix : (s : Side) → IsPrefix (way s d).send.written (file_of start s)
+      prefix A = subst (λ (b : Sending). IsPrefix b.written start.file_a) (sym (book A)) (writes_the_files values start turns).a.prefix
+      prefix B = subst (λ (b : Sending). IsPrefix b.written start.file_b) (sym (book B)) (writes_the_files values start turns).b.prefix
+
       tile : (s : Side) → Tile (way s d).send
       tile A = (records_fit _ d.ab holds.ab).tile
       tile B = (records_fit _ d.ba holds.ba).tile
@@ -468,7 +526,7 @@ module _ (start : Start) (plain : IsPlain start) (fit : NumbersFit start) where
   pub record Known (turns : List Turn) : Type 0 where
     pub events : List Event
     pub shows : WorldShows can.links start (after_events events (first_duo can.links start)) (world turns)
-    pub sent : AllSent (trace_of turns (opened_world start)) (after_events events (first_duo can.links start)) (world turns)
+    pub sent : AllSent start (trace_of turns (opened_world start)) (after_events events (first_duo can.links start)) (world turns)
 
   next_known : (before : List Turn) (turn : Turn) → Known before → Known (before ++ turn ∷ [])
   next_known before turn k =
@@ -482,9 +540,9 @@ module _ (start : Start) (plain : IsPlain start) (fit : NumbersFit start) where
       let run : world (before ++ turn ∷ []) ≡ after_turn values turn w = run_append values before (turn ∷ []) (opened_world start) in
       let e : Duo = after_events (k.events ++ turn_events x.turn_shows) (first_duo can.links start) in
       let at_last : WorldShows can.links start e (world (before ++ turn ∷ [])) = subst (λ (v : WorldState Carried). WorldShows can.links start e v) (sym run) later in
-      let new : Moment e (after_turn values turn w) = subst (λ (v : WorldState Carried). Moment e v) run (moment (before ++ turn ∷ []) (k.events ++ turn_events x.turn_shows) at_last) in
+      let new : Moment start e (after_turn values turn w) = subst (λ (v : WorldState Carried). Moment start e v) run (moment (before ++ turn ∷ []) (k.events ++ turn_events x.turn_shows) at_last) in
       let shows : TurnShows (asked_in turn w) d e = subst (λ (y : Duo). TurnShows (asked_in turn w) d y) (turn_is x.turn_shows ∙ sym appended) x.turn_shows in
-      let sent = turn_sent d e w (moment before k.events k.shows) (trace_of before (opened_world start)) k.sent turn shows new in
+      let sent = turn_sent start d e w (moment before k.events k.shows) (trace_of before (opened_world start)) k.sent turn shows new in
       let fresh : sent_at turn (world_run octets before (opened_world start)) ≡ sent_at turn (shown_world w) = ap (λ (v : WorldState (List ℕ)). sent_at turn v) (run_fresh start before plain.size fit) in
       let trace : trace_of (before ++ turn ∷ []) (opened_world start) ≡ trace_of before (opened_world start) ++ sent_at turn (shown_world w) =
       trace_append before (turn ∷ []) (opened_world start)
@@ -492,8 +550,8 @@ module _ (start : Start) (plain : IsPlain start) (fit : NumbersFit start) where
       record {
         events = k.events ++ turn_events x.turn_shows;
         shows = at_last;
-        sent = subst (λ (t : List Sent). AllSent t e (world (before ++ turn ∷ []))) (sym trace)
-            (subst (λ (v : WorldState Carried). AllSent (trace_of before (opened_world start) ++ sent_at turn (shown_world w)) e v) (sym run) sent);
+        sent = subst (λ (t : List Sent). AllSent start t e (world (before ++ turn ∷ []))) (sym trace)
+            (subst (λ (v : WorldState Carried). AllSent start (trace_of before (opened_world start) ++ sent_at turn (shown_world w)) e v) (sym run) sent);
       }
 
   run_known : (before turns : List Turn) → Known before → Known (before ++ turns)
@@ -525,10 +583,10 @@ module _ (start : Start) (plain : IsPlain start) (fit : NumbersFit start) where
               let empty : spent_count n d.ba.send.marks ≡ 0 = ap (λ (b : Sending). spent_count n b.marks) book in
               omega (arith, once, empty)
 
-          nothing : {n : ℕ} {s : Side} {p : PathState Carried} {lane : Lane} → IsAt n s p lane → length lane.sent ≡ 0 → SideSent [] n s p lane
+          nothing : {n : ℕ} {s : Side} {p : PathState Carried} {lane : Lane} → IsAt n s p lane → length lane.sent ≡ 0 → SideSent start [] n s p lane
           nothing at empty =
               let within = at.within in
-              record { upto = 0; told = λ position below. absurd (omega (arith, below)); edge = omega (arith, within, empty); rest = inl (sym empty) }
+              record { upto = 0; told = λ position cell below at_cell. absurd (omega (arith, below)); edge = omega (arith, within, empty); rest = inl (sym empty) }
 
   pub always_known : (turns : List Turn) → Known turns
   always_known turns = run_known [] turns opened_known
