@@ -171,7 +171,7 @@ module _ (start : Start) (plain : IsPlain start) (fit : NumbersFit start) (turns
   path_at : (n : ℕ) → n < length start.paths → (c : ActorCrew Carried) × (slice_get w.crew (suc (suc n)) ≡ Some c) × (p : PathState Carried) × (c.member ≡ Path p)
   path_at n below =
       let many : length w.crew ≡ suc (suc (length start.paths)) = crew_count turns (opened_world start) ∙ ap (λ (n : ℕ). suc (suc n)) (paths_count start 0 start.paths) in
-      let whole : length w.crew ≡ suc (suc (length (map walking k.shows.cast.paths))) = ap {y = world_of k.shows.cast} (λ (v : WorldState Carried). length v.crew) k.shows.is in
+      let whole : length w.crew ≡ suc (suc (length (map walking k.shows.cast.paths))) = ap (λ (v : WorldState Carried). length v.crew) k.shows.is in
       let found = item_at (map walking k.shows.cast.paths) n (omega (arith, below, many, whole)) in
       let x = in_map walking k.shows.cast.paths n found.0 found.1 in
       (found.0, ap (λ (v : WorldState Carried). slice_get v.crew (suc (suc n))) k.shows.is ∙ found.1, x.0.path, ap (λ (c : ActorCrew Carried). c.member) (sym x.2))
