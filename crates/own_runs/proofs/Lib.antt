@@ -37,6 +37,7 @@ mod OwnPackets
 mod OwnUntold
 mod FinePositions
 mod MapPositions
+mod AckPositions
 mod SentGrows
 mod Passed
 mod Granted
