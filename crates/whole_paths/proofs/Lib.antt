@@ -159,6 +159,7 @@ pub mod Endings
 pub mod EndedStreams
 pub mod Ends
 pub mod EndsHeard
+pub mod EndsUntold
 pub mod Counted
 pub mod OpenCourses
 pub mod Finishing

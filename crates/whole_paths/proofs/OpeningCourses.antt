@@ -52,6 +52,7 @@ use Rattle.whole_paths.proofs.FirstSigns.{asks_for_its_end}
 use Rattle.whole_paths.proofs.GoesOn.{goes_on_so}
 use Rattle.whole_paths.proofs.GoingOn.{ends_go_on, open_behind, step_side, steps_let_it_go_on}
 use Rattle.whole_paths.proofs.Clearing.{clear_ends_are_past}
+use Rattle.whole_paths.proofs.EndsUntold.{a_is_told_no_end_before}
 use Rattle.path_core.specs.MpJoin.{is_joined}
 use Rattle.whole_paths.proofs.Handshaking.{living_ends_open_or_are_past}
 use Rattle.whole_paths.proofs.SendsEnds.{who_is_done_is_clear}
@@ -200,7 +201,7 @@ module _ (start : Start) (plan : PathPlan) (most way within : ℕ) (one : start.
 
   -- ---- the opening isn't over where A's end has finished
 
-  firm_at : (v : List Turn) → IsAliveAfter start most v → (p : PathState Carried) → IsPathAt 0 (at v) p → OpensFirmly (at v) p
+  firm_at : (v : List Turn) → IsAliveAfter start most v → (p : PathState Carried) → IsPathAt 0 (at v) p → OpensFirmly p
   firm_at v now p here = firm v p here (subst IsAlive (path_is (at v) now.path p now.here here) now.is_open)
 
   never_done : (v : List Turn) → IsAliveAfter start most v → AHasFinished start v → (p : PathState Carried) → IsPathAt 0 (at v) p → stage p.b.tcp.state ≤ 2 → ⊥
@@ -238,7 +239,7 @@ module _ (start : Start) (plan : PathPlan) (most way within : ℕ) (one : start.
     alive : IsAlive p
     alive = step.before.is_open
 
-    f : OpensFirmly (at v) p
+    f : OpensFirmly p
     f = firm v p here alive
 
     silent : p.agenda ≡ []
@@ -293,7 +294,7 @@ module _ (start : Start) (plan : PathPlan) (most way within : ℕ) (one : start.
       missing : IsAllThere B (at u) → ⊥
       missing all =
           let now = then_from in
-          both_ways now.path.a.modes.clear now.unclear ((firm_at u step.after now.path now.here).there all)
+          let none = a_is_told_no_end_before start plan u one mild now.path now.here now.unclear in let some = all.known in cc
 
       begun : at u ≡ world_run values (Turn.Round ∷ []) (at v)
       begun = ap at step.is ∙ run_append values v (Turn.Round ∷ []) (opened_world start)

@@ -1,7 +1,8 @@
 -- An end of a path that doesn't join may send a DSS only past the handshake: it may from the first copy on that it takes.
-use Rattle.std.specs.Prelude.{◌≡◌, ◌≤◌, ℕ, None, Some, List, [], false, true}
+use Rattle.std.specs.Prelude.{◌≡◌, ◌≤◌, ℕ, None, Some, List, [], ◌∷◌, false, true}
 use Rattle.std.specs.List.{slice_get}
 use Rattle.sides.specs.declared.side.Side.{Side}
+use Rattle.sides.specs.declared.side.Side.TheVariants.{A}
 use Rattle.path_core.specs.Codec.{Codec}
 use Rattle.path_core.specs.MpJoin.{is_joined}
 use Rattle.path_core.specs.End.{PathEnd}
@@ -9,7 +10,8 @@ use Rattle.path_core.specs.State.{PathState, end_at}
 use Rattle.path_core.specs.Values.{Carried, values}
 use Rattle.world_laws.specs.Actors.{ActorCrew}
 use Rattle.world_laws.specs.Members.{HoldsOfKind}
-use Rattle.world_laws.specs.Openings.{Start}
+use Rattle.world_laws.specs.Openings.{PathPlan, Start}
+use Rattle.world_laws.specs.Promises.{arrived_at}
 use Rattle.world_laws.specs.RoundDone.{reached}
 use Rattle.world_laws.specs.Worlds.{Turn}
 use Rattle.whole_paths.specs.AsFar.{stage}
@@ -31,6 +33,11 @@ pub record HearsNoEnd (e : PathEnd) : Type 0 where
 abbrev pub AHearsNoEndBefore : Type 0
 AHearsNoEndBefore = (start : Start) (turns : List Turn) → IsMildStart start → (p : PathState Carried) → IsPathAt 0 (reached values start turns) p → p.a.modes.clear ≡ false
     → HearsNoEnd p.a
+
+-- over one path A's side knows no end of B's stream until then
+abbrev pub AIsToldNoEndBefore : Type 0
+AIsToldNoEndBefore = (start : Start) (plan : PathPlan) (turns : List Turn) → start.paths ≡ plan ∷ [] → IsMildStart start → (p : PathState Carried) → IsPathAt 0 (reached values start turns) p
+    → p.a.modes.clear ≡ false → (arrived_at A (reached values start turns)).known_end ≡ None
 
 module _ {C : Type 0} where
   abbrev pub IsPastIfClear : PathState C → Type 0

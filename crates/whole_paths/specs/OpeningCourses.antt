@@ -16,7 +16,7 @@ use Rattle.world_laws.specs.RoundDone.{reached}
 use Rattle.world_laws.specs.Worlds.{Turn, WorldState, AreLawful}
 use Rattle.whole_paths.specs.AsFar.{stage}
 use Rattle.whole_paths.specs.Courses.{round_end}
-use Rattle.whole_paths.specs.Delivery.{AllIsThere, IsAllThere}
+use Rattle.whole_paths.specs.Delivery.{AllIsThere}
 use Rattle.whole_paths.specs.Finish.{AnEndDied, IsBrief, IsEnough, IsMild, IsPathAt, IsWhole, Patience, harmed, opened, rounds_in, run_of}
 use Rattle.whole_paths.specs.GoingOn.{IsAboutToGoOn, going_side}
 use Rattle.whole_paths.specs.OnePathScripts.{Allowance, BeginsWithOnePath, for_all_news, rounds_within}
@@ -37,17 +37,17 @@ pub record HasFirstPiece (p : PathState Carried) : Type 0 where
   pub position : first.pos ≡ 1
   pub edge : p.b.tcp.recv.edge ≡ 1
 
--- What is so of path 0 while neither of its ends is dead: A may send a DSS only once B may, and only then all of B's stream is with A. Where B may send none yet, though both are past the handshake, A's first piece waits. And where A may
--- send none yet, an end of B's without a record was granted nothing, and knows of no window that is shut.
-pub record OpensFirmly (w : WorldState Carried) (p : PathState Carried) : Type 0 where
+-- What is so of path 0 while neither of its ends is dead: A may send a DSS only once B may. Where B may send none yet, though both are past the
+-- handshake, A's first piece waits. And where A may send none yet, an end of B's without a record was granted nothing, and knows of no window that
+-- is shut.
+pub record OpensFirmly (p : PathState Carried) : Type 0 where
   pub sure : p.a.modes.clear ≡ true → p.b.modes.clear ≡ true
-  pub there : IsAllThere B w → p.a.modes.clear ≡ true
   pub piece : p.agenda ≡ [] → ((s : Side) → 3 ≤ stage (end_at s p).tcp.state) → p.b.modes.clear ≡ false → HasFirstPiece p
   pub idle : p.agenda ≡ [] → p.a.modes.clear ≡ false → p.b.modes.clear ≡ true → p.b.tcp.send.records ≡ [] → (p.b.sending.granted ≡ []) × (p.b.sending.shut ≡ false)
 
 -- at every moment
 abbrev pub AlwaysOpensFirmly : Start → Type 0
-AlwaysOpensFirmly start = (turns : List Turn) (p : PathState Carried) → IsPathAt 0 (reached values start turns) p → IsAlive p → OpensFirmly (reached values start turns) p
+AlwaysOpensFirmly start = (turns : List Turn) (p : PathState Carried) → IsPathAt 0 (reached values start turns) p → IsAlive p → OpensFirmly p
 
 -- ---- waits
 

@@ -529,11 +529,11 @@ pub fn whole_paths_deliver()
 /// ends open firmly, however much is lost, late or repeated (`delivers`).
 ///
 /// After half of these rounds the path is whole, or all of both streams is with the peers, or an end died (`opens`). That the ends open firmly is
-/// a premise: A may send a DSS only once B may, and may where all of B's stream is with A; A's first piece waits while B, past the handshake, may
-/// send none; and until A may, an end of B's without a record was granted nothing and knows of no shut window (RFC 8684, section 3.1). What else
-/// it needs is so: an end that may send a DSS is past the handshake, and A's end has finished only where it may (`clear_ends_are_past`). It is
-/// said of mild connections over one path with buffers of 4,096 octets at least, and of fewer than 2^64 - 1 turns; and of scripts of one path,
-/// over segments as values and over octets (`values`, `octets`). Enough rounds are as many as in `whole_paths_deliver`, twice.
+/// a premise: A may send a DSS only once B may; A's first piece waits while B, past the handshake, may send none; and until A may, an end of B's
+/// without a record was granted nothing and knows of no shut window (RFC 8684, section 3.1). What else it needs is so: an end that may send a DSS
+/// is past the handshake, and until A may, A's end hasn't finished, and its side knows no end of B's stream (`clear_ends_are_past`). It is said
+/// of mild connections over one path with buffers of 4,096 octets at least, and of fewer than 2^64 - 1 turns; and of scripts of one path, over
+/// segments as values and over octets (`values`, `octets`). Enough rounds are as many as in `whole_paths_deliver`, twice.
 pub fn firm_openings_deliver()
     ensures opens { OpensWithin (for_all_news news_within) }
     ensures delivers { DeliversWithin (for_all_news news_within) }
