@@ -25,7 +25,7 @@ use Rattle.stream_lanes.specs.Lane.{Ask, Lane}
 use Rattle.stream_lanes.specs.Moves.{Flags, moved}
 use Rattle.stream_lanes.specs.Streams.{Direction, StreamEvent, after, asks, asks_at, goes_infinite, moves}
 use Rattle.stream_lanes.specs.Words.{Has}
-use Rattle.trace_laws.specs.Sending.{CarriesPlace, payload_in}
+use Rattle.own_runs.specs.Sending.{CarriesPlace, payload_in}
 use Rattle.world_laws.proofs.Lanes.OfAWorld.{Links, first_duo}
 use Rattle.world_laws.proofs.Promises.Made.{run_fresh}
 use Rattle.world_laws.proofs.Rounds.SerialIsLawful.{as_many}

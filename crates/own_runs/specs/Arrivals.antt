@@ -10,7 +10,7 @@ use Rattle.path_core.specs.Octets.{octets}
 use Rattle.reassembly_book.specs.State.{Arriving}
 use Rattle.run_trace.specs.Trace.{trace_of}
 use Rattle.stream_lanes.specs.Words.{Has}
-use Rattle.trace_laws.specs.Sending.{CarriesPlace}
+use Rattle.own_runs.specs.Sending.{CarriesPlace}
 use Rattle.world_laws.specs.Openings.{Start, opened_world}
 use Rattle.world_laws.specs.Promises.{IsPlain, NumbersFit}
 use Rattle.world_laws.specs.Worlds.{Turn, world_run}

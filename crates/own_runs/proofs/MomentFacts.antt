@@ -64,10 +64,10 @@ use Rattle.world_laws.proofs.Worlds.Steady.{always_steady}
 use Rattle.world_laws.proofs.Numbers.TellSmall.{EndTells, RecordKindTells, RecordTells}
 use Rattle.world_laws.proofs.Numbers.PathSteps.{PathTells}
 use Rattle.world_laws.proofs.Numbers.EveryTurn.{WorldTells, always_tells}
-use Rattle.trace_laws.specs.Counting.{base_from}
-use Rattle.trace_laws.proofs.Handing.{SendsNext}
-use Rattle.trace_laws.proofs.PayloadsPlaced.{DataFacts, EndFacts, RecordFacts, Sends, alone_at, by_duty, payload_placed, sent_ends, some_sent, written_within}
-use Rattle.trace_laws.proofs.ReadingBack.{Placed}
+use Rattle.own_runs.specs.Counting.{base_from}
+use Rattle.own_runs.proofs.Handing.{SendsNext}
+use Rattle.own_runs.proofs.PayloadsPlaced.{DataFacts, EndFacts, RecordFacts, Sends, alone_at, by_duty, payload_placed, sent_ends, some_sent, written_within}
+use Rattle.own_runs.proofs.ReadingBack.{Placed}
 
 -- ---- an end, by what it shows on its lanes
 

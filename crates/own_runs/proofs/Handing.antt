@@ -1,12 +1,12 @@
 -- What was granted to a path goes out by the path's next step.
-use Rattle.trace_laws.proofs.Words.{◌≡◌, refl, sym, ◌∙◌, ap, subst, ℕ, ◌+◌, ◌-◌, ◌≤◌, Bool, true, false, if◌then◌else◌, nat_le, Option, Some, None, option_map}
-use Rattle.trace_laws.proofs.Words.{List, [], ◌∷◌, ◌++◌, length, length-append, drop, arith, ◌&&◌, ◌%◌, not, replicate, find, sum_by, and_parts, false≢true}
-use Rattle.trace_laws.proofs.Words.{le-leb, leb-true, and_from, Side, A, B, header_len, Segment, fixed_header, octets_with, segment_text, Record, is_unsent}
-use Rattle.trace_laws.proofs.Words.{octets_under_way, Data, is_at_limit, may_finish, is_closed_to_segments, Sent, PlainSegment, padded, padding, spelled}
-use Rattle.trace_laws.proofs.Words.{unpadded_options, whole_number, Duty, StepDuty, Reply, stands, passed, answered_data, first_unsent, data_stands, may_ask}
-use Rattle.trace_laws.proofs.Words.{payload_size, fits, granted, may_send_data, PathEnd, PathState, end_at, goes_on, with_agenda, record_or_ack, settled}
-use Rattle.trace_laws.proofs.Words.{answers, takes, settles_down, departing_as, unsent_sends, first_sends, departing, made, octets, sum_of, Departing}
-use Rattle.trace_laws.proofs.Words.{mapping_of, Profile, sent_as, sent_by, payload_in}
+use Rattle.own_runs.proofs.Words.{◌≡◌, refl, sym, ◌∙◌, ap, subst, ℕ, ◌+◌, ◌-◌, ◌≤◌, Bool, true, false, if◌then◌else◌, nat_le, Option, Some, None, option_map}
+use Rattle.own_runs.proofs.Words.{List, [], ◌∷◌, ◌++◌, length, length-append, drop, arith, ◌&&◌, ◌%◌, not, replicate, find, sum_by, and_parts, false≢true}
+use Rattle.own_runs.proofs.Words.{le-leb, leb-true, and_from, Side, A, B, header_len, Segment, fixed_header, octets_with, segment_text, Record, is_unsent}
+use Rattle.own_runs.proofs.Words.{octets_under_way, Data, is_at_limit, may_finish, is_closed_to_segments, Sent, PlainSegment, padded, padding, spelled}
+use Rattle.own_runs.proofs.Words.{unpadded_options, whole_number, Duty, StepDuty, Reply, stands, passed, answered_data, first_unsent, data_stands, may_ask}
+use Rattle.own_runs.proofs.Words.{payload_size, fits, granted, may_send_data, PathEnd, PathState, end_at, goes_on, with_agenda, record_or_ack, settled}
+use Rattle.own_runs.proofs.Words.{answers, takes, settles_down, departing_as, unsent_sends, first_sends, departing, made, octets, sum_of, Departing}
+use Rattle.own_runs.proofs.Words.{mapping_of, Profile, sent_as, sent_by, payload_in}
 use Rattle.std.proofs.lemmas.List.{drop_at, drop-drop, length-replicate}
 use Rattle.std.proofs.lemmas.List.Sums.{sum_by_push}
 use Rattle.path_segments.specs.declared.spelling.Spelling.{Spelling}
@@ -15,7 +15,7 @@ use Rattle.send_book.specs.declared.call.SendReply.{SendReply}
 use Rattle.subflow_send.specs.Sendings.{never_sent}
 use Rattle.subflow_tcp.specs.declared.handshake.State.{State as EndPhase}
 use Rattle.subflow_tcp.specs.Sizes.{room}
-use Rattle.trace_laws.proofs.Acknowledged.{Acks}
+use Rattle.own_runs.proofs.Acknowledged.{Acks}
 
 -- ---- the payload of a segment that is made
 

@@ -17,7 +17,7 @@ use Rattle.world_laws.specs.Openings.{Start, opened_world}
 use Rattle.world_laws.specs.Outcomes.{outcome_of}
 use Rattle.world_laws.specs.Promises.{IsPlain, NumbersFit}
 use Rattle.world_laws.specs.Worlds.{AreLawful, Turn, world_run}
-use Rattle.trace_laws.specs.Sending.{ended}
+use Rattle.own_runs.specs.Sending.{ended}
 
 -- the numbers from which those of a connection count
 abbrev pub base_from : Start → Base

@@ -1,8 +1,8 @@
 //! Laws of what a run has sent.
 
-ghost use Rattle.trace_laws.specs.Counting.{DeliveredFilesWereCounted};
-ghost use Rattle.trace_laws.specs.Granting.{DeliveredFilesWereGranted};
-ghost use Rattle.trace_laws.specs.Sending.{DeliveredFilesWereSent};
+ghost use Rattle.own_runs.specs.Counting.{DeliveredFilesWereCounted};
+ghost use Rattle.own_runs.specs.Granting.{DeliveredFilesWereGranted};
+ghost use Rattle.own_runs.specs.Sending.{DeliveredFilesWereSent};
 
 /// A law: once a run is delivered each octet of both files was granted to a path by one of its steps. It holds of each script that
 /// alters no payload, over files shorter than 2^31 - 2 octets.

@@ -1,11 +1,11 @@
 -- Once a run is delivered each octet of both files was granted to a path.
-use Rattle.trace_laws.proofs.Words.{◌≡◌, refl, sym, ◌∙◌, ap, subst, ℕ, zero, suc, ◌+◌, ◌<◌, ◌⊎◌, inl, inr, ⊎_elim, Bool, true, false, if◌then◌else◌, Option}
-use Rattle.trace_laws.proofs.Words.{Some, None, List, [], ◌∷◌, ◌++◌, length, map, fold, arith, ◌==◌, set, get_or, and_parts, and_from, eq-eqb, count_by}
-use Rattle.trace_laws.proofs.Words.{slice_get, same_Some, slice_get_within, Side, A, B, SendCall, covers, send_reply, pick, Ask, books_in, send_of, octets}
-use Rattle.trace_laws.proofs.Words.{values, DirectionHolds, Holds, Duo, after_events, Start, opened_world, was_told_end, ActorCrew, member_asks, WorldState}
-use Rattle.trace_laws.proofs.Words.{Turn, after_turn, all_over, asked, begins, crew_after, greatest, note_of, stepped, world_run, writes_the_files, Carries}
-use Rattle.trace_laws.proofs.Words.{IsSteady, Links, NoneIsFirm, Shown, WorldShows, asked_by, asked_in, first_duo, free_turn, plainly, plainly_free}
-use Rattle.trace_laws.proofs.Words.{turn_events, turn_is, run_fresh}
+use Rattle.own_runs.proofs.Words.{◌≡◌, refl, sym, ◌∙◌, ap, subst, ℕ, zero, suc, ◌+◌, ◌<◌, ◌⊎◌, inl, inr, ⊎_elim, Bool, true, false, if◌then◌else◌, Option}
+use Rattle.own_runs.proofs.Words.{Some, None, List, [], ◌∷◌, ◌++◌, length, map, fold, arith, ◌==◌, set, get_or, and_parts, and_from, eq-eqb, count_by}
+use Rattle.own_runs.proofs.Words.{slice_get, same_Some, slice_get_within, Side, A, B, SendCall, covers, send_reply, pick, Ask, books_in, send_of, octets}
+use Rattle.own_runs.proofs.Words.{values, DirectionHolds, Holds, Duo, after_events, Start, opened_world, was_told_end, ActorCrew, member_asks, WorldState}
+use Rattle.own_runs.proofs.Words.{Turn, after_turn, all_over, asked, begins, crew_after, greatest, note_of, stepped, world_run, writes_the_files, Carries}
+use Rattle.own_runs.proofs.Words.{IsSteady, Links, NoneIsFirm, Shown, WorldShows, asked_by, asked_in, first_duo, free_turn, plainly, plainly_free}
+use Rattle.own_runs.proofs.Words.{turn_events, turn_is, run_fresh}
 use Rattle.std.proofs.lemmas.List.Sums.{sum_by-set, sum_by_push}
 use Rattle.stamped_book.specs.declared.stamped.Pass.{Pass}
 use Rattle.send_book.specs.State.{Sending}
@@ -25,8 +25,8 @@ use Rattle.world_laws.proofs.Lanes.EveryTurn.{each_turn_shows}
 use Rattle.world_laws.proofs.Promises.OverOctets.{same_told}
 use Rattle.world_laws.proofs.Worlds.Steady.{always_steady}
 use Rattle.world_laws.proofs.Lanes.Strolling.{events_held}
-use Rattle.trace_laws.specs.Granting.{DeliveredFilesWereGranted, WasGranted}
-use Rattle.trace_laws.proofs.Granting.{AskGrants, Grants, Had, TurnGrants, turn_grows, way}
+use Rattle.own_runs.specs.Granting.{DeliveredFilesWereGranted, WasGranted}
+use Rattle.own_runs.proofs.Granting.{AskGrants, Grants, Had, TurnGrants, turn_grows, way}
 
 -- ---- what the actors noted
 

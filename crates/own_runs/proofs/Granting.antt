@@ -1,9 +1,9 @@
 -- Every octet that a path has on a lane was granted to it by a step that an actor noted.
-use Rattle.trace_laws.proofs.Words.{◌≡◌, refl, sym, ◌∙◌, ap, subst, ℕ, zero, suc, ◌+◌, ◌-◌, ◌<◌, ◌≤◌, ◌⊎◌, inl, inr, ⊎_elim, Bool, true, false, if◌then◌else◌}
-use Rattle.trace_laws.proofs.Words.{nat_le, nat_lt, Option, Some, None, List, [], ◌∷◌, length, arith, set, and_parts, false≢true, le-leb, and_from, lt-ltb}
-use Rattle.trace_laws.proofs.Words.{slice_get, list_all, same_Some, Side, A, B, SendCall, covers, send_reply, Ask, in_append, in_set, AskHolds, DirectionHolds}
-use Rattle.trace_laws.proofs.Words.{HasPlace, Holds, view_of, LaneAsk, Cell, Lane, Duo, flags_ab, flags_ba, after_event, after_events, AreSilent, CallIs}
-use Rattle.trace_laws.proofs.Words.{LaneAsks, ReassemblyCallIs, SendCallIs, TurnShows, call_events, is_silent}
+use Rattle.own_runs.proofs.Words.{◌≡◌, refl, sym, ◌∙◌, ap, subst, ℕ, zero, suc, ◌+◌, ◌-◌, ◌<◌, ◌≤◌, ◌⊎◌, inl, inr, ⊎_elim, Bool, true, false, if◌then◌else◌}
+use Rattle.own_runs.proofs.Words.{nat_le, nat_lt, Option, Some, None, List, [], ◌∷◌, length, arith, set, and_parts, false≢true, le-leb, and_from, lt-ltb}
+use Rattle.own_runs.proofs.Words.{slice_get, list_all, same_Some, Side, A, B, SendCall, covers, send_reply, Ask, in_append, in_set, AskHolds, DirectionHolds}
+use Rattle.own_runs.proofs.Words.{HasPlace, Holds, view_of, LaneAsk, Cell, Lane, Duo, flags_ab, flags_ba, after_event, after_events, AreSilent, CallIs}
+use Rattle.own_runs.proofs.Words.{LaneAsks, ReassemblyCallIs, SendCallIs, TurnShows, call_events, is_silent}
 use Rattle.send_book.specs.declared.call.SendCall.TheVariants.{GoIdentity as GoIdentityBook}
 use Rattle.send_book.specs.declared.call.SendReply.{SendReply}
 use Rattle.send_book.proofs.Grants.{granted_pieces_are_whole}

@@ -63,10 +63,10 @@ use Rattle.world_laws.specs.Openings.{Start}
 use Rattle.world_laws.proofs.Lanes.Records.{every_at, every_find}
 use Rattle.world_laws.proofs.Lanes.Showing.{HasMapping}
 use Rattle.world_laws.proofs.Numbers.TellSmall.{EndTells, OptionTells, PairTells, RecordTells, SegmentTells, record_said_tells}
-use Rattle.trace_laws.specs.Counting.{base_from}
-use Rattle.trace_laws.specs.Sending.{payload_in}
-use Rattle.trace_laws.proofs.Handing.{made_payload}
-use Rattle.trace_laws.proofs.ReadingBack.{IsSaid, OneSaid, Placed, by_mapping, mapping_said, by_position, steady_infinite, steady_keys, steady_none, steady_without, unmapped_infinite, unmapped_keys, unmapped_none}
+use Rattle.own_runs.specs.Counting.{base_from}
+use Rattle.own_runs.specs.Sending.{payload_in}
+use Rattle.own_runs.proofs.Handing.{made_payload}
+use Rattle.own_runs.proofs.ReadingBack.{IsSaid, OneSaid, Placed, by_mapping, mapping_said, by_position, steady_infinite, steady_keys, steady_none, steady_without, unmapped_infinite, unmapped_keys, unmapped_none}
 
 -- ---- the payload of a segment that is meant
 

@@ -1,16 +1,16 @@
 -- Once a run is delivered each octet of both files was in a segment that was handed to a link.
-use Rattle.trace_laws.proofs.Words.{◌≡◌, refl, sym, ◌∙◌, ap, subst, ℕ, zero, suc, ◌+◌, ◌-◌, ◌^◌, ◌<◌, ◌≤◌, ◌⊎◌, inl, inr, ⊎_elim, Bool, true, false}
-use Rattle.trace_laws.proofs.Words.{if◌then◌else◌, nat_le, nat_lt, Result, Ok, Err, Option, Some, None, option_map, option_and_then, List, [], ◌∷◌, ◌++◌}
-use Rattle.trace_laws.proofs.Words.{length, length-append, length-take, length-drop, take, drop, map, fold, append_assoc, arith, and_parts, false≢true}
-use Rattle.trace_laws.proofs.Words.{leb-true, ltb-true, cases_lt, eqb-true, count_by, slice_get, same_Some, slice_get_within, Side, A, B, SendCall, covers}
-use Rattle.trace_laws.proofs.Words.{is_asked_by, decision, part_of, reply_by, send_reply, Record, may_finish, Sent, carried_of, HasOctet, Duty, StepDuty, Reply}
-use Rattle.trace_laws.proofs.Words.{is_nil, pick, Ask, books_in, send_of, stands, ask_for, first_unsent, data_stands, may_ask, payload_size, data_ask}
-use Rattle.trace_laws.proofs.Words.{PathState, end_at, with_agenda, path_of, answers, takes, asks_first, asks_of, item_of, departing_as, first_sends, octets}
-use Rattle.trace_laws.proofs.Words.{values, Has, Has-more, in_append, in_map, in_one, in_set, PathPlan, Start, new_path, opened_world, path_begins, paths_from}
-use Rattle.trace_laws.proofs.Words.{IsPlain, NumbersFit, Actor, ActorCrew, is_over, member_asks, member_next, member_takes, AreLawful, WorldState, Turn}
-use Rattle.trace_laws.proofs.Words.{after_turn, all_over, asked, begins, crew_after, end_round, greatest, note_of, stepped, world_run, writes_the_files}
-use Rattle.trace_laws.proofs.Words.{plainly, plainly_free, run_fresh, initials_of, sent_as, sent_at, sent_by, sent_next, trace_of, base_from, CarriesPlace}
-use Rattle.trace_laws.proofs.Words.{DeliveredFilesWereSent, ended}
+use Rattle.own_runs.proofs.Words.{◌≡◌, refl, sym, ◌∙◌, ap, subst, ℕ, zero, suc, ◌+◌, ◌-◌, ◌^◌, ◌<◌, ◌≤◌, ◌⊎◌, inl, inr, ⊎_elim, Bool, true, false}
+use Rattle.own_runs.proofs.Words.{if◌then◌else◌, nat_le, nat_lt, Result, Ok, Err, Option, Some, None, option_map, option_and_then, List, [], ◌∷◌, ◌++◌}
+use Rattle.own_runs.proofs.Words.{length, length-append, length-take, length-drop, take, drop, map, fold, append_assoc, arith, and_parts, false≢true}
+use Rattle.own_runs.proofs.Words.{leb-true, ltb-true, cases_lt, eqb-true, count_by, slice_get, same_Some, slice_get_within, Side, A, B, SendCall, covers}
+use Rattle.own_runs.proofs.Words.{is_asked_by, decision, part_of, reply_by, send_reply, Record, may_finish, Sent, carried_of, HasOctet, Duty, StepDuty, Reply}
+use Rattle.own_runs.proofs.Words.{is_nil, pick, Ask, books_in, send_of, stands, ask_for, first_unsent, data_stands, may_ask, payload_size, data_ask}
+use Rattle.own_runs.proofs.Words.{PathState, end_at, with_agenda, path_of, answers, takes, asks_first, asks_of, item_of, departing_as, first_sends, octets}
+use Rattle.own_runs.proofs.Words.{values, Has, Has-more, in_append, in_map, in_one, in_set, PathPlan, Start, new_path, opened_world, path_begins, paths_from}
+use Rattle.own_runs.proofs.Words.{IsPlain, NumbersFit, Actor, ActorCrew, is_over, member_asks, member_next, member_takes, AreLawful, WorldState, Turn}
+use Rattle.own_runs.proofs.Words.{after_turn, all_over, asked, begins, crew_after, end_round, greatest, note_of, stepped, world_run, writes_the_files}
+use Rattle.own_runs.proofs.Words.{plainly, plainly_free, run_fresh, initials_of, sent_as, sent_at, sent_by, sent_next, trace_of, base_from, CarriesPlace}
+use Rattle.own_runs.proofs.Words.{DeliveredFilesWereSent, ended}
 use Rattle.std.proofs.Common.{option_to_list}
 use Rattle.std.proofs.lemmas.List.{drop-append-le, take-append-le}
 use Rattle.octet_text.specs.Prefix.{IsPrefix}
@@ -41,12 +41,12 @@ use Rattle.world_laws.proofs.Asks.OfPaths.{IsHeardAsk, IsQuietAsk, IsQuietDuty, 
 use Rattle.world_laws.proofs.Lanes.Roads.{put_there}
 use Rattle.world_laws.proofs.Worlds.Settled.{settled_settled}
 use Rattle.world_laws.proofs.Weaving.WholeRounds.{run_append}
-use Rattle.trace_laws.specs.Granting.{WasGranted}
-use Rattle.trace_laws.proofs.Acknowledged.{BothAck, ack_at, begins_acks, takes_acks}
-use Rattle.trace_laws.proofs.Grants.{all_noted, delivered_were_granted, same_books, same_from}
-use Rattle.trace_laws.proofs.Handing.{SendsNext, grants, granted_goes}
-use Rattle.trace_laws.proofs.MomentFacts.{MemberFacts, MomentFacts, PathFacts, carried_from, moment_facts, unsent_placed}
-use Rattle.trace_laws.proofs.ReadingBack.{Placed}
+use Rattle.own_runs.specs.Granting.{WasGranted}
+use Rattle.own_runs.proofs.Acknowledged.{BothAck, ack_at, begins_acks, takes_acks}
+use Rattle.own_runs.proofs.Grants.{all_noted, delivered_were_granted, same_books, same_from}
+use Rattle.own_runs.proofs.Handing.{SendsNext, grants, granted_goes}
+use Rattle.own_runs.proofs.MomentFacts.{MemberFacts, MomentFacts, PathFacts, carried_from, moment_facts, unsent_placed}
+use Rattle.own_runs.proofs.ReadingBack.{Placed}
 
 -- ---- a note that grants
 

@@ -18,10 +18,10 @@ use Rattle.run_trace.specs.Initials.{initials_of}
 use Rattle.run_trace.specs.Trace.{trace_of}
 use Rattle.world_laws.specs.Openings.{Start, opened_world}
 use Rattle.world_laws.specs.Promises.{NumbersFit}
-use Rattle.trace_laws.specs.Counting.{DeliveredFilesWereCounted, base_from}
-use Rattle.trace_laws.specs.Sending.{ended}
-use Rattle.trace_laws.proofs.Going.{CarriesTold, delivered_were_told}
-use Rattle.trace_laws.proofs.MomentFacts.{GoodSent, carried_from, moment_facts, trace_good}
+use Rattle.own_runs.specs.Counting.{DeliveredFilesWereCounted, base_from}
+use Rattle.own_runs.specs.Sending.{ended}
+use Rattle.own_runs.proofs.Going.{CarriesTold, delivered_were_told}
+use Rattle.own_runs.proofs.MomentFacts.{GoodSent, carried_from, moment_facts, trace_good}
 
 -- what each segment carries, without a segment before it
 abbrev alone : Start → List Sent → List Carried

@@ -64,5 +64,5 @@ pub use Rattle.world_laws.proofs.Lanes.OfAWorld.{Carries, IsSteady, Links, NoneI
 pub use Rattle.world_laws.proofs.Promises.Made.{run_fresh}
 pub use Rattle.run_trace.specs.Initials.{initials_of, plan_initials}
 pub use Rattle.run_trace.specs.Trace.{sent_as, sent_at, sent_by, sent_next, trace_of}
-pub use Rattle.trace_laws.specs.Counting.{DeliveredFilesWereCounted, base_from}
-pub use Rattle.trace_laws.specs.Sending.{CarriesPlace, DeliveredFilesWereSent, ended, payload_in}
+pub use Rattle.own_runs.specs.Counting.{DeliveredFilesWereCounted, base_from}
+pub use Rattle.own_runs.specs.Sending.{CarriesPlace, DeliveredFilesWereSent, ended, payload_in}

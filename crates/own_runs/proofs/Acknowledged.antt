@@ -1,11 +1,11 @@
 -- An end whose FIN may be sent has its SYN acknowledged, whatever its path is answered.
-use Rattle.trace_laws.proofs.Words.{◌≡◌, refl, sym, ◌∙◌, ap, subst, ℕ, zero, suc, ◌≤◌, ◌⊎◌, inl, inr, ⊎_elim, Bool, true, false, if◌then◌else◌, nat_le, nat_lt}
-use Rattle.trace_laws.proofs.Words.{Option, Some, None, List, [], ◌∷◌, arith, ◌==◌, ◌&&◌, is_some, and_parts, both_ways, false≢true, eqb-false, le-leb}
-use Rattle.trace_laws.proofs.Words.{leb-true, ltb-false, ltb-true, Side, A, B, Record, SendState, ack_kind, after_acknowledge, after_resent, sample_of}
-use Rattle.trace_laws.proofs.Words.{uncovered, EndState, is_at_limit, is_dead, is_half_open, is_waiting, PlainSegment, Duty, StepDuty, Reply, is_nil, tail_of}
-use Rattle.trace_laws.proofs.Words.{stands, passed, answered, Grant, grant_in, answered_grant, answered_data, first_unsent, answer_occasion, answer_of}
-use Rattle.trace_laws.proofs.Words.{resend_occasion, dead_answer, resend_of, PathEnd, died, at_tick, PathState, end_at, goes_on, left, with_agenda, with_end}
-use Rattle.trace_laws.proofs.Words.{syn_ack_said, settled, answers, takes, begins_turn, answered_heard, answered_item, item_of, item_passed}
+use Rattle.own_runs.proofs.Words.{◌≡◌, refl, sym, ◌∙◌, ap, subst, ℕ, zero, suc, ◌≤◌, ◌⊎◌, inl, inr, ⊎_elim, Bool, true, false, if◌then◌else◌, nat_le, nat_lt}
+use Rattle.own_runs.proofs.Words.{Option, Some, None, List, [], ◌∷◌, arith, ◌==◌, ◌&&◌, is_some, and_parts, both_ways, false≢true, eqb-false, le-leb}
+use Rattle.own_runs.proofs.Words.{leb-true, ltb-false, ltb-true, Side, A, B, Record, SendState, ack_kind, after_acknowledge, after_resent, sample_of}
+use Rattle.own_runs.proofs.Words.{uncovered, EndState, is_at_limit, is_dead, is_half_open, is_waiting, PlainSegment, Duty, StepDuty, Reply, is_nil, tail_of}
+use Rattle.own_runs.proofs.Words.{stands, passed, answered, Grant, grant_in, answered_grant, answered_data, first_unsent, answer_occasion, answer_of}
+use Rattle.own_runs.proofs.Words.{resend_occasion, dead_answer, resend_of, PathEnd, died, at_tick, PathState, end_at, goes_on, left, with_agenda, with_end}
+use Rattle.own_runs.proofs.Words.{syn_ack_said, settled, answers, takes, begins_turn, answered_heard, answered_item, item_of, item_passed}
 use Rattle.dss_mapping.specs.declared.kept.KeptMapping.{KeptMapping}
 use Rattle.link_model.specs.Steps.{arriving, after_delivery}
 use Rattle.path_segments.specs.Heard.{HeardSegment}
