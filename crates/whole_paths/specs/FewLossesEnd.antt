@@ -8,7 +8,7 @@ use Rattle.subflow_tcp.specs.States.{is_dead}
 use Rattle.path_core.specs.Codec.{Codec}
 use Rattle.path_core.specs.State.{PathState, end_at}
 use Rattle.path_core.specs.Values.{Carried, values}
-use Rattle.world_laws.specs.Openings.{Start, start_of}
+use Rattle.world_laws.specs.Openings.{Start}
 use Rattle.world_laws.specs.RoundDone.{reached}
 use Rattle.world_laws.specs.Worlds.{WorldState, Turn}
 use Rattle.whole_paths.specs.Finish.{AnEndDied, IsBrief, IsMild, IsPathAt, harmed, is_harmless_to_ends, opened, run_of}
