@@ -293,7 +293,7 @@ module _ (start : Start) (turns : List Turn) (turn : Turn) (p q : PathState Carr
             (λ x. ⊎_elim
             (λ y. let clock = moved f there others first then_next in ⊎_elim (λ owes. still (heard.owes (omega (arith, clock, low)) owes)) (λ opens. still (heard.opens (omega (arith, clock, low)) opens)) y)
             over_now x)
-            (mean.wants_come turns turn p q t s f to wants (record { others = others; first = first; next = then_next }))
+            (mean.wants_come turns turn p q t s f there to wants (record { others = others; first = first; next = then_next }))
 
     returns_on : (f : Flight Carried) → IsUnderWay f p → f.to ≡ s → f.tick ≤ h.by → Ends s (as_arrived f.carried) p → Result
     returns_on f there to low ends = by (leaves f there)
@@ -301,7 +301,7 @@ module _ (start : Start) (turns : List Turn) (turn : Turn) (p q : PathState Carr
         by : GoesOnItsWay f p q → Result
         by (going.on now) = ⊎_elim (λ e. still (heard.returns f now to low e)) over_now (mean.ends_on turns turn p q t s (as_arrived f.carried) ends)
         by (going.dies line comes_then is dead) = absurd (dead_never dead)
-        by (going.arrives others first then_next) = ⊎_elim same_now over_now (mean.ends_come turns turn p q t s f to ends (record { others = others; first = first; next = then_next }))
+        by (going.arrives others first then_next) = ⊎_elim same_now over_now (mean.ends_come turns turn p q t s f there to ends (record { others = others; first = first; next = then_next }))
 
     goes_so : Result
     goes_so = by h.heard

@@ -84,9 +84,9 @@ module _ (Wants Ends : Side → PlainSegment → PathState Carried → Type 0) (
     pub ends_on : (turns : List Turn) (turn : Turn) (p q : PathState Carried) → IsLivingTurn start turns turn p q → (s : Side) (x : PlainSegment)
         → Ends s x p → Ends s x q ⊎ (in_a_row (end_at s q) ≡ 0)
     pub wants_come : (turns : List Turn) (turn : Turn) (p q : PathState Carried) → IsLivingTurn start turns turn p q → (s : Side) (f : Flight Carried)
-        → f.to ≡ peer s → Wants s (as_arrived f.carried) p → ComesNext f p → (q ≡ p) ⊎ ((Owes (end_at (peer s) q) ⊎ Opens s q) ⊎ (in_a_row (end_at s q) ≡ 0))
+        → IsUnderWay f p → f.to ≡ peer s → Wants s (as_arrived f.carried) p → ComesNext f p → (q ≡ p) ⊎ ((Owes (end_at (peer s) q) ⊎ Opens s q) ⊎ (in_a_row (end_at s q) ≡ 0))
     pub ends_come : (turns : List Turn) (turn : Turn) (p q : PathState Carried) → IsLivingTurn start turns turn p q → (s : Side) (f : Flight Carried)
-        → f.to ≡ s → Ends s (as_arrived f.carried) p → ComesNext f p → (q ≡ p) ⊎ (in_a_row (end_at s q) ≡ 0)
+        → IsUnderWay f p → f.to ≡ s → Ends s (as_arrived f.carried) p → ComesNext f p → (q ≡ p) ⊎ (in_a_row (end_at s q) ≡ 0)
     pub opens_on : (turns : List Turn) (turn : Turn) (p q : PathState Carried) → IsLivingTurn start turns turn p q → (s : Side) → Opens s p → OpensOn s p q
     pub opens_first : (turns : List Turn) (p : PathState Carried) → IsPathAt 0 (reached values start turns) p → (s : Side) → Opens s p → (others : List Duty)
         → p.agenda ≡ duties.Step step_duties.Events ∷ others → ⊥
