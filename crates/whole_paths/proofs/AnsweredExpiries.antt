@@ -324,7 +324,7 @@ module _ (Wants Ends : Side → PlainSegment → PathState Carried → Type 0) (
       → IsAnsweredAt Wants Ends Opens s (after_turn values turn w) ⊎ ((1 ≤ harmed values 0 (turn ∷ []) w) ⊎ (in_a_row (end_at s q) ≡ 0))
   on_at turns few turn s p q lived lives here there comes = ⊎_elim
       (λ in_time. inl (record { path = q; here = there; in_time = in_time })) (λ rest. inr rest)
-      (goes_so start turns turn p q (record { before = here; after = there; lived = lived; lives = lives }) mild few Wants Ends Opens mean s
+      (goes_so start turns turn p q (record { before = here; after = there; lived = lived; lives = lives; few = few }) mild few Wants Ends Opens mean s
       (subst (IsAnsweredInTime Wants Ends Opens s) (path_is (reached values start turns) comes.path p comes.here here) comes.in_time))
 
   begins_at : (turns : List Turn) → length turns < 2 ^ 64 - 1 → (turn : Turn) (s : Side) (p q : PathState Carried) → Living p → Living q → let w = reached values start turns in
@@ -338,7 +338,7 @@ module _ (Wants Ends : Side → PlainSegment → PathState Carried → Type 0) (
       ((between start turns turn p q t mild few (PathsGoAgain values) (what_runs_out_goes_again values (reached values start turns) turn 2 here.crew here.there)).fires s tick out)
     where
       t : IsLivingTurn start turns turn p q
-      t = record { before = here; after = there; lived = lived; lives = lives }
+      t = record { before = here; after = there; lived = lived; lives = lives; few = few }
 
       timed : Expires s p q → in_a_row (end_at s p) < 5 → IsAnsweredAt Wants Ends Opens s (after_turn values turn (reached values start turns))
       timed expires less =

@@ -1,6 +1,6 @@
 -- How each expiry of an end is answered, so that the end hears an acceptable segment before its timer runs out again: 400 ticks there at
 -- most and 400 back, where no segment of the exchange is harmed, and the timer waits for 1,000 at least (RFC 6298, section 2).
-use Rattle.std.specs.Prelude.{ℕ, ◌+◌, ◌≡◌, ◌<◌, ◌≤◌, ◌⊎◌, false, IfSome, Some, List, ◌∷◌}
+use Rattle.std.specs.Prelude.{ℕ, ◌+◌, ◌-◌, ◌^◌, ◌≡◌, ◌<◌, ◌≤◌, ◌⊎◌, false, IfSome, Some, List, ◌∷◌, length}
 use Rattle.sides.specs.declared.side.Side.{Side}
 use Rattle.sides.specs.Side.{peer}
 use Rattle.path_segments.specs.Spelled.{PlainSegment}
@@ -24,12 +24,13 @@ use Rattle.whole_paths.specs.ExpiriesInARow.{in_a_row}
 use Rattle.whole_paths.specs.Finish.{IsPathAt}
 use Rattle.whole_paths.specs.OwedGoes.{IsReply, Owes}
 
--- by a turn path 0 becomes another one, and its ends live before it and after it
+-- by a turn behind fewer than 2^64 - 1 path 0 becomes another one, and its ends live before it and after it
 pub record IsLivingTurn (start : Start) (turns : List Turn) (turn : Turn) (p q : PathState Carried) : Type 0 where
   pub before : IsPathAt 0 (reached values start turns) p
   pub after : IsPathAt 0 (after_turn values turn (reached values start turns)) q
   pub lived : (s : Side) → is_dead (end_at s p).tcp.state ≡ false
   pub lives : (s : Side) → is_dead (end_at s q).tcp.state ≡ false
+  pub few : length turns < 2 ^ 64 - 1
 
 -- the copy comes next
 pub record ComesNext (f : Flight Carried) (p : PathState Carried) : Type 0 where
