@@ -36,7 +36,7 @@ use Rattle.whole_paths.specs.Copies.{IsUnderWay}
 use Rattle.whole_paths.specs.Due.{ArrivesAs, CopiesArriveSo}
 use Rattle.whole_paths.specs.ExpiriesInARow.{in_a_row}
 use Rattle.whole_paths.specs.ClosingOwed.{OwesAnAnswer, PathsOwe}
-use Rattle.whole_paths.specs.ExpirySegments.{IsAnsweredOnce, IsHeardInWindow}
+use Rattle.whole_paths.specs.ExpirySegments.{IsAnsweredOnce, IsBehindWindow, IsHeardInWindow}
 use Rattle.whole_paths.specs.OwedGoes.{Owes}
 use Rattle.whole_paths.proofs.ClosingOwed.{what_wants_an_answer_is_owed_one}
 use Rattle.whole_paths.specs.Mending.{CopiesAreNumbered}
@@ -45,7 +45,7 @@ use Rattle.whole_paths.proofs.ComingCopies.{each_copy_that_comes_counts}
 use Rattle.whole_paths.proofs.Due.{copies_arrive_as_sent}
 use Rattle.whole_paths.proofs.Exchanges.{Shown, each_shown}
 use Rattle.whole_paths.proofs.MildDeaths.{living_path}
-use Rattle.whole_paths.proofs.OpenCopies.{is_heard, is_heeded}
+use Rattle.whole_paths.proofs.OpenCopies.{is_heard, is_heeded, is_refused}
 use Rattle.whole_paths.proofs.SentByTurns.{each_turn_sends_one_at_most}
 use Rattle.whole_paths.proofs.SentSoon.{what_is_sent_comes_soon}
 
@@ -140,3 +140,15 @@ module _ (start : Start) (turns : List Turn) (turn : Turn) (p q : PathState Carr
           (λ answered. counts.owes (comes f there n) meaning is_to answered)
           (λ is. taken meaning refl is h.occupies)
           (is_heeded (copy_of said) (end_at f.to p).tcp h.opened (t.lived f.to) (below_limit f.to) h.rst h.up_to (ap (λ o. acknowledged_in (option_map (λ n. At n) o)) h.acknowledged) h.some)
+
+  pub behind_is_answered : (s : Side) (f : Flight Carried) → IsUnderWay f p → f.to ≡ s → IsBehindWindow s (as_arrived f.carried) p → ComesNext f p → (q ≡ p) ⊎ Owes (end_at s q)
+  behind_is_answered s f there to h n = subst (λ u. IsBehindWindow u (as_arrived f.carried) p → (q ≡ p) ⊎ Owes (end_at u q)) to at h
+    where
+      x : PlainSegment
+      x = as_arrived f.carried
+
+      at : IsBehindWindow f.to x p → (q ≡ p) ⊎ Owes (end_at f.to q)
+      at h =
+          let e : PathEnd = end_at f.to p in let c : Copy = copy_of (options_heard e (meant x)) in
+          counts.owes (comes f there n) (meaning_of c e.tcp) (ap (λ b. judged_in b f.to (options_heard e (meant x)) e) first)
+          (is_refused c e.tcp h.opened (t.lived f.to) (below_limit f.to) h.rst h.up_to (ap (λ o. acknowledged_in (option_map (λ n. At n) o)) h.acknowledged) h.some x.position refl h.behind h.none)

@@ -28,3 +28,13 @@ pub record IsAnsweredOnce (s : Side) (x : PlainSegment) (p : PathState Carried) 
   pub acknowledged : x.acknowledged ≡ Some up_to
   pub some : 0 < up_to
   pub occupies : 0 < occupied (copy_of (meant x))
+
+-- The end of this side has both SYNs. The segment acknowledges something, is no reset, occupies nothing, and lies before RCV.NXT.
+pub record IsBehindWindow (s : Side) (x : PlainSegment) (p : PathState Carried) : Type 0 where
+  pub opened : 2 ≤ stage (end_at s p).tcp.state
+  pub rst : x.rst ≡ false
+  pub up_to : ℕ
+  pub acknowledged : x.acknowledged ≡ Some up_to
+  pub some : 0 < up_to
+  pub behind : x.position < (end_at s p).tcp.recv.edge
+  pub none : occupied (copy_of (meant x)) ≡ 0
