@@ -34,6 +34,8 @@ pub mod Duties
 pub mod Exchanges
 pub mod ExpiriesInARow
 pub mod Deaths
+pub mod ExpirySegments
+pub mod AnsweredExpiries
 pub mod FewLossesDeliver
 pub mod HarmlessDeaths
 pub mod KeptAddresses

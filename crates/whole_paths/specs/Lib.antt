@@ -32,6 +32,8 @@ pub mod Exchanges
 pub mod Expiries
 pub mod ExpiriesInARow
 pub mod Deaths
+pub mod ExpirySegments
+pub mod AnsweredExpiries
 pub mod FewLossesDeliver
 pub mod KeptAddresses
 pub mod Debts
