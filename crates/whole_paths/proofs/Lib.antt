@@ -87,6 +87,7 @@ pub mod NewsBounds
 pub mod Offered
 pub mod OnePath
 pub mod OnlyBooks
+pub mod OctetsPassed
 pub mod OnePathScripts
 pub mod OnlyPaths
 pub mod OpenAsks

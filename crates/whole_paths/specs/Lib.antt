@@ -62,6 +62,7 @@ pub mod Mild
 pub mod OpenAsks
 pub mod OpeningConfirmed
 pub mod OpeningKeys
+pub mod OctetsPassed
 pub mod OnePathScripts
 pub mod OnlyPaths
 pub mod Outstanding

@@ -41,6 +41,7 @@ ghost use Rattle.whole_paths.specs.Pushed.{WhatHasRoomIsSent, WhatIsUnsentWaitsF
 ghost use Rattle.whole_paths.specs.Received.{HoldsOfOnlyPaths};
 ghost use Rattle.whole_paths.specs.RecordWaits.{NoRoundCounts, RecordsAreAwaitedAlways};
 ghost use Rattle.whole_paths.specs.SegmentRounds.{ASegmentIsRead, EachRoundReads, EachRoundWrites, FourRoundsBring, FourRoundsTell};
+ghost use Rattle.whole_paths.specs.OctetsPassed.{OctetsArePassed};
 ghost use Rattle.whole_paths.specs.RecordsPassed.{FirstRecordsArePassed, RecordsComeInTime, WholeRecordsArePassed};
 ghost use Rattle.whole_paths.specs.SenderWaits.{SendersAreAwaited};
 ghost use Rattle.whole_paths.specs.SentInOrder.{EachIsSentInOrder};
@@ -595,6 +596,15 @@ pub fn whole_records_are_passed()
 /// It is said of a record of data on path 0 of a mild connection between open ends, which came, or was to come by a tick of the round that ends.
 pub fn first_records_are_passed()
     ensures { FirstRecordsArePassed }
+{}
+
+/// A law: where all comes by a tick that a side sends up to a position, RCV.NXT has reached that position as the turn is over in which that tick lies
+/// (RFC 9293, section 3.10.7.4).
+///
+/// It is said of path 0 of a mild connection between open ends: each octet before the position is acknowledged, or lies in a record of data that comes
+/// by that tick, and so it is by each turn (`on`).
+pub fn octets_are_passed()
+    ensures { OctetsArePassed }
 {}
 
 /// A law: a record of data that comes by a tick comes by that tick still, by each turn of a mild connection between open ends, until it is

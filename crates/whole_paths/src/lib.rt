@@ -52,6 +52,7 @@ pub use delivery_laws::mild_scripts_never_break;
 pub use delivery_laws::mild_scripts_tell_keys;
 pub use delivery_laws::no_end_overruns;
 pub use delivery_laws::no_round_counts;
+pub use delivery_laws::octets_are_passed;
 pub use delivery_laws::octets_finish_as_values_do;
 pub use delivery_laws::open_asks_are_answered;
 pub use delivery_laws::open_asks_go_on;

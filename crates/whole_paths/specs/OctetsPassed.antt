@@ -1,0 +1,33 @@
+-- What comes up to a position of a side: each octet before it is acknowledged, or lies in a record of data that comes by a tick.
+use Rattle.std.specs.Prelude.{ℕ, ◌≡◌, ◌<◌, ◌≤◌, ◌⊎◌, List, []}
+use Rattle.sides.specs.declared.side.Side.{Side}
+use Rattle.sides.specs.Side.{peer}
+use Rattle.subflow_send.specs.Records.{Record, end_of}
+use Rattle.subflow_send.specs.declared.record.RecordKind.TheVariants.{Data}
+use Rattle.path_core.specs.State.{PathState, end_at}
+use Rattle.path_core.specs.Values.{Carried}
+use Rattle.world_laws.specs.Openings.{Start}
+use Rattle.world_laws.specs.Worlds.{Turn}
+use Rattle.whole_paths.specs.Mending.{IsOpenTurn}
+use Rattle.whole_paths.specs.Mild.{IsMildStart}
+use Rattle.whole_paths.specs.OpenCourses.{IsOpenAfter}
+use Rattle.whole_paths.specs.RecordsPassed.{ComesInTime}
+
+-- a position lies in a record of data that comes by a tick, or was acknowledged
+pub record IsInOneThatComes (s : Side) (pos by : ℕ) (p : PathState Carried) : Type 0 where
+  pub one : Record
+  pub data_is : one.kind ≡ Data
+  pub begins : one.pos ≤ pos
+  pub ends : pos < end_of one
+  pub comes : ComesInTime s one by p
+
+abbrev pub ComesUpTo : Side → ℕ → ℕ → PathState Carried → Type 0
+ComesUpTo s last by p = (pos : ℕ) → pos < last → (pos < (end_at s p).tcp.send.una) ⊎ IsInOneThatComes s pos by p
+
+-- So it is by each turn of a mild connection between open ends; and where the turn is over in which that tick lies the peer's RCV.NXT has reached the
+-- position.
+pub record OctetsArePassed : Type 0 where
+  pub on : (start : Start) (turns : List Turn) (turn : Turn) (h : IsOpenTurn start turns turn) (s : Side) (last by : ℕ)
+      → ComesUpTo s last by h.before.path → ComesUpTo s last by h.after.path
+  pub due : (start : Start) (turns : List Turn) → IsMildStart start → (h : IsOpenAfter start turns) → h.path.agenda ≡ []
+      → (s : Side) (last by : ℕ) → by < h.path.until → ComesUpTo s last by h.path → last ≤ (end_at (peer s) h.path).tcp.recv.edge
