@@ -1,5 +1,5 @@
 -- What comes up to a position of a side: each octet before it is acknowledged, or lies in a record of data that comes by a tick.
-use Rattle.std.specs.Prelude.{ℕ, ◌≡◌, ◌<◌, ◌≤◌, ◌⊎◌, List, []}
+use Rattle.std.specs.Prelude.{ℕ, ◌≡◌, ◌<◌, ◌≤◌, ◌⊎◌, Some, List, [], slice_get}
 use Rattle.sides.specs.declared.side.Side.{Side}
 use Rattle.sides.specs.Side.{peer}
 use Rattle.subflow_send.specs.Records.{Record, end_of}
@@ -8,7 +8,7 @@ use Rattle.path_core.specs.State.{PathState, end_at}
 use Rattle.path_core.specs.Values.{Carried}
 use Rattle.world_laws.specs.Openings.{Start}
 use Rattle.world_laws.specs.Worlds.{Turn}
-use Rattle.whole_paths.specs.Mending.{IsOpenTurn}
+use Rattle.whole_paths.specs.Mending.{IsOpenTurn, IsThereBy}
 use Rattle.whole_paths.specs.Mild.{IsMildStart}
 use Rattle.whole_paths.specs.OpenCourses.{IsOpenAfter}
 use Rattle.whole_paths.specs.RecordsPassed.{ComesInTime}
@@ -24,9 +24,13 @@ pub record IsInOneThatComes (s : Side) (pos by : ℕ) (p : PathState Carried) : 
 abbrev pub ComesUpTo : Side → ℕ → ℕ → PathState Carried → Type 0
 ComesUpTo s last by p = (pos : ℕ) → pos < last → (pos < (end_at s p).tcp.send.una) ⊎ IsInOneThatComes s pos by p
 
--- So it is by each turn of a mild connection between open ends; and where the turn is over in which that tick lies the peer's RCV.NXT has reached the
--- position.
+-- All comes up to a record before which each is one of data that comes by the tick; so it is by each turn of a mild connection between open ends; and
+-- where the turn is over in which that tick lies the peer's RCV.NXT has reached the position.
 pub record OctetsArePassed : Type 0 where
+  pub begins : (start : Start) (turns : List Turn) (h : IsOpenAfter start turns) (s : Side) (by at : ℕ) (r : Record)
+      → slice_get (end_at s h.path).tcp.send.records at ≡ Some r
+      → ((i : ℕ) (t : Record) → i < at → slice_get (end_at s h.path).tcp.send.records i ≡ Some t → (t.kind ≡ Data) × IsThereBy s t by h.path)
+      → ComesUpTo s r.pos by h.path
   pub on : (start : Start) (turns : List Turn) (turn : Turn) (h : IsOpenTurn start turns turn) (s : Side) (last by : ℕ)
       → ComesUpTo s last by h.before.path → ComesUpTo s last by h.after.path
   pub due : (start : Start) (turns : List Turn) → IsMildStart start → (h : IsOpenAfter start turns) → h.path.agenda ≡ []

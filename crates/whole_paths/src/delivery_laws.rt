@@ -601,8 +601,8 @@ pub fn first_records_are_passed()
 /// A law: where all comes by a tick that a side sends up to a position, RCV.NXT has reached that position as the turn is over in which that tick lies
 /// (RFC 9293, section 3.10.7.4).
 ///
-/// It is said of path 0 of a mild connection between open ends: each octet before the position is acknowledged, or lies in a record of data that comes
-/// by that tick, and so it is by each turn (`on`).
+/// It is said of path 0 of a mild connection between open ends (`due`): each octet before the position is acknowledged, or lies in a record of data
+/// that comes by that tick. So it is where each record before the position is such a one (`begins`), and stays so by each turn (`on`).
 pub fn octets_are_passed()
     ensures { OctetsArePassed }
 {}
