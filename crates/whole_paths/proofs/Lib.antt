@@ -152,6 +152,7 @@ pub mod Unbroken
 pub mod Unended
 pub mod Unstopped
 pub mod Waiting
+pub mod WellOctets
 pub mod WindowRoom
 pub mod WindowWaits
 pub mod WindowsHeard

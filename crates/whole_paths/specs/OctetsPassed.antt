@@ -1,5 +1,5 @@
 -- What comes up to a position of a side: each octet before it is acknowledged, or lies in a record of data that comes by a tick.
-use Rattle.std.specs.Prelude.{ℕ, ◌≡◌, ◌<◌, ◌≤◌, ◌⊎◌, Some, List, [], slice_get}
+use Rattle.std.specs.Prelude.{ℕ, ◌≡◌, ◌<◌, ◌≤◌, ◌⊎◌, ◌+◌, false, Some, List, [], slice_get}
 use Rattle.sides.specs.declared.side.Side.{Side}
 use Rattle.sides.specs.Side.{peer}
 use Rattle.subflow_send.specs.Records.{Record, end_of}
@@ -8,7 +8,7 @@ use Rattle.path_core.specs.State.{PathState, end_at}
 use Rattle.path_core.specs.Values.{Carried}
 use Rattle.world_laws.specs.Openings.{Start}
 use Rattle.world_laws.specs.Worlds.{Turn}
-use Rattle.whole_paths.specs.Mending.{IsOpenTurn, IsThereBy}
+use Rattle.whole_paths.specs.Mending.{IsOpenTurn, IsThereBy, IsWell}
 use Rattle.whole_paths.specs.Mild.{IsMildStart}
 use Rattle.whole_paths.specs.OpenCourses.{IsOpenAfter}
 use Rattle.whole_paths.specs.RecordsPassed.{ComesInTime}
@@ -35,3 +35,11 @@ pub record OctetsArePassed : Type 0 where
       → ComesUpTo s last by h.before.path → ComesUpTo s last by h.after.path
   pub due : (start : Start) (turns : List Turn) → IsMildStart start → (h : IsOpenAfter start turns) → h.path.agenda ≡ []
       → (s : Side) (last by : ℕ) → by < h.path.until → ComesUpTo s last by h.path → last ≤ (end_at (peer s) h.path).tcp.recv.edge
+
+-- On path 0 of a mild connection, whose ends are open: all before a record of data comes up to it within 400 ticks, where the record was sent, and each
+-- before it is well.
+abbrev pub WellOctetsCome : Type 0
+WellOctetsCome = (start : Start) (turns : List Turn) → IsMildStart start → (h : IsOpenAfter start turns) → (s : Side) (at : ℕ) (r : Record)
+    → slice_get (end_at s h.path).tcp.send.records at ≡ Some r → r.kind ≡ Data → r.sending.unsent ≡ false
+    → ((i : ℕ) (t : Record) → i < at → slice_get (end_at s h.path).tcp.send.records i ≡ Some t → IsWell s h.path t)
+    → ComesUpTo s r.pos (h.path.clock + 400) h.path

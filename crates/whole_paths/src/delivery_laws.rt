@@ -41,7 +41,7 @@ ghost use Rattle.whole_paths.specs.Pushed.{WhatHasRoomIsSent, WhatIsUnsentWaitsF
 ghost use Rattle.whole_paths.specs.Received.{HoldsOfOnlyPaths};
 ghost use Rattle.whole_paths.specs.RecordWaits.{NoRoundCounts, RecordsAreAwaitedAlways};
 ghost use Rattle.whole_paths.specs.SegmentRounds.{ASegmentIsRead, EachRoundReads, EachRoundWrites, FourRoundsBring, FourRoundsTell};
-ghost use Rattle.whole_paths.specs.OctetsPassed.{OctetsArePassed};
+ghost use Rattle.whole_paths.specs.OctetsPassed.{OctetsArePassed, WellOctetsCome};
 ghost use Rattle.whole_paths.specs.RecordsPassed.{FirstRecordsArePassed, RecordsComeInTime, WholeRecordsArePassed};
 ghost use Rattle.whole_paths.specs.SenderWaits.{SendersAreAwaited};
 ghost use Rattle.whole_paths.specs.SentInOrder.{EachIsSentInOrder};
@@ -605,6 +605,14 @@ pub fn first_records_are_passed()
 /// that comes by that tick. So it is where each record before the position is such a one (`begins`), and stays so by each turn (`on`).
 pub fn octets_are_passed()
     ensures { OctetsArePassed }
+{}
+
+/// A law: what a side sends before a record of data that it sent, comes up to that record within 400 ticks, where each record before it is well (RFC 9293,
+/// section 3.4).
+///
+/// It is said of path 0 of a mild connection between open ends. No SYN is left there, the FIN is last, and records are sent in order.
+pub fn well_octets_come()
+    ensures { WellOctetsCome }
 {}
 
 /// A law: a record of data that comes by a tick comes by that tick still, by each turn of a mild connection between open ends, until it is

@@ -67,6 +67,7 @@ pub use delivery_laws::senders_are_awaited;
 pub use delivery_laws::shut_windows_have_room;
 pub use delivery_laws::shut_windows_open_in_time;
 pub use delivery_laws::ways_stay;
+pub use delivery_laws::well_octets_come;
 pub use delivery_laws::what_ended_is_acknowledged;
 pub use delivery_laws::what_has_room_is_sent;
 pub use delivery_laws::what_holds_up_counts;
