@@ -1,7 +1,8 @@
 -- What is well before a record that was sent comes: it is of data, and was sent.
-use Rattle.std.proofs.Common.{◌≡◌, refl, sym, subst, ap, ◌∙◌, ◌⊎◌, inl, inr, ⊎_elim, ℕ, zero, suc, ◌+◌, ◌<◌, ◌≤◌, arith, true, false, true≢false, Some, List, [], ◌∷◌, length, map}
+use Rattle.std.proofs.Common.{◌≡◌, refl, sym, subst, ap, ◌∙◌, ◌⊎◌, inl, inr, ⊎_elim, ℕ, zero, suc, ◌+◌, ◌<◌, ◌≤◌, arith, Bool, true, false, true≢false, Some, List, [], ◌∷◌, length, map}
 use Rattle.std.specs.List.{slice_get}
 use Rattle.std.proofs.lemmas.Option.{same_Some}
+use Rattle.stream_lanes.specs.Words.{Every, Has}
 use Rattle.sides.specs.declared.side.Side.{Side}
 use Rattle.subflow_send.specs.Records.{Record, end_of, occupied, span_of}
 use Rattle.subflow_send.specs.Rules.{is_unsent}
@@ -17,7 +18,8 @@ use Rattle.whole_paths.specs.LastFin.{FinIsLast}
 use Rattle.whole_paths.specs.Mending.{IsRecordOf, IsThereBy, IsWell}
 use Rattle.whole_paths.specs.Mending.{IsWell as is_well}
 use Rattle.whole_paths.specs.Mild.{IsMildStart}
-use Rattle.whole_paths.specs.OctetsPassed.{WellOctetsCome}
+use Rattle.whole_paths.specs.OctetsPassed.{AllComesUpToLost, ComesUpToLost, WellOctetsCome}
+use Rattle.whole_paths.specs.OctetsPassed.{ComesUpToLost as up_to_lost}
 use Rattle.whole_paths.specs.OpenCourses.{IsOpenAfter}
 use Rattle.whole_paths.specs.SentInOrder.{AreSentInOrder, SendsInOrder, WaitsToBeSent}
 use Rattle.whole_paths.specs.Straying.{IsOpen}
@@ -93,3 +95,53 @@ well_octets_come start turns mild h s at r there_r data_is sent well = octets_ar
   where
     of_path : (P : PathState Carried → Type 0) → HoldsOfKind (λ app. Unit {0}) P h.here.crew.member → P h.path
     of_path P held = subst (HoldsOfKind (λ app. Unit {0}) P) h.here.is held
+
+-- ---- the first record that may be lost
+
+record IsFirstOf (rs : List Record) (W L : Record → Type 0) : Type 0 where
+  index : ℕ
+  item : Record
+  there : slice_get rs index ≡ Some item
+  is_lost : L item
+  before : (i : ℕ) (t : Record) → i < index → slice_get rs i ≡ Some t → W t
+
+first_of : (W L : Record → Type 0) (rs : List Record) → ((i : ℕ) (t : Record) → slice_get rs i ≡ Some t → W t ⊎ L t) → Every W rs ⊎ IsFirstOf rs W L
+first_of W L [] each = inl (record { each = λ i t there. cc })
+first_of W L (x ∷ xs) each = ⊎_elim
+    (λ well. ⊎_elim (λ rest. inl (record { each = all well rest })) (λ first. inr (later well first)) (first_of W L xs (λ i t there. each (suc i) t there)))
+    (λ lost. inr (record { index = 0; item = x; there = refl; is_lost = lost; before = λ i t early. absurd (omega (arith, early)) }))
+    (each 0 x refl)
+  where
+    all : W x → Every W xs → (i : ℕ) (t : Record) → slice_get (x ∷ xs) i ≡ Some t → W t
+    all well rest zero t there = subst W (same_Some x t there) well
+    all well rest (suc i) t there = rest.each i t there
+
+    earlier : W x → (first : IsFirstOf xs W L) → (i : ℕ) (t : Record) → i < suc first.index → slice_get (x ∷ xs) i ≡ Some t → W t
+    earlier well first zero t low there = subst W (same_Some x t there) well
+    earlier well first (suc i) t low there = first.before i t (omega (arith, low)) there
+
+    later : W x → IsFirstOf xs W L → IsFirstOf (x ∷ xs) W L
+    later well first = record { index = suc first.index; item = first.item; there = first.there; is_lost = first.is_lost; before = earlier well first }
+
+record MayBeLost (lost : List ℕ) (r : Record) : Type 0 where
+  data_is : r.kind ≡ Data
+  sent : r.sending.unsent ≡ false
+  among : Has (λ n. n ≡ r.pos) lost
+
+-- only a record of data that was sent may be lost
+well_or_lost : (s : Side) (p : PathState Carried) (lost : List ℕ) (r : Record) → IsWell s p r ⊎ Has (λ n. n ≡ r.pos) lost → IsWell s p r ⊎ MayBeLost lost r
+well_or_lost s p lost r h = by r.kind refl r.sending.unsent refl
+  where
+    by : (k : RecordKind) → r.kind ≡ k → (b : Bool) → r.sending.unsent ≡ b → IsWell s p r ⊎ MayBeLost lost r
+    by kinds.Syn is b unsent = inl (is_well.other (λ data_is. (let other : kinds.Syn ≡ kinds.Data = sym is ∙ data_is in cc)))
+    by kinds.Fin is b unsent = inl (is_well.other (λ data_is. (let other : kinds.Fin ≡ kinds.Data = sym is ∙ data_is in cc)))
+    by kinds.Data is true unsent = inl (is_well.unsent unsent)
+    by kinds.Data is false sent = ⊎_elim (λ well. inl well) (λ among. inr (record { data_is = is; sent = sent; among = among })) h
+
+pub all_comes_up_to_lost : AllComesUpToLost
+all_comes_up_to_lost start turns mild h s lost but = ⊎_elim (λ well. up_to_lost.none well) first
+    (first_of (IsWell s h.path) (MayBeLost lost) (end_at s h.path).tcp.send.records (λ i t there. well_or_lost s h.path lost t (but t (record { at = i; item = t; there = there; holds = refl }))))
+  where
+    first : IsFirstOf (end_at s h.path).tcp.send.records (IsWell s h.path) (MayBeLost lost) → ComesUpToLost s lost h.path
+    first f = up_to_lost.up_to f.item (record { at = f.index; item = f.item; there = f.there; holds = refl }) f.is_lost.data_is f.is_lost.sent f.is_lost.among
+        (well_octets_come start turns mild h s f.index f.item f.there f.is_lost.data_is f.is_lost.sent f.before)

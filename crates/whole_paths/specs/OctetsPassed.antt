@@ -8,10 +8,12 @@ use Rattle.path_core.specs.State.{PathState, end_at}
 use Rattle.path_core.specs.Values.{Carried}
 use Rattle.world_laws.specs.Openings.{Start}
 use Rattle.world_laws.specs.Worlds.{Turn}
-use Rattle.whole_paths.specs.Mending.{IsOpenTurn, IsThereBy, IsWell}
+use Rattle.stream_lanes.specs.Words.{Every, Has}
+use Rattle.whole_paths.specs.Mending.{IsOpenTurn, IsRecordOf, IsThereBy, IsWell}
 use Rattle.whole_paths.specs.Mild.{IsMildStart}
 use Rattle.whole_paths.specs.OpenCourses.{IsOpenAfter}
 use Rattle.whole_paths.specs.RecordsPassed.{ComesInTime}
+use Rattle.whole_paths.specs.Unmended.{AreWellBut}
 
 -- a position lies in a record of data that comes by a tick, or was acknowledged
 pub record IsInOneThatComes (s : Side) (pos by : ℕ) (p : PathState Carried) : Type 0 where
@@ -43,3 +45,14 @@ WellOctetsCome = (start : Start) (turns : List Turn) → IsMildStart start → (
     → slice_get (end_at s h.path).tcp.send.records at ≡ Some r → r.kind ≡ Data → r.sending.unsent ≡ false
     → ((i : ℕ) (t : Record) → i < at → slice_get (end_at s h.path).tcp.send.records i ≡ Some t → IsWell s h.path t)
     → ComesUpTo s r.pos (h.path.clock + 400) h.path
+
+-- each record of a side is well, or all comes within 400 ticks up to one that may be lost, the first of those
+pub data ComesUpToLost (s : Side) (lost : List ℕ) (p : PathState Carried) : Type 0 where
+  none : Every (IsWell s p) (end_at s p).tcp.send.records → ComesUpToLost s lost p
+  up_to : (r : Record) → IsRecordOf (end_at s p) r → r.kind ≡ Data → r.sending.unsent ≡ false → Has (λ n. n ≡ r.pos) lost
+      → ComesUpTo s r.pos (p.clock + 400) p → ComesUpToLost s lost p
+
+-- on path 0 of a mild connection, whose ends are open
+abbrev pub AllComesUpToLost : Type 0
+AllComesUpToLost = (start : Start) (turns : List Turn) → IsMildStart start → (h : IsOpenAfter start turns) → (s : Side) (lost : List ℕ)
+    → AreWellBut s lost h.path → ComesUpToLost s lost h.path

@@ -41,7 +41,7 @@ ghost use Rattle.whole_paths.specs.Pushed.{WhatHasRoomIsSent, WhatIsUnsentWaitsF
 ghost use Rattle.whole_paths.specs.Received.{HoldsOfOnlyPaths};
 ghost use Rattle.whole_paths.specs.RecordWaits.{NoRoundCounts, RecordsAreAwaitedAlways};
 ghost use Rattle.whole_paths.specs.SegmentRounds.{ASegmentIsRead, EachRoundReads, EachRoundWrites, FourRoundsBring, FourRoundsTell};
-ghost use Rattle.whole_paths.specs.OctetsPassed.{OctetsArePassed, WellOctetsCome};
+ghost use Rattle.whole_paths.specs.OctetsPassed.{AllComesUpToLost, OctetsArePassed, WellOctetsCome};
 ghost use Rattle.whole_paths.specs.RecordsPassed.{FirstRecordsArePassed, RecordsComeInTime, WholeRecordsArePassed};
 ghost use Rattle.whole_paths.specs.SenderWaits.{SendersAreAwaited};
 ghost use Rattle.whole_paths.specs.SentInOrder.{EachIsSentInOrder};
@@ -613,6 +613,13 @@ pub fn octets_are_passed()
 /// It is said of path 0 of a mild connection between open ends. No SYN is left there, the FIN is last, and records are sent in order.
 pub fn well_octets_come()
     ensures { WellOctetsCome }
+{}
+
+/// A law: where records may be lost, all that the side sends comes within 400 ticks up to the first one that may be.
+///
+/// It is said of path 0 of a mild connection between open ends; where no record may be lost each is well.
+pub fn all_comes_up_to_lost()
+    ensures { AllComesUpToLost }
 {}
 
 /// A law: a record of data that comes by a tick comes by that tick still, by each turn of a mild connection between open ends, until it is

@@ -25,6 +25,7 @@ mod laws;
 
 pub use delivery_laws::a_segment_is_read;
 pub use delivery_laws::a_unit_is_made;
+pub use delivery_laws::all_comes_up_to_lost;
 pub use delivery_laws::an_end_is_told;
 pub use delivery_laws::answers_are_awaited_always;
 pub use delivery_laws::each_answer_comes_soon;
