@@ -11,6 +11,7 @@ pub mod Boundaries
 pub mod Breaking
 pub mod Bringing
 pub mod Came
+pub mod ClearRounds
 pub mod Clearing
 pub mod Closing
 pub mod ClosingAsked

@@ -11,6 +11,7 @@ pub mod AwaitedThere
 pub mod Brought
 pub mod Came
 pub mod Clear
+pub mod ClearRounds
 pub mod Closing
 pub mod ClosingAsked
 pub mod ClosingFin

@@ -41,6 +41,7 @@ ghost use Rattle.whole_paths.specs.Pushed.{WhatHasRoomIsSent, WhatIsUnsentWaitsF
 ghost use Rattle.whole_paths.specs.Received.{HoldsOfOnlyPaths};
 ghost use Rattle.whole_paths.specs.RecordWaits.{NoRoundCounts, RecordsAreAwaitedAlways};
 ghost use Rattle.whole_paths.specs.SegmentRounds.{ASegmentIsRead, EachRoundReads, EachRoundWrites, FourRoundsBring, FourRoundsTell};
+ghost use Rattle.whole_paths.specs.ClearRounds.{FourRoundsClear};
 ghost use Rattle.whole_paths.specs.OctetsPassed.{AllComesUpToLost, OctetsArePassed, WellOctetsCome};
 ghost use Rattle.whole_paths.specs.RecordsPassed.{FirstRecordsArePassed, RecordsComeInTime, WholeRecordsArePassed};
 ghost use Rattle.whole_paths.specs.SenderWaits.{SendersAreAwaited};
@@ -620,6 +621,14 @@ pub fn well_octets_come()
 /// It is said of path 0 of a mild connection between open ends; where no record may be lost each is well.
 pub fn all_comes_up_to_lost()
     ensures { AllComesUpToLost }
+{}
+
+/// A law: in four rounds all comes that a side sends before the first record that may be lost (RFC 9293, section 3.10.7.4).
+///
+/// It is said of rounds of a mild connection over one path between open ends: RCV.NXT has reached a record that could be lost as they began, or each
+/// record was well.
+pub fn four_rounds_clear()
+    ensures { FourRoundsClear }
 {}
 
 /// A law: a record of data that comes by a tick comes by that tick still, by each turn of a mild connection between open ends, until it is

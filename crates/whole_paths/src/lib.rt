@@ -38,6 +38,7 @@ pub use delivery_laws::firm_openings_deliver;
 pub use delivery_laws::first_addresses_stay;
 pub use delivery_laws::first_records_are_passed;
 pub use delivery_laws::first_signs_are_awaited;
+pub use delivery_laws::four_rounds_clear;
 pub use delivery_laws::harmless_ends_die_of_expiries;
 pub use delivery_laws::harms_alone_lose_records;
 pub use delivery_laws::harms_use_lines;

@@ -1,0 +1,26 @@
+-- Rounds that clear what comes before the first record that may be lost.
+use Rattle.std.specs.Prelude.{ℕ, ◌≡◌, ◌≤◌, List}
+use Rattle.sides.specs.declared.side.Side.{Side}
+use Rattle.sides.specs.Side.{peer}
+use Rattle.stream_lanes.specs.Words.{Every, Has}
+use Rattle.path_core.specs.State.{PathState, end_at}
+use Rattle.path_core.specs.Values.{Carried, values}
+use Rattle.world_laws.specs.Openings.{PathPlan, Start}
+use Rattle.world_laws.specs.RoundDone.{reached}
+use Rattle.world_laws.specs.Worlds.{Turn}
+use Rattle.whole_paths.specs.Finish.{IsPathAt}
+use Rattle.whole_paths.specs.Mending.{IsWell}
+use Rattle.whole_paths.specs.OnePathScripts.{BeginsWithOnePath}
+use Rattle.whole_paths.specs.SegmentRounds.{Rounds}
+use Rattle.whole_paths.specs.Unmended.{AreWellBut}
+
+-- each record of a side was well, or the peer's RCV.NXT has reached one that could be lost
+pub data IsClearUpTo (s : Side) (lost : List ℕ) (p q : PathState Carried) : Type 0 where
+  none : Every (IsWell s p) (end_at s p).tcp.send.records → IsClearUpTo s lost p q
+  up_to : (position : ℕ) → Has (λ n. n ≡ position) lost → position ≤ (end_at (peer s) q).tcp.recv.edge → IsClearUpTo s lost p q
+
+-- So it is after four rounds.
+abbrev pub FourRoundsClear : Type 0
+FourRoundsClear = (start : Start) (plan : PathPlan) (v u : List Turn) → BeginsWithOnePath start plan → Rounds start 4 v u → (s : Side)
+    → (p q : PathState Carried) → IsPathAt 0 (reached values start v) p → IsPathAt 0 (reached values start u) q → (lost : List ℕ) → AreWellBut s lost p
+    → IsClearUpTo s lost p q
