@@ -1,5 +1,5 @@
 -- In four rounds all comes that is sent before the first record that may be lost.
-use Rattle.std.proofs.Common.{◌≡◌, sym, subst, ℕ, ◌+◌, ◌<◌, ◌≤◌, arith, List, [], ◌++◌}
+use Rattle.std.proofs.Common.{◌≡◌, sym, subst, ⊎_elim, ℕ, ◌+◌, ◌<◌, ◌≤◌, arith, List, [], ◌++◌}
 use Rattle.sides.specs.declared.side.Side.{Side}
 use Rattle.sides.specs.Side.{peer}
 use Rattle.path_core.specs.State.{PathState, end_at}
@@ -8,7 +8,8 @@ use Rattle.world_laws.specs.Openings.{PathPlan, Start}
 use Rattle.world_laws.specs.RoundDone.{EndsAt, reached}
 use Rattle.world_laws.specs.Worlds.{Turn}
 use Rattle.world_laws.proofs.Rounds.DoneByTheEnd.{rounds_end_on_time}
-use Rattle.whole_paths.specs.ClearRounds.{FourRoundsClear, IsClearUpTo}
+use Rattle.whole_paths.specs.ClearRounds.{EightRoundsClear, FourRoundsClear, IsAckedUpTo, IsClearUpTo}
+use Rattle.whole_paths.specs.ClearRounds.{IsAckedUpTo as acked}
 use Rattle.whole_paths.specs.ClearRounds.{IsClearUpTo as clear}
 use Rattle.whole_paths.specs.Courses.{round_end}
 use Rattle.whole_paths.specs.Finish.{IsPathAt}
@@ -21,6 +22,7 @@ use Rattle.whole_paths.specs.Unmended.{AreWellBut}
 use Rattle.whole_paths.proofs.OctetsPassed.{octets_are_passed}
 use Rattle.whole_paths.proofs.RecordWaits.{path_is}
 use Rattle.whole_paths.proofs.RoundSteps.{Between, between, carried, early, open_first, open_last, over_after, rounds_later, silent}
+use Rattle.whole_paths.proofs.SegmentRounds.{four_rounds_tell}
 use Rattle.whole_paths.proofs.WellOctets.{all_comes_up_to_lost}
 
 module _ (start : Start) (plan : PathPlan) (x : BeginsWithOnePath start plan) (v u : List Turn) (rounds : Rounds start 4 v u) (s : Side) (p q : PathState Carried)
@@ -64,3 +66,10 @@ module _ (start : Start) (plan : PathPlan) (x : BeginsWithOnePath start plan) (v
 
 pub four_rounds_clear : FourRoundsClear
 four_rounds_clear start plan v u x rounds s p q here there lost but = clears start plan x v u rounds s p q here there lost but
+
+pub eight_rounds_clear : EightRoundsClear
+eight_rounds_clear start plan v a u x first second s p m q here between_here there lost but soon = by (four_rounds_clear start plan v a x first s p m here between_here lost but)
+  where
+    by : IsClearUpTo s lost p m → IsAckedUpTo s lost p q (reached values start u)
+    by (clear.none well) = acked.none well
+    by (clear.up_to position among comes) = ⊎_elim (λ all. acked.all_there all) (λ told. acked.up_to position among (omega (arith, comes, told))) (four_rounds_tell start plan a u x second s m q between_here there soon)

@@ -1,4 +1,4 @@
--- Rounds that clear what comes before the first record that may be lost.
+-- Rounds that clear what is sent before the first record that may be lost: it comes, and is acknowledged.
 use Rattle.std.specs.Prelude.{ℕ, ◌≡◌, ◌≤◌, List}
 use Rattle.sides.specs.declared.side.Side.{Side}
 use Rattle.sides.specs.Side.{peer}
@@ -7,9 +7,10 @@ use Rattle.path_core.specs.State.{PathState, end_at}
 use Rattle.path_core.specs.Values.{Carried, values}
 use Rattle.world_laws.specs.Openings.{PathPlan, Start}
 use Rattle.world_laws.specs.RoundDone.{reached}
-use Rattle.world_laws.specs.Worlds.{Turn}
+use Rattle.world_laws.specs.Worlds.{Turn, WorldState}
+use Rattle.whole_paths.specs.Delivery.{IsAllThere}
 use Rattle.whole_paths.specs.Finish.{IsPathAt}
-use Rattle.whole_paths.specs.Mending.{IsWell}
+use Rattle.whole_paths.specs.Mending.{IsToldSoon, IsWell}
 use Rattle.whole_paths.specs.OnePathScripts.{BeginsWithOnePath}
 use Rattle.whole_paths.specs.SegmentRounds.{Rounds}
 use Rattle.whole_paths.specs.Unmended.{AreWellBut}
@@ -24,3 +25,16 @@ abbrev pub FourRoundsClear : Type 0
 FourRoundsClear = (start : Start) (plan : PathPlan) (v u : List Turn) → BeginsWithOnePath start plan → Rounds start 4 v u → (s : Side)
     → (p q : PathState Carried) → IsPathAt 0 (reached values start v) p → IsPathAt 0 (reached values start u) q → (lost : List ℕ) → AreWellBut s lost p
     → IsClearUpTo s lost p q
+
+-- each record of a side was well, or its stream is there, or SND.UNA has reached a record that could be lost
+pub data IsAckedUpTo (s : Side) (lost : List ℕ) (p q : PathState Carried) (w : WorldState Carried) : Type 0 where
+  none : Every (IsWell s p) (end_at s p).tcp.send.records → IsAckedUpTo s lost p q w
+  all_there : IsAllThere s w → IsAckedUpTo s lost p q w
+  up_to : (position : ℕ) → Has (λ n. n ≡ position) lost → position ≤ (end_at s q).tcp.send.una → IsAckedUpTo s lost p q w
+
+-- So it is after four rounds more, where the end was to be told soon how far its peer was as they began.
+abbrev pub EightRoundsClear : Type 0
+EightRoundsClear = (start : Start) (plan : PathPlan) (v a u : List Turn) → BeginsWithOnePath start plan → Rounds start 4 v a → Rounds start 4 a u
+    → (s : Side) (p m q : PathState Carried) → IsPathAt 0 (reached values start v) p → IsPathAt 0 (reached values start a) m
+    → IsPathAt 0 (reached values start u) q → (lost : List ℕ) → AreWellBut s lost p → IsToldSoon s m
+    → IsAckedUpTo s lost p q (reached values start u)

@@ -41,7 +41,7 @@ ghost use Rattle.whole_paths.specs.Pushed.{WhatHasRoomIsSent, WhatIsUnsentWaitsF
 ghost use Rattle.whole_paths.specs.Received.{HoldsOfOnlyPaths};
 ghost use Rattle.whole_paths.specs.RecordWaits.{NoRoundCounts, RecordsAreAwaitedAlways};
 ghost use Rattle.whole_paths.specs.SegmentRounds.{ASegmentIsRead, EachRoundReads, EachRoundWrites, FourRoundsBring, FourRoundsTell};
-ghost use Rattle.whole_paths.specs.ClearRounds.{FourRoundsClear};
+ghost use Rattle.whole_paths.specs.ClearRounds.{EightRoundsClear, FourRoundsClear};
 ghost use Rattle.whole_paths.specs.OctetsPassed.{AllComesUpToLost, OctetsArePassed, WellOctetsCome};
 ghost use Rattle.whole_paths.specs.RecordsPassed.{FirstRecordsArePassed, RecordsComeInTime, WholeRecordsArePassed};
 ghost use Rattle.whole_paths.specs.SenderWaits.{SendersAreAwaited};
@@ -626,9 +626,10 @@ pub fn all_comes_up_to_lost()
 /// A law: in four rounds all comes that a side sends before the first record that may be lost (RFC 9293, section 3.10.7.4).
 ///
 /// It is said of rounds of a mild connection over one path between open ends: RCV.NXT has reached a record that could be lost as they began, or each
-/// record was well.
+/// record was well. After four rounds more SND.UNA has reached it, where the end was to be told soon how far its peer was (`told`).
 pub fn four_rounds_clear()
-    ensures { FourRoundsClear }
+    ensures comes { FourRoundsClear }
+    ensures told { EightRoundsClear }
 {}
 
 /// A law: a record of data that comes by a tick comes by that tick still, by each turn of a mild connection between open ends, until it is
