@@ -50,7 +50,7 @@ use Rattle.whole_paths.proofs.Waiting.{no_timer_is_put_off}
 -- ---- positions that may be lost
 
 -- without this one
-abbrev without : ℕ → List ℕ → List ℕ
+abbrev pub without : ℕ → List ℕ → List ℕ
 without pos [] = []
 without pos (n ∷ ns) = if n == pos then without pos ns else n ∷ without pos ns
 
@@ -62,7 +62,7 @@ no_longer pos (n ∷ ns) = by (n == pos) (no_longer pos ns)
     by true low = omega (arith, low)
     by false low = omega (arith, low)
 
-shorter : (pos : ℕ) (ns : List ℕ) (i m : ℕ) → slice_get ns i ≡ Some m → m ≡ pos → length (without pos ns) < length ns
+pub shorter : (pos : ℕ) (ns : List ℕ) (i m : ℕ) → slice_get ns i ≡ Some m → m ≡ pos → length (without pos ns) < length ns
 shorter pos [] i m there is = cc
 shorter pos (n ∷ ns) zero m there is = by (n == pos) refl
   where
@@ -76,7 +76,7 @@ shorter pos (n ∷ ns) (suc i) m there is = by (n == pos) (shorter pos ns i m th
     by false low = omega (arith, low)
 
 -- another one stays
-stays_among : (pos other : ℕ) → (other ≡ pos → ⊥) → (ns : List ℕ) (i m : ℕ) → slice_get ns i ≡ Some m → m ≡ other → Has (λ n. n ≡ other) (without pos ns)
+pub stays_among : (pos other : ℕ) → (other ≡ pos → ⊥) → (ns : List ℕ) (i m : ℕ) → slice_get ns i ≡ Some m → m ≡ other → Has (λ n. n ≡ other) (without pos ns)
 stays_among pos other apart [] i m there is = cc
 stays_among pos other apart (n ∷ ns) zero m there is = by (n == pos) refl
   where
@@ -95,7 +95,7 @@ some_among pos ns h = let less = shorter pos ns h.at h.item h.there h.holds in o
 -- ---- records stand one behind another
 
 -- each behind this position, where all have positions
-behind : (nxt : ℕ) (rs : List Record) (from : ℕ) → Joined from nxt (map span_of rs) → (i : ℕ) (t : Record) → slice_get rs i ≡ Some t → from ≤ t.pos
+pub behind : (nxt : ℕ) (rs : List Record) (from : ℕ) → Joined from nxt (map span_of rs) → (i : ℕ) (t : Record) → slice_get rs i ≡ Some t → from ≤ t.pos
 behind nxt [] from h i t there = cc
 behind nxt (r ∷ rs) from h zero t there = let is = h.0 in let same = ap (λ (x : Record). x.pos) (same_Some r t there) in omega (arith, is, same)
 behind nxt (r ∷ rs) from h (suc i) t there = let is = h.0 in let rest = behind nxt rs (end_of r) h.1 i t there in omega (arith, is, rest)

@@ -181,6 +181,7 @@ pub mod SynAcks
 pub mod Syns
 pub mod FirstAwaited
 pub mod FirstLost
+pub mod FirstReached
 pub mod FirstPieces
 pub mod WholeMappings
 pub mod ReadModes

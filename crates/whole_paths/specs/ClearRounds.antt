@@ -1,8 +1,9 @@
 -- Rounds that clear what is sent before the first record that may be lost: it comes, and is acknowledged.
-use Rattle.std.specs.Prelude.{ℕ, ◌≡◌, ◌≤◌, List}
+use Rattle.std.specs.Prelude.{ℕ, ◌≡◌, ◌<◌, ◌≤◌, List, ◌∷◌, length}
 use Rattle.sides.specs.declared.side.Side.{Side}
 use Rattle.sides.specs.Side.{peer}
 use Rattle.stream_lanes.specs.Words.{Every, Has}
+use Rattle.subflow_send.specs.Records.{Record}
 use Rattle.path_core.specs.State.{PathState, end_at}
 use Rattle.path_core.specs.Values.{Carried, values}
 use Rattle.world_laws.specs.Openings.{PathPlan, Start}
@@ -12,6 +13,8 @@ use Rattle.whole_paths.specs.Delivery.{IsAllThere}
 use Rattle.whole_paths.specs.Finish.{IsPathAt}
 use Rattle.whole_paths.specs.Mending.{IsToldSoon, IsWell}
 use Rattle.whole_paths.specs.OnePathScripts.{BeginsWithOnePath}
+use Rattle.whole_paths.specs.Mild.{IsMildStart}
+use Rattle.whole_paths.specs.OpenCourses.{IsOpenAfter}
 use Rattle.whole_paths.specs.SegmentRounds.{Rounds}
 use Rattle.whole_paths.specs.Unmended.{AreWellBut}
 
@@ -38,3 +41,13 @@ EightRoundsClear = (start : Start) (plan : PathPlan) (v a u : List Turn) → Beg
     → (s : Side) (p m q : PathState Carried) → IsPathAt 0 (reached values start v) p → IsPathAt 0 (reached values start a) m
     → IsPathAt 0 (reached values start u) q → (lost : List ℕ) → AreWellBut s lost p → IsToldSoon s m
     → IsAckedUpTo s lost p q (reached values start u)
+
+-- the first record of a side is one that may be lost, or fewer may be
+pub data IsFirstOrFewer (s : Side) (lost : List ℕ) (p : PathState Carried) : Type 0 where
+  first : (r : Record) (others : List Record) → (end_at s p).tcp.send.records ≡ r ∷ others → Has (λ n. n ≡ r.pos) lost → IsFirstOrFewer s lost p
+  fewer : (less : List ℕ) → length less < length lost → AreWellBut s less p → IsFirstOrFewer s lost p
+
+-- So it is on path 0 of a mild connection, whose ends are open, where SND.UNA has reached a record that may be lost.
+abbrev pub WhatIsReachedIsFirst : Type 0
+WhatIsReachedIsFirst = (start : Start) (turns : List Turn) → IsMildStart start → (h : IsOpenAfter start turns) → (s : Side) (lost : List ℕ)
+    → AreWellBut s lost h.path → (position : ℕ) → Has (λ n. n ≡ position) lost → position ≤ (end_at s h.path).tcp.send.una → IsFirstOrFewer s lost h.path

@@ -41,7 +41,7 @@ ghost use Rattle.whole_paths.specs.Pushed.{WhatHasRoomIsSent, WhatIsUnsentWaitsF
 ghost use Rattle.whole_paths.specs.Received.{HoldsOfOnlyPaths};
 ghost use Rattle.whole_paths.specs.RecordWaits.{NoRoundCounts, RecordsAreAwaitedAlways};
 ghost use Rattle.whole_paths.specs.SegmentRounds.{ASegmentIsRead, EachRoundReads, EachRoundWrites, FourRoundsBring, FourRoundsTell};
-ghost use Rattle.whole_paths.specs.ClearRounds.{EightRoundsClear, FourRoundsClear};
+ghost use Rattle.whole_paths.specs.ClearRounds.{EightRoundsClear, FourRoundsClear, WhatIsReachedIsFirst};
 ghost use Rattle.whole_paths.specs.OctetsPassed.{AllComesUpToLost, OctetsArePassed, WellOctetsCome};
 ghost use Rattle.whole_paths.specs.RecordsPassed.{FirstRecordsArePassed, RecordsComeInTime, WholeRecordsArePassed};
 ghost use Rattle.whole_paths.specs.SenderWaits.{SendersAreAwaited};
@@ -630,6 +630,13 @@ pub fn all_comes_up_to_lost()
 pub fn four_rounds_clear()
     ensures comes { FourRoundsClear }
     ensures told { EightRoundsClear }
+{}
+
+/// A law: where SND.UNA has reached a record that may be lost, that is the first one, or one less may be lost.
+///
+/// It is said of path 0 of a mild connection between open ends.
+pub fn what_is_reached_is_first()
+    ensures { WhatIsReachedIsFirst }
 {}
 
 /// A law: a record of data that comes by a tick comes by that tick still, by each turn of a mild connection between open ends, until it is

@@ -78,6 +78,7 @@ pub use delivery_laws::what_is_finished_is_there;
 pub use delivery_laws::what_is_left_is_data;
 pub use delivery_laws::what_is_outstanding_is_awaited;
 pub use delivery_laws::what_is_owed_goes;
+pub use delivery_laws::what_is_reached_is_first;
 pub use delivery_laws::what_is_there_is_delivered;
 pub use delivery_laws::what_is_unsent_waits_for_room;
 pub use delivery_laws::what_runs_out_is_mended;
