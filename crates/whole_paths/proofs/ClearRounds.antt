@@ -1,5 +1,6 @@
 -- In four rounds all comes that is sent before the first record that may be lost.
-use Rattle.std.proofs.Common.{◌≡◌, sym, subst, ⊎_elim, ℕ, ◌+◌, ◌<◌, ◌≤◌, arith, List, [], ◌++◌}
+use Rattle.std.proofs.Common.{◌≡◌, sym, subst, ⊎_elim, ℕ, ◌+◌, ◌<◌, ◌≤◌, arith, List, [], ◌∷◌, ◌++◌}
+use Rattle.std.proofs.lemmas.List.{append-nil, append_assoc}
 use Rattle.sides.specs.declared.side.Side.{Side}
 use Rattle.sides.specs.Side.{peer}
 use Rattle.path_core.specs.State.{PathState, end_at}
@@ -8,7 +9,8 @@ use Rattle.world_laws.specs.Openings.{PathPlan, Start}
 use Rattle.world_laws.specs.RoundDone.{EndsAt, reached}
 use Rattle.world_laws.specs.Worlds.{Turn}
 use Rattle.world_laws.proofs.Rounds.DoneByTheEnd.{rounds_end_on_time}
-use Rattle.whole_paths.specs.ClearRounds.{EightRoundsClear, FourRoundsClear, IsAckedUpTo, IsClearUpTo}
+use Rattle.whole_paths.specs.ClearRounds.{EightRoundsClear, FourRoundsClear, IsAckedUpTo, IsClearUpTo, IsFirstOrFewer, IsSoonFirst, LostRecordsAreFirst, LostRecordsStay}
+use Rattle.whole_paths.specs.ClearRounds.{IsSoonFirst as soon_first}
 use Rattle.whole_paths.specs.ClearRounds.{IsAckedUpTo as acked}
 use Rattle.whole_paths.specs.ClearRounds.{IsClearUpTo as clear}
 use Rattle.whole_paths.specs.Courses.{round_end}
@@ -19,6 +21,8 @@ use Rattle.whole_paths.specs.OnePathScripts.{BeginsWithOnePath}
 use Rattle.whole_paths.specs.OpenCourses.{IsOpenAfter}
 use Rattle.whole_paths.specs.SegmentRounds.{Rounds}
 use Rattle.whole_paths.specs.Unmended.{AreWellBut}
+use Rattle.whole_paths.proofs.FirstReached.{what_is_reached_is_first}
+use Rattle.whole_paths.proofs.Losing.{harms_alone_lose_records}
 use Rattle.whole_paths.proofs.OctetsPassed.{octets_are_passed}
 use Rattle.whole_paths.proofs.RecordWaits.{path_is}
 use Rattle.whole_paths.proofs.RoundSteps.{Between, between, carried, early, open_first, open_last, over_after, rounds_later, silent}
@@ -73,3 +77,33 @@ eight_rounds_clear start plan v a u x first second s p m q here between_here the
     by : IsClearUpTo s lost p m → IsAckedUpTo s lost p q (reached values start u)
     by (clear.none well) = acked.none well
     by (clear.up_to position among comes) = ⊎_elim (λ all. acked.all_there all) (λ told. acked.up_to position among (omega (arith, comes, told))) (four_rounds_tell start plan a u x second s m q between_here there soon)
+
+-- ---- no more are lost meanwhile
+
+pub lost_records_stay : LostRecordsStay
+lost_records_stay start turns [] mild stays s none p q here there lost but =
+    subst (AreWellBut s lost) (path_is (reached values start turns) p q here (subst (λ t. IsPathAt 0 (reached values start t) q) (append-nil turns) there)) but
+lost_records_stay start turns (turn ∷ more) mild stays s none p q here there lost but =
+    lost_records_stay start (turns ++ turn ∷ []) more mild stays.1 s none.1 next.path q next.here (subst (λ t. IsPathAt 0 (reached values start t) q) (sym (append_assoc turns (turn ∷ []) more)) there) lost
+    ((harms_alone_lose_records start turns turn (record { mild = mild; before = stays.0; after = next }) s).unharmed (none.0 stays.0 next) lost (subst (AreWellBut s lost) (path_is (reached values start turns) p stays.0.path here stays.0.here) but))
+  where
+    next : IsOpenAfter start (turns ++ turn ∷ [])
+    next = open_first start (turns ++ turn ∷ []) more stays.1
+
+pub lost_records_are_first : LostRecordsAreFirst
+lost_records_are_first start plan v a u more x first second is stays s none p m q here between_here there lost but soon = by (eight_rounds_clear start plan v a u x first second s p m q here between_here there lost but soon)
+  where
+    last : IsOpenAfter start (v ++ more)
+    last = open_last start v more stays
+
+    same : last.path ≡ q
+    same = path_is (reached values start u) last.path q (subst (λ t. IsPathAt 0 (reached values start t) last.path) (sym is) last.here) there
+
+    later : AreWellBut s lost last.path
+    later = lost_records_stay start v more x.mild stays s none p last.path here last.here lost but
+
+    by : IsAckedUpTo s lost p q (reached values start u) → IsSoonFirst s lost p q (reached values start u)
+    by (acked.none well) = soon_first.none well
+    by (acked.all_there all) = soon_first.all_there all
+    by (acked.up_to position among low) = soon_first.reached_one (subst (IsFirstOrFewer s lost) same
+        (what_is_reached_is_first start (v ++ more) x.mild last s lost later position among (subst (λ (z : PathState Carried). position ≤ (end_at s z).tcp.send.una) (sym same) low)))

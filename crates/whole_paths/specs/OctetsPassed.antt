@@ -38,8 +38,8 @@ pub record OctetsArePassed : Type 0 where
   pub due : (start : Start) (turns : List Turn) → IsMildStart start → (h : IsOpenAfter start turns) → h.path.agenda ≡ []
       → (s : Side) (last by : ℕ) → by < h.path.until → ComesUpTo s last by h.path → last ≤ (end_at (peer s) h.path).tcp.recv.edge
 
--- On path 0 of a mild connection, whose ends are open: all before a record of data comes up to it within 400 ticks, where the record was sent, and each
--- before it is well.
+-- On path 0 of a mild connection, whose ends are open: all before a record of data comes up to it within 400 ticks, where the record was sent, and
+-- each before it is well.
 abbrev pub WellOctetsCome : Type 0
 WellOctetsCome = (start : Start) (turns : List Turn) → IsMildStart start → (h : IsOpenAfter start turns) → (s : Side) (at : ℕ) (r : Record)
     → slice_get (end_at s h.path).tcp.send.records at ≡ Some r → r.kind ≡ Data → r.sending.unsent ≡ false

@@ -41,7 +41,7 @@ ghost use Rattle.whole_paths.specs.Pushed.{WhatHasRoomIsSent, WhatIsUnsentWaitsF
 ghost use Rattle.whole_paths.specs.Received.{HoldsOfOnlyPaths};
 ghost use Rattle.whole_paths.specs.RecordWaits.{NoRoundCounts, RecordsAreAwaitedAlways};
 ghost use Rattle.whole_paths.specs.SegmentRounds.{ASegmentIsRead, EachRoundReads, EachRoundWrites, FourRoundsBring, FourRoundsTell};
-ghost use Rattle.whole_paths.specs.ClearRounds.{EightRoundsClear, FourRoundsClear, WhatIsReachedIsFirst};
+ghost use Rattle.whole_paths.specs.ClearRounds.{EightRoundsClear, FourRoundsClear, LostRecordsAreFirst, LostRecordsStay, WhatIsReachedIsFirst};
 ghost use Rattle.whole_paths.specs.OctetsPassed.{AllComesUpToLost, OctetsArePassed, WellOctetsCome};
 ghost use Rattle.whole_paths.specs.RecordsPassed.{FirstRecordsArePassed, RecordsComeInTime, WholeRecordsArePassed};
 ghost use Rattle.whole_paths.specs.SenderWaits.{SendersAreAwaited};
@@ -608,8 +608,7 @@ pub fn octets_are_passed()
     ensures { OctetsArePassed }
 {}
 
-/// A law: what a side sends before a record of data that it sent, comes up to that record within 400 ticks, where each record before it is well (RFC 9293,
-/// section 3.4).
+/// A law: all comes within 400 ticks up to a record of data that a side sent, where each record before it is well (RFC 9293, section 3.4).
 ///
 /// It is said of path 0 of a mild connection between open ends. No SYN is left there, the FIN is last, and records are sent in order.
 pub fn well_octets_come()
@@ -637,6 +636,15 @@ pub fn four_rounds_clear()
 /// It is said of path 0 of a mild connection between open ends.
 pub fn what_is_reached_is_first()
     ensures { WhatIsReachedIsFirst }
+{}
+
+/// A law: in eight rounds without a harm a record that may be lost becomes the first one, or one less may be lost (RFC 9293, section 3.4).
+///
+/// It is said of rounds of a mild connection over one path between open ends, where the end was to be told soon how far its peer was after the first
+/// four. By turns without a harm no more records may be lost (`stays`).
+pub fn lost_records_are_first()
+    ensures stays { LostRecordsStay }
+    ensures first { LostRecordsAreFirst }
 {}
 
 /// A law: a record of data that comes by a tick comes by that tick still, by each turn of a mild connection between open ends, until it is

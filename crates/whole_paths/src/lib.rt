@@ -44,6 +44,7 @@ pub use delivery_laws::harms_alone_lose_records;
 pub use delivery_laws::harms_use_lines;
 pub use delivery_laws::lossy_lanes_finish;
 pub use delivery_laws::lost_records_are_awaited;
+pub use delivery_laws::lost_records_are_first;
 pub use delivery_laws::lost_records_are_mended;
 pub use delivery_laws::mild_ends_die_of_expiries;
 pub use delivery_laws::mild_links_change_nothing;
