@@ -151,7 +151,7 @@ module _ (start : Start) (plan : PathPlan) (x : BeginsWithOnePath start plan) (s
   known_last = ⊎_elim
       (λ all. there_known (stays_there start plan x heard_at b s to_sent all))
       (λ una. if_may start plan x Goal b q sent_path.here sent_path.is_open s there_known (λ may. sent_or_known una may (λ sent. comes (λ z there. subst (λ (y : PathState Carried). (end_at s y).sending.fin_sent ≡ true) (path_is (reached values start b) q z sent_path.here there) sent))))
-      (tell start plan x v heard_at first.1.0 s p told_path.path here told_path.here mended)
+      (tell start plan x v heard_at first.1.0 s p told_path.path here told_path.here (mended.told s))
 
 pub an_end_is_told : AnEndIsTold
 an_end_is_told start plan x s v a b u first second third p here mended all_read all_acked comes = record {

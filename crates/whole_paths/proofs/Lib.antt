@@ -11,6 +11,7 @@ pub mod Boundaries
 pub mod Breaking
 pub mod Bringing
 pub mod Came
+pub mod ClearRounds
 pub mod Clearing
 pub mod Closing
 pub mod ClosingAsked
@@ -89,6 +90,7 @@ pub mod NewsBounds
 pub mod Offered
 pub mod OnePath
 pub mod OnlyBooks
+pub mod OctetsPassed
 pub mod OnePathScripts
 pub mod OnlyPaths
 pub mod OpenAsks
@@ -153,6 +155,7 @@ pub mod Unbroken
 pub mod Unended
 pub mod Unstopped
 pub mod Waiting
+pub mod WellOctets
 pub mod WindowRoom
 pub mod WindowWaits
 pub mod WindowsHeard
@@ -181,6 +184,7 @@ pub mod SynAcks
 pub mod Syns
 pub mod FirstAwaited
 pub mod FirstLost
+pub mod FirstReached
 pub mod FirstPieces
 pub mod WholeMappings
 pub mod ReadModes

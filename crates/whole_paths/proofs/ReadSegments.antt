@@ -144,7 +144,7 @@ module _ (start : Start) (plan : PathPlan) (x : BeginsWithOnePath start plan) (s
 
   is_read : Goal
   is_read = ⊎_elim (λ all. whole (stays_there start plan x heard_at came_at s (then_between start heard_at b came_at to_sent to_came) all)) comes
-      (tell start plan x v heard_at first.1.0 s p told_path.path well_v.here told_path.here well_v.mended)
+      (tell start plan x v heard_at first.1.0 s p told_path.path well_v.here told_path.here (well_v.mended.told s))
 
 pub a_segment_is_read : ASegmentIsRead
 a_segment_is_read start plan x s v a b u first second third well_v well_b heard = is_read start plan x s v a b u first second third well_v well_b heard

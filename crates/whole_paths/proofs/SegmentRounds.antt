@@ -377,7 +377,7 @@ module _ (start : Start) (plan : PathPlan) (x : BeginsWithOnePath start plan) wh
 
   -- ---- what is told in four rounds
 
-  module _ (v u : List Turn) (rounds : Rounds start 4 v u) (s : Side) (p q : PathState Carried) (here : IsPathAt 0 (at v) p) (there : IsPathAt 0 (at u) q) (mended : NothingIsToMend p) where
+  module _ (v u : List Turn) (rounds : Rounds start 4 v u) (s : Side) (p q : PathState Carried) (here : IsPathAt 0 (at v) p) (there : IsPathAt 0 (at u) q) (is_told : IsToldSoon s p) where
     told_between : Between start v u
     told_between = between start 3 v u rounds
 
@@ -406,7 +406,7 @@ module _ (start : Start) (plan : PathPlan) (x : BeginsWithOnePath start plan) wh
     unpassed may behind = none_passed (end_at (peer s) p).tcp.fin_at (end_at (peer s) p).tcp.recv.edge ((of_path v p (IsFirstPath start) here (each_first start v x.mild.plain.size here.crew here.there)).fins s (unfinished v p here s may)) behind
 
     pub tell : IsAllThere s (at u) ⊎ (edge ≤ (end_at s q).tcp.send.una)
-    tell = if_may (IsAllThere s (at u) ⊎ (edge ≤ (end_at s q).tcp.send.una)) v p here told_open s (λ all. inl (stays_there v u s told_between all)) (λ may. by may (mended.told s))
+    tell = if_may (IsAllThere s (at u) ⊎ (edge ≤ (end_at s q).tcp.send.una)) v p here told_open s (λ all. inl (stays_there v u s told_between all)) (λ may. by may is_told)
       where
         by : may_finish (end_at s p).tcp.state ≡ true → IsToldSoon s p → IsAllThere s (at u) ⊎ (edge ≤ (end_at s q).tcp.send.una)
         by may (told_soon.past_fin behind) = absurd (unpassed may behind)
@@ -417,4 +417,4 @@ pub four_rounds_bring : FourRoundsBring
 four_rounds_bring start plan v u x rounds s p q here there mended = bring start plan x v u rounds s p q here there mended
 
 pub four_rounds_tell : FourRoundsTell
-four_rounds_tell start plan v u x rounds s p q here there mended = tell start plan x v u rounds s p q here there mended
+four_rounds_tell start plan v u x rounds s p q here there soon = tell start plan x v u rounds s p q here there soon

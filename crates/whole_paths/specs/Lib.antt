@@ -11,6 +11,7 @@ pub mod AwaitedThere
 pub mod Brought
 pub mod Came
 pub mod Clear
+pub mod ClearRounds
 pub mod Closing
 pub mod ClosingAsked
 pub mod ClosingFin
@@ -64,6 +65,7 @@ pub mod Mild
 pub mod OpenAsks
 pub mod OpeningConfirmed
 pub mod OpeningKeys
+pub mod OctetsPassed
 pub mod OnePathScripts
 pub mod OnlyPaths
 pub mod Outstanding

@@ -86,10 +86,10 @@ FourRoundsBring = (start : Start) (plan : PathPlan) (v u : List Turn) → Begins
     → (p q : PathState Carried) → IsPathAt 0 (reached values start v) p → IsPathAt 0 (reached values start u) q → NothingIsToMend p
     → IsAllThere s (reached values start u) ⊎ (sent_up_to (end_at s p).tcp.send ≤ (end_at (peer s) q).tcp.recv.edge)
 
--- And the end hears how far the peer was.
+-- And the end hears how far the peer was, where it was to be told soon.
 abbrev pub FourRoundsTell : Type 0
 FourRoundsTell = (start : Start) (plan : PathPlan) (v u : List Turn) → BeginsWithOnePath start plan → Rounds start 4 v u → (s : Side)
-    → (p q : PathState Carried) → IsPathAt 0 (reached values start v) p → IsPathAt 0 (reached values start u) q → NothingIsToMend p
+    → (p q : PathState Carried) → IsPathAt 0 (reached values start v) p → IsPathAt 0 (reached values start u) q → IsToldSoon s p
     → IsAllThere s (reached values start u) ⊎ ((end_at (peer s) p).tcp.recv.edge ≤ (end_at s q).tcp.send.una)
 
 -- ---- a segment

@@ -41,6 +41,8 @@ ghost use Rattle.whole_paths.specs.Pushed.{WhatHasRoomIsSent, WhatIsUnsentWaitsF
 ghost use Rattle.whole_paths.specs.Received.{HoldsOfOnlyPaths};
 ghost use Rattle.whole_paths.specs.RecordWaits.{NoRoundCounts, RecordsAreAwaitedAlways};
 ghost use Rattle.whole_paths.specs.SegmentRounds.{ASegmentIsRead, EachRoundReads, EachRoundWrites, FourRoundsBring, FourRoundsTell};
+ghost use Rattle.whole_paths.specs.ClearRounds.{EightRoundsClear, FourRoundsClear, LostRecordsAreFirst, LostRecordsStay, WhatIsReachedIsFirst};
+ghost use Rattle.whole_paths.specs.OctetsPassed.{AllComesUpToLost, OctetsArePassed, WellOctetsCome};
 ghost use Rattle.whole_paths.specs.RecordsPassed.{FirstRecordsArePassed, RecordsComeInTime, WholeRecordsArePassed};
 ghost use Rattle.whole_paths.specs.SenderWaits.{SendersAreAwaited};
 ghost use Rattle.whole_paths.specs.SentInOrder.{EachIsSentInOrder};
@@ -595,6 +597,54 @@ pub fn whole_records_are_passed()
 /// It is said of a record of data on path 0 of a mild connection between open ends, which came, or was to come by a tick of the round that ends.
 pub fn first_records_are_passed()
     ensures { FirstRecordsArePassed }
+{}
+
+/// A law: where all comes by a tick that a side sends up to a position, RCV.NXT has reached that position as the turn is over in which that tick lies
+/// (RFC 9293, section 3.10.7.4).
+///
+/// It is said of path 0 of a mild connection between open ends (`due`): each octet before the position is acknowledged, or lies in a record of data
+/// that comes by that tick. So it is where each record before the position is such a one (`begins`), and stays so by each turn (`on`).
+pub fn octets_are_passed()
+    ensures { OctetsArePassed }
+{}
+
+/// A law: all comes within 400 ticks up to a record of data that a side sent, where each record before it is well (RFC 9293, section 3.4).
+///
+/// It is said of path 0 of a mild connection between open ends. No SYN is left there, the FIN is last, and records are sent in order.
+pub fn well_octets_come()
+    ensures { WellOctetsCome }
+{}
+
+/// A law: where records may be lost, all that the side sends comes within 400 ticks up to the first one that may be.
+///
+/// It is said of path 0 of a mild connection between open ends; where no record may be lost each is well.
+pub fn all_comes_up_to_lost()
+    ensures { AllComesUpToLost }
+{}
+
+/// A law: in four rounds all comes that a side sends before the first record that may be lost (RFC 9293, section 3.10.7.4).
+///
+/// It is said of rounds of a mild connection over one path between open ends: RCV.NXT has reached a record that could be lost as they began, or each
+/// record was well. After four rounds more SND.UNA has reached it, where the end was to be told soon how far its peer was (`told`).
+pub fn four_rounds_clear()
+    ensures comes { FourRoundsClear }
+    ensures told { EightRoundsClear }
+{}
+
+/// A law: where SND.UNA has reached a record that may be lost, that is the first one, or one less may be lost.
+///
+/// It is said of path 0 of a mild connection between open ends.
+pub fn what_is_reached_is_first()
+    ensures { WhatIsReachedIsFirst }
+{}
+
+/// A law: in eight rounds without a harm a record that may be lost becomes the first one, or one less may be lost (RFC 9293, section 3.4).
+///
+/// It is said of rounds of a mild connection over one path between open ends, where the end was to be told soon how far its peer was after the first
+/// four. By turns without a harm no more records may be lost (`stays`).
+pub fn lost_records_are_first()
+    ensures stays { LostRecordsStay }
+    ensures first { LostRecordsAreFirst }
 {}
 
 /// A law: a record of data that comes by a tick comes by that tick still, by each turn of a mild connection between open ends, until it is
