@@ -16,6 +16,7 @@ use Rattle.run_trace.specs.Trace.{trace_of}
 use Rattle.stream_lanes.specs.Words.{Every}
 use Rattle.world_laws.specs.Openings.{Start, opened_world}
 use Rattle.own_runs.specs.Runs.{NoRunBreaks}
+use Rattle.own_runs.proofs.Fitting.{traces_fit}
 use Rattle.own_runs.specs.Traces.{packet_for}
 use Rattle.path_core.specs.Octets.{octets}
 use Rattle.path_segments.specs.Spelled.{PlainSegment}
@@ -36,8 +37,9 @@ pub same_judged : (one other : JudgedValue) → {E : Type 0} → (let made : Res
 same_judged one other e = cc
 
 pub no_run_breaks : (r : Rule) → is_option r ≡ true → NoRunBreaks r
-no_run_breaks r is start turns size fit room side at judged read connection s stream there =
+no_run_breaks r is start turns size fit run side at judged read connection s stream there =
     let trace = trace_of turns (opened_world start) in
+    let room = traces_fit start turns size fit run in
     let spoken = trace_spoken Nothing start turns size fit (λ more later is. also_nothing (world_run octets more (opened_world start))) in
     let packets = map packet_for trace in
     let few = fit.paths in

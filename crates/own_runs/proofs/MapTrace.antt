@@ -40,7 +40,9 @@ use Rattle.world_laws.specs.Openings.{PathPlan, Start, opened_world, path_begins
 use Rattle.world_laws.specs.Promises.{IsPlain, NumbersFit}
 use Rattle.world_laws.specs.Worlds.{Turn, world_run}
 use Rattle.own_runs.specs.Runs.{DataFinsEndTheFiles, NoWholeRunBreaks, StreamsBeginTheFiles, WholeStreamsAreTheFiles, capture_of, file_of}
+use Rattle.own_runs.specs.Fitting.{RunFits}
 use Rattle.own_runs.specs.Traces.{FitsCapture, packet_for}
+use Rattle.own_runs.proofs.Fitting.{traces_fit}
 use Rattle.own_runs.proofs.Bearing.{Carries}
 use Rattle.own_runs.proofs.FineMoments.{IsBorne, IsMapped, Offered, content, file_len, lane_of, place_at, whole_offers}
 use Rattle.own_runs.proofs.FinePositions.{TellsNoFail}
@@ -276,10 +278,13 @@ all_same (x ∷ xs) (y ∷ ys) each =
     record { rest = more.rest; whole_is = ap (λ (t : List ℕ). y ∷ t) more.whole_is ∙ ap (λ (z : ℕ). z ∷ (xs ++ more.rest)) (sym head) }
 
 module _ (start : Start) (turns : List Turn) (plain : IsPlain start) (whole : IsWhole start) (fit : NumbersFit start)
-    (room : All FitsCapture (trace_of turns (opened_world start)))
+    (run : RunFits start turns)
     (side : Side) (at : Option Side) (judged : JudgedValue) (read : judged_capture at true (capture_of start turns side) ≡ Ok judged) where
   abbrev trace : List Sent
   trace = trace_of turns (opened_world start)
+
+  room : All FitsCapture trace
+  room = traces_fit start turns plain.size fit run
 
   abbrev offers : (last : Duo) × ((more later : List Turn) → more ++ later ≡ turns → WorldAlso (Offered start last) (world_run octets more (opened_world start)))
   offers = whole_offers start turns plain whole fit
@@ -323,14 +328,14 @@ module _ (start : Start) (turns : List Turn) (plain : IsPlain start) (whole : Is
     end_is fin is = subst (λ (o : Option ToldPlace). IfSome o (λ told. told.place ≡ file_len start s)) is fine.fin
 
 pub no_whole_run_breaks : (r : Rule) → is_mapping r ≡ true → NoWholeRunBreaks r
-no_whole_run_breaks r is start turns plain whole fit room side at judged read connection s stream there =
-    (fine start turns plain whole fit room side at judged read connection s stream there).untold r is
+no_whole_run_breaks r is start turns plain whole fit run side at judged read connection s stream there =
+    (fine start turns plain whole fit run side at judged read connection s stream there).untold r is
 
 pub streams_are : StreamsBeginTheFiles
-streams_are start turns plain whole fit room side at judged read connection s stream there = prefix start turns plain whole fit room side at judged read connection s stream there
+streams_are start turns plain whole fit run side at judged read connection s stream there = prefix start turns plain whole fit run side at judged read connection s stream there
 
 pub ends_are : DataFinsEndTheFiles
-ends_are start turns plain whole fit room side at judged read connection s stream there = end_is start turns plain whole fit room side at judged read connection s stream there
+ends_are start turns plain whole fit run side at judged read connection s stream there = end_is start turns plain whole fit run side at judged read connection s stream there
 
 -- a part as long as all is all
 all_of_it : (octets file : List ℕ) → IsPrefix octets file → length octets ≡ length file → octets ≡ file
@@ -344,6 +349,6 @@ all_of_it octets file begins same =
     nothing (x ∷ xs) none = absurd (omega (arith, none))
 
 pub whole_are : WholeStreamsAreTheFiles
-whole_are start turns plain whole fit room side at judged read connection s stream there fin is octets sent same =
-    all_of_it octets (file_of start s) (prefix start turns plain whole fit room side at judged read connection s stream there octets sent)
-    (same ∙ end_is start turns plain whole fit room side at judged read connection s stream there fin is)
+whole_are start turns plain whole fit run side at judged read connection s stream there fin is octets sent same =
+    all_of_it octets (file_of start s) (prefix start turns plain whole fit run side at judged read connection s stream there octets sent)
+    (same ∙ end_is start turns plain whole fit run side at judged read connection s stream there fin is)

@@ -1,5 +1,5 @@
--- What a lane's record has stays in it, whatever happens.
-use Rattle.std.proofs.Common.{◌≡◌, refl, sym, ap, ◌∙◌, subst, ℕ, ⊎_elim, Bool, true, false, if◌then◌else◌, Option, Some, None, List, [], ◌∷◌, ◌++◌, append_assoc, append-nil}
+-- What a lane's record has stays in it, whatever happens, and what its receiver passed stays passed.
+use Rattle.std.proofs.Common.{◌≡◌, refl, sym, ap, ◌∙◌, subst, ℕ, ◌≤◌, ⊎_elim, Bool, true, false, if◌then◌else◌, Option, Some, None, List, [], ◌∷◌, ◌++◌, append_assoc, append-nil, arith}
 use Rattle.std.specs.List.{slice_get}
 use Rattle.std.proofs.Math.ListN.{set}
 use Rattle.judge_laws.proofs.Books.{set_either}
@@ -15,149 +15,158 @@ use Rattle.stream_lanes.specs.Lane.{Lane, Cell, Ask}
 use Rattle.stream_lanes.specs.Moves.{Flags, Move, moved, takes_grant, takes_ack, takes_placed, takes_fin, takes_ack_out, hears, hears_sub, sends_piece, sends_altered, sends_pair, sends_fin_pair, keeps, learns, learns_mapping, hears_data_fin, hears_fin, places, takes_pair, places_pair, ends_pair}
 use Rattle.stream_lanes.specs.Streams.{Direction, StreamEvent, after, asks, asks_at, moves, goes_infinite}
 
--- a record goes on
+-- a record goes on, and so does what the receiver passed
 pub record Longer (l m : Lane) : Type 0 where
   pub more : List Cell
   pub is : m.sent ≡ l.sent ++ more
+  pub edge : l.edge ≤ m.edge
 
-same_longer : (l m : Lane) → m.sent ≡ l.sent → Longer l m
-same_longer l m same = record { more = []; is = same ∙ sym (append-nil l.sent) }
+-- neither changes
+abbrev pub Same : Lane → Lane → Type 0
+Same q p = (q.sent ≡ p.sent) × (q.edge ≡ p.edge)
+
+same_longer : (l m : Lane) → Same m l → Longer l m
+same_longer l m same = record { more = []; is = same.0 ∙ sym (append-nil l.sent); edge = let at = same.1 in omega (arith, at) }
 
 then_longer : (l m n : Lane) → Longer l m → Longer m n → Longer l n
-then_longer l m n x y = record { more = x.more ++ y.more; is = y.is ∙ ap (λ (s : List Cell). s ++ y.more) x.is ∙ append_assoc l.sent x.more y.more }
+then_longer l m n x y = record {
+  more = x.more ++ y.more;
+  is = y.is ∙ ap (λ (s : List Cell). s ++ y.more) x.is ∙ append_assoc l.sent x.more y.more;
+  edge = let one = x.edge in let other = y.edge in omega (arith, one, other);
+}
 
-either_same : (b : Bool) (q r p : Lane) → q.sent ≡ p.sent → r.sent ≡ p.sent → (if b then q else r).sent ≡ p.sent
+either_same : (b : Bool) (q r p : Lane) → Same q p → Same r p → Same (if b then q else r) p
 either_same true q r p x y = x
 either_same false q r p x y = y
 
-moved_same : (f : Flags) (path : ℕ) (move : Move) (p : Lane) → (moved f path move p).sent ≡ p.sent
-moved_same f path Move.Open p = either_same _ _ p p refl refl
-moved_same f path Move.LookAtSender p = refl
-moved_same f path Move.LookAtReceiver p = refl
-moved_same f path (Move.WantGrant max standby) p = either_same _ _ p p refl refl
+pub moved_same : (f : Flags) (path : ℕ) (move : Move) (p : Lane) → Same (moved f path move p) p
+moved_same f path Move.Open p = either_same _ _ p p (refl, refl) (refl, refl)
+moved_same f path Move.LookAtSender p = (refl, refl)
+moved_same f path Move.LookAtReceiver p = (refl, refl)
+moved_same f path (Move.WantGrant max standby) p = either_same _ _ p p (refl, refl) (refl, refl)
 moved_same f path (Move.HearAck copy) p = by (slice_get p.acks copy)
   where
-    by : (o : Option _) → (hears o p).sent ≡ p.sent
-    by None = refl
-    by (Some a) = refl
+    by : (o : Option _) → Same (hears o p) p
+    by None = (refl, refl)
+    by (Some a) = (refl, refl)
 moved_same f path (Move.HearSubAck copy upto) p = by (slice_get p.acks copy) p.pair
   where
-    by : (o : Option _) (q : Option _) → (hears_sub upto o q p).sent ≡ p.sent
-    by (Some a) (Some m) = either_same p.alters _ p p refl refl
-    by None q = refl
-    by (Some a) None = refl
+    by : (o : Option _) (q : Option _) → Same (hears_sub upto o q p) p
+    by (Some a) (Some m) = either_same p.alters _ p p (refl, refl) (refl, refl)
+    by None q = (refl, refl)
+    by (Some a) None = (refl, refl)
 moved_same f path (Move.SendPiece piece mapped) p = by (slice_get p.pieces piece)
   where
-    by : (o : Option _) → (sends_piece mapped o p).sent ≡ p.sent
-    by None = refl
-    by (Some m) = refl
+    by : (o : Option _) → Same (sends_piece mapped o p) p
+    by None = (refl, refl)
+    by (Some m) = (refl, refl)
 moved_same f path (Move.SendAltered piece mapped) p = by (slice_get p.pieces piece)
   where
-    by : (o : Option _) → (sends_altered mapped o p).sent ≡ p.sent
-    by None = refl
-    by (Some m) = either_same p.alters _ p p refl refl
-moved_same f path Move.SendDataFin p = refl
-moved_same f path Move.SendFin p = either_same _ _ p p refl refl
+    by : (o : Option _) → Same (sends_altered mapped o p) p
+    by None = (refl, refl)
+    by (Some m) = either_same p.alters _ p p (refl, refl) (refl, refl)
+moved_same f path Move.SendDataFin p = (refl, refl)
+moved_same f path Move.SendFin p = either_same _ _ p p (refl, refl) (refl, refl)
 moved_same f path (Move.SendPair shift) p = by p.pair
   where
-    by : (o : Option _) → (sends_pair shift o p).sent ≡ p.sent
-    by None = refl
-    by (Some m) = either_same _ _ p p refl refl
-moved_same f path (Move.SendPlainPair pos) p = either_same _ _ p p refl refl
+    by : (o : Option _) → Same (sends_pair shift o p) p
+    by None = (refl, refl)
+    by (Some m) = either_same _ _ p p (refl, refl) (refl, refl)
+moved_same f path (Move.SendPlainPair pos) p = either_same _ _ p p (refl, refl) (refl, refl)
 moved_same f path Move.SendFinPair p = by p.pair
   where
-    by : (o : Option _) → (sends_fin_pair o p).sent ≡ p.sent
-    by None = refl
-    by (Some m) = either_same _ _ p p refl refl
+    by : (o : Option _) → Same (sends_fin_pair o p) p
+    by None = (refl, refl)
+    by (Some m) = either_same _ _ p p (refl, refl) (refl, refl)
 moved_same f path (Move.Hear copy count) p = by (slice_get p.datas copy)
   where
-    by : (o : Option _) → (keeps count o p).sent ≡ p.sent
-    by None = refl
-    by (Some d) = refl
+    by : (o : Option _) → Same (keeps count o p) p
+    by None = (refl, refl)
+    by (Some d) = (refl, refl)
 moved_same f path (Move.Learn copy) p = by (slice_get p.datas copy)
   where
-    mapping : (o : Option _) → (learns_mapping o p).sent ≡ p.sent
-    mapping None = refl
-    mapping (Some m) = either_same _ p _ p refl refl
+    mapping : (o : Option _) → Same (learns_mapping o p) p
+    mapping None = (refl, refl)
+    mapping (Some m) = either_same _ p _ p (refl, refl) (refl, refl)
 
-    by : (o : Option _) → (learns o p).sent ≡ p.sent
-    by None = refl
+    by : (o : Option _) → Same (learns o p) p
+    by None = (refl, refl)
     by (Some d) = mapping d.mapping
 moved_same f path (Move.HearDataFin copy) p = by (slice_get p.data_fins copy)
   where
-    by : (o : Option ℕ) → (hears_data_fin o p).sent ≡ p.sent
-    by None = refl
-    by (Some e) = refl
+    by : (o : Option ℕ) → Same (hears_data_fin o p) p
+    by None = (refl, refl)
+    by (Some e) = (refl, refl)
 moved_same f path (Move.HearFin copy) p = by (slice_get p.fins copy)
   where
-    by : (o : Option ℕ) → (hears_fin o p).sent ≡ p.sent
-    by None = refl
-    by (Some e) = either_same _ _ p p refl refl
-moved_same f path (Move.Forget from) p = refl
+    by : (o : Option ℕ) → Same (hears_fin o p) p
+    by None = (refl, refl)
+    by (Some e) = either_same _ _ p p (refl, refl) (refl, refl)
+moved_same f path (Move.Forget from) p = (refl, refl)
 moved_same f path (Move.WantPlace mapping count) p = by (slice_get p.maps mapping)
   where
-    by : (o : Option _) → (places count o p).sent ≡ p.sent
-    by None = refl
-    by (Some m) = either_same _ _ p p refl refl
-moved_same f path (Move.WantPlacePlain count) p = either_same _ _ p p refl refl
-moved_same f path Move.WantFin p = either_same _ _ p p refl refl
+    by : (o : Option _) → Same (places count o p) p
+    by None = (refl, refl)
+    by (Some m) = either_same _ _ p p (refl, refl) (refl, refl)
+moved_same f path (Move.WantPlacePlain count) p = either_same _ _ p p (refl, refl) (refl, refl)
+moved_same f path Move.WantFin p = either_same _ _ p p (refl, refl) (refl, refl)
 moved_same f path (Move.TakePair copy) p = by (slice_get p.pairs copy)
   where
-    by : (o : Option _) → (takes_pair o p).sent ≡ p.sent
-    by None = refl
-    by (Some m) = refl
+    by : (o : Option _) → Same (takes_pair o p) p
+    by None = (refl, refl)
+    by (Some m) = (refl, refl)
 moved_same f path (Move.WantPlacePair count) p = by p.taken
   where
-    by : (o : Option _) → (places_pair count o p).sent ≡ p.sent
-    by None = refl
-    by (Some m) = either_same _ _ p p refl refl
+    by : (o : Option _) → Same (places_pair count o p) p
+    by None = (refl, refl)
+    by (Some m) = either_same _ _ p p (refl, refl) (refl, refl)
 moved_same f path Move.WantFinPair p = by p.taken
   where
-    by : (o : Option _) → (ends_pair o p).sent ≡ p.sent
-    by None = refl
-    by (Some m) = either_same _ _ p p refl refl
-moved_same f path Move.WantAckOut p = refl
-moved_same f path (Move.SendAck next window sub) p = either_same p.due p _ p refl refl
+    by : (o : Option _) → Same (ends_pair o p) p
+    by None = (refl, refl)
+    by (Some m) = either_same _ _ p p (refl, refl) (refl, refl)
+moved_same f path Move.WantAckOut p = (refl, refl)
+moved_same f path (Move.SendAck next window sub) p = either_same p.due p _ p (refl, refl) (refl, refl)
 
 -- ---- a direction
 
 abbrev pub LanesGrow : List Lane → List Lane → Type 0
 LanesGrow old new = (n : ℕ) (l : Lane) → slice_get old n ≡ Some l → (m : Lane) × (slice_get new n ≡ Some m) × Longer l m
 
-same_lanes : (lanes : List Lane) → LanesGrow lanes lanes
-same_lanes lanes n l at = (l, at, same_longer l l refl)
+pub same_lanes : (lanes : List Lane) → LanesGrow lanes lanes
+same_lanes lanes n l at = (l, at, same_longer l l (refl, refl))
 
-set_lanes : (lanes : List Lane) (path : ℕ) (p q : Lane) → slice_get lanes path ≡ Some p → Longer p q → LanesGrow lanes (set lanes path q)
+pub set_lanes : (lanes : List Lane) (path : ℕ) (p q : Lane) → slice_get lanes path ≡ Some p → Longer p q → LanesGrow lanes (set lanes path q)
 set_lanes lanes path p q there longer n l at = ⊎_elim
     (λ both. let same : p ≡ l = some_same p l (sym there ∙ ap (slice_get lanes) both.0 ∙ at) in (q, both.1, subst (λ (x : Lane). Longer x q) same longer))
-    (λ other. (l, other, same_longer l l refl))
+    (λ other. (l, other, same_longer l l (refl, refl)))
     (set_either lanes path n q l at)
 
 grant_longer : (reply : SendReply) (p : Lane) → Longer p (takes_grant reply p)
-grant_longer (Granted span piece) p = record { more = _; is = refl }
-grant_longer _ p = same_longer p _ refl
+grant_longer (Granted span piece) p = record { more = _; is = refl; edge = omega arith }
+grant_longer _ p = same_longer p _ (refl, refl)
 
-ack_same : (next : ℕ) (reply : SendReply) (p : Lane) → (takes_ack next reply p).sent ≡ p.sent
-ack_same next (Acked bytes fin) p = refl
-ack_same next _ p = refl
+pub ack_same : (next : ℕ) (reply : SendReply) (p : Lane) → Same (takes_ack next reply p) p
+ack_same next (Acked bytes fin) p = (refl, refl)
+ack_same next _ p = (refl, refl)
 
-placed_same : (count : ℕ) (reply : ReassemblyReply) (p : Lane) → (takes_placed count reply p).sent ≡ p.sent
-placed_same count (Placed new) p = refl
-placed_same count _ p = refl
+placed_longer : (count : ℕ) (reply : ReassemblyReply) (p : Lane) → Longer p (takes_placed count reply p)
+placed_longer count (Placed new) p = record { more = []; is = sym (append-nil p.sent); edge = omega arith }
+placed_longer count _ p = same_longer p _ (refl, refl)
 
-fin_same : (reply : ReassemblyReply) (p : Lane) → (takes_fin reply p).sent ≡ p.sent
-fin_same FinSet p = refl
-fin_same _ p = refl
+pub fin_same : (reply : ReassemblyReply) (p : Lane) → Same (takes_fin reply p) p
+fin_same FinSet p = (refl, refl)
+fin_same _ p = (refl, refl)
 
-out_same : (reply : ReassemblyReply) (p : Lane) → (takes_ack_out reply p).sent ≡ p.sent
-out_same (Ack next window) p = refl
-out_same _ p = refl
+pub out_same : (reply : ReassemblyReply) (p : Lane) → Same (takes_ack_out reply p) p
+out_same (Ack next window) p = (refl, refl)
+out_same _ p = (refl, refl)
 
-asks_grow : (path : ℕ) (ask : Ask) (p : Lane) (d : Direction) → slice_get d.lanes path ≡ Some p → LanesGrow d.lanes (asks path ask p d).lanes
+pub asks_grow : (path : ℕ) (ask : Ask) (p : Lane) (d : Direction) → slice_get d.lanes path ≡ Some p → LanesGrow d.lanes (asks path ask p d).lanes
 asks_grow path Ask.Nothing p d there = same_lanes d.lanes
 asks_grow path (Ask.AskGrant max standby) p d there = set_lanes d.lanes path p _ there (grant_longer _ p)
 asks_grow path (Ask.AskAckIn next window) p d there = set_lanes d.lanes path p _ there (same_longer p _ (ack_same next _ p))
-asks_grow path (Ask.AskPlace at bytes) p d there = set_lanes d.lanes path p _ there (same_longer p _ (placed_same _ _ p))
+asks_grow path (Ask.AskPlace at bytes) p d there = set_lanes d.lanes path p _ there (placed_longer _ _ p)
 asks_grow path (Ask.AskFin at) p d there = set_lanes d.lanes path p _ there (same_longer p _ (fin_same _ p))
 asks_grow path Ask.AskAckOut p d there =
     set_lanes d.lanes path p (takes_ack_out (reply_to d.arrived AckOut) p) there (same_longer p (takes_ack_out (reply_to d.arrived AckOut) p) (out_same (reply_to d.arrived AckOut) p))
@@ -166,7 +175,7 @@ either_lanes : (old : List Lane) (b : Bool) (d e : Direction) → LanesGrow old 
 either_lanes old true d e x y = x
 either_lanes old false d e x y = y
 
-event_lanes : (f : Flags) (event : StreamEvent) (d : Direction) → LanesGrow d.lanes (after f event d).lanes
+pub event_lanes : (f : Flags) (event : StreamEvent) (d : Direction) → LanesGrow d.lanes (after f event d).lanes
 event_lanes f (StreamEvent.Write bytes) d = same_lanes d.lanes
 event_lanes f StreamEvent.Close d = same_lanes d.lanes
 event_lanes f (StreamEvent.Return path) d = same_lanes d.lanes
@@ -175,7 +184,7 @@ event_lanes f (StreamEvent.GoInfinite path pos) d = by (slice_get d.lanes path) 
   where
     by : (o : Option Lane) → slice_get d.lanes path ≡ o → LanesGrow d.lanes (goes_infinite path pos o d).lanes
     by None at = same_lanes d.lanes
-    by (Some p) at = either_lanes d.lanes _ _ d (set_lanes d.lanes path p _ at (same_longer p _ refl)) (same_lanes d.lanes)
+    by (Some p) at = either_lanes d.lanes _ _ d (set_lanes d.lanes path p _ at (same_longer p _ (refl, refl))) (same_lanes d.lanes)
 event_lanes f StreamEvent.AbortSend d = same_lanes d.lanes
 event_lanes f (StreamEvent.Read max) d = either_lanes d.lanes _ d _ (same_lanes d.lanes) (same_lanes d.lanes)
 event_lanes f (StreamEvent.AbortRead by_peer) d = same_lanes d.lanes

@@ -1,4 +1,9 @@
+pub mod Arrivals
+pub mod Counting
+pub mod Fitting
+pub mod Granting
 pub mod Packets
-pub mod Segments
-pub mod Traces
 pub mod Runs
+pub mod Segments
+pub mod Sending
+pub mod Traces

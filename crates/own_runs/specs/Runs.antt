@@ -1,5 +1,5 @@
 -- The capture of a run of ours, judged.
-use Rattle.std.specs.Prelude.{◌≡◌, ℕ, true, false, Option, Some, List, length, All, Ok}
+use Rattle.std.specs.Prelude.{◌≡◌, ℕ, true, false, Option, Some, List, length, Ok}
 use Rattle.sides.specs.declared.side.Side.{Side}
 use Rattle.actor_desk.specs.Words.{pick}
 use Rattle.octet_text.specs.Prefix.{IsPrefix}
@@ -17,7 +17,7 @@ use Rattle.world_laws.specs.Openings.{Start, opened_world}
 use Rattle.world_laws.specs.NeverFalls.{IsWhole}
 use Rattle.world_laws.specs.Promises.{HasRoom, IsPlain, NumbersFit}
 use Rattle.world_laws.specs.Worlds.{Turn}
-use Rattle.own_runs.specs.Traces.{FitsCapture}
+use Rattle.own_runs.specs.Fitting.{RunFits}
 
 -- the capture of a connection after these turns, as a side sees it
 abbrev pub capture_of : Start → List Turn → Side → List ℕ
@@ -26,14 +26,13 @@ capture_of start turns side = capture_text (blocks_of side (length start.paths) 
 -- In the capture of a connection, whatever its script does, in whatever order its actors go, and wherever the judge takes it to be captured,
 -- no side broke this rule.
 abbrev pub NoRunBreaks : Rule → Type 0
-NoRunBreaks rule = (start : Start) (turns : List Turn) → HasRoom start → NumbersFit start → All FitsCapture (trace_of turns (opened_world start))
+NoRunBreaks rule = (start : Start) (turns : List Turn) → HasRoom start → NumbersFit start → RunFits start turns
     → (side : Side) (at : Option Side) (judged : JudgedValue) → judged_capture at true (capture_of start turns side) ≡ Ok judged
     → (connection : ℕ) (s : Side) (stream : StreamValue) → stream_in judged connection s ≡ Some stream → broke rule stream ≡ false
 
 -- of each stream that the judge finds in the capture of a connection whose script alters no payload and takes no options away
 abbrev pub OfWholeRuns : (Start → Side → StreamValue → Type 0) → Type 0
-OfWholeRuns Holds = (start : Start) (turns : List Turn) → IsPlain start → IsWhole start → NumbersFit start
-    → All FitsCapture (trace_of turns (opened_world start))
+OfWholeRuns Holds = (start : Start) (turns : List Turn) → IsPlain start → IsWhole start → NumbersFit start → RunFits start turns
     → (side : Side) (at : Option Side) (judged : JudgedValue) → judged_capture at true (capture_of start turns side) ≡ Ok judged
     → (connection : ℕ) (s : Side) (stream : StreamValue) → stream_in judged connection s ≡ Some stream → Holds start s stream
 

@@ -1,5 +1,7 @@
 //! What is read in a capture of ours, as clauses of functions that do nothing.
 ghost use Rattle.judge_rules.specs.declared.finding.Rule.TheVariants.{AddressHmac, DataFin, DssSum, Fail, FastCloseKey, Form, Infinite, JoinHmac, Keys, Mapping, PlaceContent, Token, Within};
+ghost use Rattle.own_runs.specs.Arrivals.{WhatCameWasSent};
+ghost use Rattle.own_runs.specs.Fitting.{TracesFit};
 ghost use Rattle.own_runs.specs.Packets.{CapturesAreTheirPackets};
 ghost use Rattle.own_runs.specs.Runs.{DataFinsEndTheFiles, NoRunBreaks, NoWholeRunBreaks, StreamsBeginTheFiles, WholeStreamsAreTheFiles};
 ghost use Rattle.own_runs.specs.Segments.{SegmentsAreFound, WrittenSegmentsAreFound};
@@ -22,10 +24,12 @@ pub fn segments_are_found()
 /// A law: the capture that is written of a trace is read as the packets of its segments, in order, each a raw IPv4 packet between the
 /// addresses of its path with all octets of the segment (`packets`); and in each the segment is found as its receiver reads it, between
 /// these addresses, whole and with a good sum (`segments`). It holds of segments that fit a packet (RFC 791, section 3.1), on paths that the
-/// capture names, with ticks of 64 bits and fates that fit a comment.
+/// capture names, with ticks of 64 bits and fates that fit a comment. So are those of each run (`runs`) whose script has maximum segment sizes
+/// of 65,495 octets at most, and ticks and queues of 64 bits, up to 2^57 turns.
 pub fn traces_are_their_segments()
     ensures packets { TracesAreTheirPackets }
     ensures segments { TracesAreTheirSegments }
+    ensures runs { TracesFit }
 {}
 
 /// A law: in the capture of a run of ours no side is told to break a rule of the judge's on options: each option reads (`form`), MP_CAPABLE
@@ -34,7 +38,8 @@ pub fn traces_are_their_segments()
 /// the key of its receiver (`fast_close_key`, section 3.5). Nor is payload sent outside of a mapping of its segment (`within`, section 3.3.1).
 ///
 /// The capture is that of a trace (`traces_are_their_segments`), with sums checked. It holds of every list of turns, lawful or not, whatever the
-/// script takes away or alters, where the numbers of the start fit, and wherever the capture is said to be taken.
+/// script takes away or alters, where the numbers of the start fit and the run fits a capture (`traces_are_their_segments`), and wherever the
+/// capture is said to be taken.
 pub fn own_runs_break_no_rule()
     ensures form { NoRunBreaks Form }
     ensures keys { NoRunBreaks Keys }
@@ -68,4 +73,10 @@ pub fn captures_show_the_files()
     ensures begins { StreamsBeginTheFiles }
     ensures ends { DataFinsEndTheFiles }
     ensures whole { WholeStreamsAreTheFiles }
+{}
+
+/// A law: each octet that came to a side, whether its reader has it or the book of the side holds it, was in a segment that the other side
+/// handed to a link, as a part of its file. It holds after every list of turns, lawful or not, of a connection whose script alters no payload.
+pub fn what_came_was_sent()
+    ensures { WhatCameWasSent }
 {}

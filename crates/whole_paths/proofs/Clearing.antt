@@ -1,7 +1,7 @@
 -- While the SYN/ACK is treated at an end of path 0, the end may not send a DSS yet: it may from the first copy on that it takes.
 use Rattle.std.proofs.Common.{◌≡◌, refl, sym, subst, ap, ◌∙◌, ⊎_elim, ℕ, zero, suc, ◌+◌, ◌≤◌, arith, Bool, true, false, true≢false, if◌then◌else◌, ◌||◌, ◌&&◌, ◌==◌, nat_lt, nat_le, Option, Some, None, List, [], ◌∷◌, ◌++◌, length}
 use Rattle.std.specs.List.{list_any}
-use Rattle.std.proofs.lemmas.Bool.{both_ways, or_cases, or_from, or_left, or_parts, or_right}
+use Rattle.std.proofs.lemmas.Bool.{both_ways, leb-false, leb-true, or_cases, or_from, or_left, or_parts, or_right}
 use Rattle.path_segments.specs.Heard.{HeardSegment}
 use Rattle.sides.specs.declared.side.Side.{Side}
 use Rattle.sides.specs.declared.side.Side.TheVariants.{A, B}
@@ -64,11 +64,14 @@ use Rattle.world_laws.proofs.Writes.Steps.{unwritten}
 use Rattle.whole_paths.specs.AgendaSteps.{Follows, is_told}
 use Rattle.whole_paths.specs.AgendaSteps.{Follows as follows}
 use Rattle.whole_paths.specs.AsFar.{stage}
+use Rattle.whole_paths.specs.Clear.{ClearEndsArePast, IsPastIfClear}
 use Rattle.whole_paths.specs.Mild.{treats_answer}
+use Rattle.whole_paths.specs.Opening.{opens_to}
 use Rattle.whole_paths.proofs.Agendas.{answered_follows}
 use Rattle.whole_paths.proofs.Duties.{answered_steps, passed_steps}
 use Rattle.whole_paths.proofs.Flying.{next_frames, takes_frames}
 use Rattle.whole_paths.proofs.InTime.{is_event}
+use Rattle.whole_paths.proofs.Opening.{meaning_has, means_up}
 use Rattle.whole_paths.proofs.Pieces.{own_only}
 use Rattle.whole_paths.proofs.Settling.{sides}
 use Rattle.whole_paths.proofs.Waiting.{path_far}
@@ -152,11 +155,11 @@ module _ (test : Duty → Bool) (sign : IsSign test) where
 
 -- ---- an end
 
--- Both SYNs came before what a copy says is heard, and until then the end may send no DSS, nor while the SYN/ACK is treated. None but a dead
--- end answers a copy by a reset.
+-- An end is past the handshake before what a copy says is heard, and until then it may send no DSS, nor while the SYN/ACK is treated. None but a
+-- dead end answers a copy by a reset.
 pub record Clears (t : Side) (ds : List Duty) (e : PathEnd) : Type 0 where
-  pub met : list_any (clears_at t) ds ≡ true → 2 ≤ stage e.tcp.state
-  pub early : stage e.tcp.state ≤ 1 → e.modes.clear ≡ false
+  pub met : list_any (clears_at t) ds ≡ true → 3 ≤ stage e.tcp.state
+  pub early : stage e.tcp.state ≤ 2 → e.modes.clear ≡ false
   pub unclear : list_any (answered_at t) ds ≡ true → e.modes.clear ≡ false
   pub alone : list_any (answered_at t) ds ≡ true → list_any (clears_at t) ds ≡ false
   pub dead : list_any (refused_at t) ds ≡ true → 7 ≤ stage e.tcp.state
@@ -263,32 +266,32 @@ judged_clear told answer s now h means.Opens e = refl
 judged_clear told answer s now h _ e = refl
 
 -- the end that it comes to, and the other one
-own_clears : (s : Side) (ds : List Duty) (e f : PathEnd) (c : Copy) (count : ℕ) (m : Meaning) → MeansIs c e.tcp m → (is_unwanted m ≡ true → 7 ≤ stage e.tcp.state) → IsFar e f → f.modes.clear ≡ e.modes.clear
-    → Clears s ds e → Clears s (template_by false s count m) f
-own_clears s ds e f c count (means.Taken position acknowledged) fits over far same h =
+own_clears : (s : Side) (ds : List Duty) (e f : PathEnd) (c : Copy) (count : ℕ) (m : Meaning) → MeansIs c e.tcp m → (is_unwanted m ≡ true → 7 ≤ stage e.tcp.state) → IsFar e f → opens_to m ≤ stage f.tcp.state
+    → f.modes.clear ≡ e.modes.clear → Clears s ds e → Clears s (template_by false s count m) f
+own_clears s ds e f c count (means.Taken position acknowledged) fits over far up same h =
     let none : list_any (answered_at s) (copy_came s count) ≡ false = answers_heard s s 0 count (payload_came s) refl in record {
-      met = λ is. let two = past_met e.tcp.state fits.0 in omega (arith, two, far);
+      met = λ is. up;
       early = λ low. same ∙ h.early (omega (arith, low, far));
       unclear = λ is. absurd (both_ways (list_any (answered_at s) (copy_came s count)) none is);
       alone = λ is. absurd (both_ways (list_any (answered_at s) (copy_came s count)) none is);
       dead = λ is. absurd (both_ways (list_any (refused_at s) (copy_came s count)) (refuses_heard s s 0 count (payload_came s) refl) is);
     }
-own_clears s ds e f c count (means.Accepts acknowledged) fits over far same h = record {
+own_clears s ds e f c count (means.Accepts acknowledged) fits over far up same h = record {
   met = λ is. absurd (true≢false (sym is));
   early = λ low. same ∙ h.early (omega (arith, low, far));
-  unclear = λ is. same ∙ h.early (subst (λ state. stage state ≤ 1) (sym fits.0) (omega arith));
+  unclear = λ is. same ∙ h.early (subst (λ state. stage state ≤ 2) (sym fits.0) (omega arith));
   alone = λ is. refl;
   dead = λ is. absurd (true≢false (sym is));
 }
-own_clears s ds e f c count means.Unwanted fits over far same h = record {
+own_clears s ds e f c count means.Unwanted fits over far up same h = record {
   met = λ is. absurd (true≢false (sym is));
   early = λ low. same ∙ h.early (omega (arith, low, far));
   unclear = λ is. absurd (true≢false (sym is));
   alone = λ is. refl;
   dead = λ is. let high = over refl in omega (arith, high, far);
 }
-own_clears s ds e f c count means.Ignored fits over far same h = fresh s e f far ds _ refl same h
-own_clears s ds e f c count _ fits over far same h = fresh s e f far ds _ refl same h
+own_clears s ds e f c count means.Ignored fits over far up same h = fresh s e f far ds _ refl same h
+own_clears s ds e f c count _ fits over far up same h = fresh s e f far ds _ refl same h
 
 other_clears : (t s : Side) → same_side s t ≡ false → (ds : List Duty) (e : PathEnd) (count : ℕ) (m : Meaning) → Clears t ds e → Clears t (template_by false s count m) e
 other_clears t s apart ds e count (means.Taken position acknowledged) h =
@@ -428,15 +431,15 @@ module _ {C : Type 0} where
       by false far h = all_fresh ds (emission A) p (goes_on A (opened_by (keys_begun r) p.a) (emission A) p) far refl (λ t. goes_clear A t (opened_by (keys_begun r) p.a) (emission A) p (opened_clear (keys_begun r) p.a)) h
 
   -- what a copy makes of both ends
-  both_clear : (s : Side) (ds : List Duty) (f : PathEnd) (c : Copy) (count : ℕ) (m : Meaning) (p : PathState C) → MeansIs c (end_at s p).tcp m → (is_unwanted m ≡ true → 7 ≤ stage (end_at s p).tcp.state) → f.modes.clear ≡ (end_at s p).modes.clear
-      → AllFar p (goes_on s f (template_by false s count m) p) → AllClear ds p → AllClear (template_by false s count m) (goes_on s f (template_by false s count m) p)
-  both_clear A ds f c count m p fits over same far h A = own_clears A ds p.a f c count m fits over (far A) same (h A)
-  both_clear A ds f c count m p fits over same far h B = other_clears B A refl ds p.b count m (h B)
-  both_clear B ds f c count m p fits over same far h A = other_clears A B refl ds p.a count m (h A)
-  both_clear B ds f c count m p fits over same far h B = own_clears B ds p.b f c count m fits over (far B) same (h B)
+  both_clear : (s : Side) (ds : List Duty) (f : PathEnd) (c : Copy) (count : ℕ) (m : Meaning) (p : PathState C) → MeansIs c (end_at s p).tcp m → (is_unwanted m ≡ true → 7 ≤ stage (end_at s p).tcp.state) → opens_to m ≤ stage f.tcp.state
+      → f.modes.clear ≡ (end_at s p).modes.clear → AllFar p (goes_on s f (template_by false s count m) p) → AllClear ds p → AllClear (template_by false s count m) (goes_on s f (template_by false s count m) p)
+  both_clear A ds f c count m p fits over up same far h A = own_clears A ds p.a f c count m fits over (far A) up same (h A)
+  both_clear A ds f c count m p fits over up same far h B = other_clears B A refl ds p.b count m (h B)
+  both_clear B ds f c count m p fits over up same far h A = other_clears A B refl ds p.a count m (h A)
+  both_clear B ds f c count m p fits over up same far h B = own_clears B ds p.b f c count m fits over (far B) up same (h B)
 
   told_clears : (now : ℕ) (s : Side) (h : HeardSegment) (ds : List Duty) (p : PathState C) → is_joined p.profile ≡ false → AllFar p (told_at now s h p) → AllClear ds p → AllClear (told_at now s h p).agenda (told_at now s h p)
-  told_clears now s h ds p = by (is_joined p.profile)
+  told_clears now s h ds p first = by (is_joined p.profile) first
     where
       by : (joined : Bool) → joined ≡ false
           → let q = goes_on s (copy_judged joined (held_of p.profile s h) (reset_for p.profile s h) s now h (taken_as (judged_in joined s h (end_at s p))) (end_at s p))
@@ -446,6 +449,7 @@ module _ {C : Type 0} where
       by false is =
           let e : PathEnd = end_at s p in let m : Meaning = meaning_of (copy_of h) e.tcp in
           both_clear s ds (copy_judged false (held_of p.profile s h) (reset_for p.profile s h) s now h m e) (copy_of h) (length (items_of false s h)) m p (means_so (copy_of h) e.tcp) (unwanted_dead (copy_of h) e.tcp)
+          (subst (λ joined. opens_to m ≤ stage (copy_judged joined (held_of p.profile s h) (reset_for p.profile s h) s now h m e).tcp.state) first (means_up p.profile s now h e m (meaning_has e.tcp.state (copy_of h) e.tcp)))
           (judged_clear (held_of p.profile s h) (reset_for p.profile s h) s now h m e)
 
   copy_clears : (s : Side) (o : Option HeardSegment) (ds : List Duty) (p : PathState C) → is_joined p.profile ≡ false → AllFar p (copy_heard s o p) → AllClear ds p → AllClear (copy_heard s o p).agenda (copy_heard s o p)
@@ -525,3 +529,16 @@ module _ {C : Type 0} where
   each_clears k start turns = run_lifted k (λ c. MemberClears c.member) (λ books c x asks h. member_takes_clears k (answer_to books x) c.member h) (λ stamp c over h. member_begins_clears c.member over h) turns (opened_world start)
       (opened_lifted (λ c. MemberClears c.member) start tt tt (λ number plan there first.
       let p : PathState C = waiting_path (path_begins start number plan) start.lines in settled_clears start_of_turn (with_agenda start_of_turn p) (start_clears [] p (first_clears C number start plan))))
+
+-- ---- the law
+
+past_clear : {C : Type 0} (m : Actor C) → MemberClears m → HoldsOfKind (λ app. Unit {0}) IsPastIfClear m
+past_clear (App a) h = tt
+past_clear (Path p) h = λ first s clear. by s (nat_le 3 (stage (end_at s p).tcp.state)) refl (h first s) clear
+  where
+    by : (s : Side) (b : Bool) → nat_le 3 (stage (end_at s p).tcp.state) ≡ b → Clears s p.agenda (end_at s p) → (end_at s p).modes.clear ≡ true → 3 ≤ stage (end_at s p).tcp.state
+    by s true is h clear = leb-true 3 (stage (end_at s p).tcp.state) is
+    by s false is h clear = absurd (both_ways (end_at s p).modes.clear (h.early (let low = leb-false 3 (stage (end_at s p).tcp.state) is in omega (arith, low))) clear)
+
+pub clear_ends_are_past : {C : Type 0} (k : Codec C) → ClearEndsArePast k
+clear_ends_are_past k start turns actor c there = past_clear c.member ((each_clears k start turns).each actor c there)

@@ -251,12 +251,12 @@ module _ {C : Type 0} where
 
 -- ---- the law
 
-living_low : (state : EndPhase) → is_dead state ≡ false → stage state ≤ 6
+pub living_low : (state : EndPhase) → is_dead state ≡ false → stage state ≤ 6
 living_low phase.Dead living = absurd (true≢false living)
 living_low _ living = omega arith
 
 -- SND.NXT is behind each record
-joined_up : (rs : List Record) (from nxt : ℕ) → Joined from nxt (map span_of rs) → from ≤ nxt
+pub joined_up : (rs : List Record) (from nxt : ℕ) → Joined from nxt (map span_of rs) → from ≤ nxt
 joined_up [] from nxt h = omega (arith, h)
 joined_up (r ∷ rs) from nxt h = let at = h.0 in let rest = joined_up rs (end_of r) nxt h.1 in omega (arith, at, rest)
 

@@ -25,10 +25,9 @@ use Rattle.whole_paths.specs.Delivery.{FinishedIsThere, HasFinished, IsAllThere}
 use Rattle.whole_paths.specs.EndRounds.{AnEndIsTold, EndIsKnown, FinIsSent, IsClosed}
 use Rattle.whole_paths.specs.Finish.{IsPathAt}
 use Rattle.whole_paths.specs.KnownEnds.{ClosedIsAcknowledged, EndIsAcknowledged, WaitsForNoEnd}
-use Rattle.whole_paths.specs.Mending.{EachIsToldSoon, IsMended}
 use Rattle.whole_paths.specs.Mild.{EndsGoByMappings, GoesByMappings}
 use Rattle.whole_paths.specs.OnePathScripts.{BeginsWithOnePath}
-use Rattle.whole_paths.specs.SegmentRounds.{IsRound, Rounds, read_after}
+use Rattle.whole_paths.specs.SegmentRounds.{IsRound, NothingIsToMend, Rounds, read_after}
 use Rattle.whole_paths.specs.Writers.{GoesOnWriting}
 use Rattle.whole_paths.proofs.DataLeft.{what_is_left_is_data}
 use Rattle.whole_paths.proofs.FinishedThere.{what_is_finished_is_there}
@@ -42,8 +41,8 @@ use Rattle.whole_paths.proofs.Unstopped.{mild_paths_are_never_stopped}
 known_so : (o : Option ℕ) (n : ℕ) → o ≡ Some n → is_some o ≡ true
 known_so o n is = ap (λ x. is_some x) is
 
-module _ (told : EachIsToldSoon) (start : Start) (plan : PathPlan) (x : BeginsWithOnePath start plan) (s : Side) (v a b u : List Turn)
-    (first : Rounds start 5 v a) (second : Rounds start 2 a b) (third : Rounds start 4 b u) (p : PathState Carried) (here : IsPathAt 0 (reached values start v) p) (mended : IsMended p)
+module _ (start : Start) (plan : PathPlan) (x : BeginsWithOnePath start plan) (s : Side) (v a b u : List Turn)
+    (first : Rounds start 5 v a) (second : Rounds start 2 a b) (third : Rounds start 4 b u) (p : PathState Carried) (here : IsPathAt 0 (reached values start v) p) (mended : NothingIsToMend p)
     (all_read : length (pick s start.file_a start.file_b) ≤ read_after start s v) (all_acked : length (pick s start.file_a start.file_b) ≤ acked_len (written_by s (reached values start a)).marks)
     (comes : FinIsSent start s b → EndIsKnown start s u) where
   abbrev total : ℕ
@@ -152,10 +151,10 @@ module _ (told : EachIsToldSoon) (start : Start) (plan : PathPlan) (x : BeginsWi
   known_last = ⊎_elim
       (λ all. there_known (stays_there start plan x heard_at b s to_sent all))
       (λ una. if_may start plan x Goal b q sent_path.here sent_path.is_open s there_known (λ may. sent_or_known una may (λ sent. comes (λ z there. subst (λ (y : PathState Carried). (end_at s y).sending.fin_sent ≡ true) (path_is (reached values start b) q z sent_path.here there) sent))))
-      (tell start plan x told v heard_at first.1.0 s p told_path.path here told_path.here mended)
+      (tell start plan x v heard_at first.1.0 s p told_path.path here told_path.here (mended.told s))
 
 pub an_end_is_told : AnEndIsTold
-an_end_is_told told start plan x s v a b u first second third p here mended all_read all_acked comes = record {
-  closed = closed_last told start plan x s v a b u first second third p here mended all_read all_acked comes;
-  known = known_last told start plan x s v a b u first second third p here mended all_read all_acked comes;
+an_end_is_told start plan x s v a b u first second third p here mended all_read all_acked comes = record {
+  closed = closed_last start plan x s v a b u first second third p here mended all_read all_acked comes;
+  known = known_last start plan x s v a b u first second third p here mended all_read all_acked comes;
 }

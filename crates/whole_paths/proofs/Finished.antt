@@ -49,8 +49,8 @@ is_ending TimeWait = true
 is_ending _ = false
 
 -- no step moves an end behind its FIN, and none takes that back
-record Stays (s t : EndState) : Type 0 where
-  state : is_ending t.state ≡ true → is_ending s.state ≡ true
+pub record Stays (s t : EndState) : Type 0 where
+  pub state : is_ending t.state ≡ true → is_ending s.state ≡ true
   finished : s.send.finished ≡ true → t.send.finished ≡ true
 
 same : (s t : EndState) → t.state ≡ s.state → t.send.finished ≡ s.send.finished → Stays s t
@@ -75,7 +75,7 @@ fin_acked_back FinWait1 is = refl
 fin_acked_back Closing is = refl
 fin_acked_back _ is = is
 
-fin_passed_back : (x : State) → is_ending (after_fin_passed x) ≡ true → is_ending x ≡ true
+pub fin_passed_back : (x : State) → is_ending (after_fin_passed x) ≡ true → is_ending x ≡ true
 fin_passed_back Established is = absurd (true≢false (sym is))
 fin_passed_back FinWait1 is = refl
 fin_passed_back FinWait2 is = refl
@@ -129,7 +129,7 @@ syn_ack_stays acknowledged hint now c s =
 death_stays : (reset : Bool) (s : EndState) → Stays s (after_death reset s)
 death_stays reset s = before s (after_death reset s) refl (λ is. acknowledge_finished s.send.nxt s.send ∙ is)
 
-arrival_stays : (m : Meaning) (hint : Hint) (now : ℕ) (c : Copy) (s : EndState) → Stays s (after_arrival m hint now c s)
+pub arrival_stays : (m : Meaning) (hint : Hint) (now : ℕ) (c : Copy) (s : EndState) → Stays s (after_arrival m hint now c s)
 arrival_stays means.Opens hint now c s = before s (after_syn hint c s) refl (λ is. is)
 arrival_stays (means.Accepts acknowledged) hint now c s = syn_ack_stays acknowledged hint now c s
 arrival_stays means.Kills hint now c s = death_stays false s

@@ -1,10 +1,9 @@
 -- A side's first record that may be lost is mended: SND.UNA rises past it, or its timer runs out, and it goes again.
-use Rattle.std.proofs.Common.{◌≡◌, refl, sym, subst, ap, ◌∙◌, ◌⊎◌, inl, inr, ⊎_elim, ℕ, zero, suc, ◌+◌, ◌==◌, ◌<◌, ◌≤◌, max, arith, Bool, true, false, true≢false, if◌then◌else◌, Some, List, [], ◌∷◌, ◌++◌, length, map, le_refl}
+use Rattle.std.proofs.Common.{◌≡◌, refl, sym, subst, ap, ◌∙◌, ◌⊎◌, inl, inr, ⊎_elim, ℕ, zero, suc, ◌+◌, ◌==◌, ◌<◌, ◌≤◌, max, arith, Bool, true, false, true≢false, if◌then◌else◌, Some, List, [], ◌∷◌, ◌++◌, length, map}
 use Rattle.std.specs.List.{slice_get}
 use Rattle.std.proofs.lemmas.Bool.{cases_lt, eq-eqb, eqb-true}
 use Rattle.std.proofs.lemmas.Option.{same_Some}
 use Rattle.sides.specs.declared.side.Side.{Side}
-use Rattle.sides.specs.Side.{peer}
 use Rattle.stream_lanes.specs.Words.{Has}
 use Rattle.subflow_send.specs.declared.record.RecordKind.{RecordKind}
 use Rattle.subflow_send.specs.declared.record.RecordKind.TheVariants as kinds
@@ -29,7 +28,7 @@ use Rattle.whole_paths.specs.FirstLost.{MendsFirstOn as mending}
 use Rattle.whole_paths.specs.Flights.{IsFirst}
 use Rattle.whole_paths.specs.InTime.{ComesFrom}
 use Rattle.whole_paths.specs.Kept.{AreKept, EndsKeepWhatWaits, IsSameRecord, KeepsWhatWaits}
-use Rattle.whole_paths.specs.Mending.{EachIsToldSoon, EachRecordStaysWell, IsRecordOf, IsToldSoon, IsWell, RecordsStayWell, WasSent, WhatIsSentComesSoon}
+use Rattle.whole_paths.specs.Mending.{IsRecordOf, IsWell, RecordsStayWell, WasSent}
 use Rattle.whole_paths.specs.Mending.{IsWell as is_well}
 use Rattle.whole_paths.specs.Mends.{MendsByExpiry}
 use Rattle.whole_paths.specs.Unmended.{AreWellBut, LosesNoMore}
@@ -51,7 +50,7 @@ use Rattle.whole_paths.proofs.Waiting.{no_timer_is_put_off}
 -- ---- positions that may be lost
 
 -- without this one
-abbrev without : ℕ → List ℕ → List ℕ
+abbrev pub without : ℕ → List ℕ → List ℕ
 without pos [] = []
 without pos (n ∷ ns) = if n == pos then without pos ns else n ∷ without pos ns
 
@@ -63,7 +62,7 @@ no_longer pos (n ∷ ns) = by (n == pos) (no_longer pos ns)
     by true low = omega (arith, low)
     by false low = omega (arith, low)
 
-shorter : (pos : ℕ) (ns : List ℕ) (i m : ℕ) → slice_get ns i ≡ Some m → m ≡ pos → length (without pos ns) < length ns
+pub shorter : (pos : ℕ) (ns : List ℕ) (i m : ℕ) → slice_get ns i ≡ Some m → m ≡ pos → length (without pos ns) < length ns
 shorter pos [] i m there is = cc
 shorter pos (n ∷ ns) zero m there is = by (n == pos) refl
   where
@@ -77,7 +76,7 @@ shorter pos (n ∷ ns) (suc i) m there is = by (n == pos) (shorter pos ns i m th
     by false low = omega (arith, low)
 
 -- another one stays
-stays_among : (pos other : ℕ) → (other ≡ pos → ⊥) → (ns : List ℕ) (i m : ℕ) → slice_get ns i ≡ Some m → m ≡ other → Has (λ n. n ≡ other) (without pos ns)
+pub stays_among : (pos other : ℕ) → (other ≡ pos → ⊥) → (ns : List ℕ) (i m : ℕ) → slice_get ns i ≡ Some m → m ≡ other → Has (λ n. n ≡ other) (without pos ns)
 stays_among pos other apart [] i m there is = cc
 stays_among pos other apart (n ∷ ns) zero m there is = by (n == pos) refl
   where
@@ -96,21 +95,16 @@ some_among pos ns h = let less = shorter pos ns h.at h.item h.there h.holds in o
 -- ---- records stand one behind another
 
 -- each behind this position, where all have positions
-behind : (nxt : ℕ) (rs : List Record) (from : ℕ) → Joined from nxt (map span_of rs) → (i : ℕ) (t : Record) → slice_get rs i ≡ Some t → from ≤ t.pos
+pub behind : (nxt : ℕ) (rs : List Record) (from : ℕ) → Joined from nxt (map span_of rs) → (i : ℕ) (t : Record) → slice_get rs i ≡ Some t → from ≤ t.pos
 behind nxt [] from h i t there = cc
 behind nxt (r ∷ rs) from h zero t there = let is = h.0 in let same = ap (λ (x : Record). x.pos) (same_Some r t there) in omega (arith, is, same)
 behind nxt (r ∷ rs) from h (suc i) t there = let is = h.0 in let rest = behind nxt rs (end_of r) h.1 i t there in omega (arith, is, rest)
 
--- ---- a turn of a path
+-- ---- the records of a side
 
-module _ (s : Side) (debts by_then : ℕ) (p q : PathState Carried) (records : RecordsStayWell s p q) (loses : LosesNoMore s p q) (mends : MendsByExpiry s p q) (again : GoesAgain values p q)
-    (timers : TimersWaitOn (Path p) (Path q)) (kept : KeepsWhatWaits (end_at s p) (end_at s q)) (frames : Frames p q) (past : ComesFrom p.clock p) (living : is_dead (end_at s q).tcp.state ≡ false)
-    (reached_p : EndsAreReached p) (reached_q : EndsAreReached q) (shown_p : Shown p) (shown_q : Shown q) where
-  abbrev Goes : Type 0
-  Goes = MendsFirstOn s debts by_then p q
-
+module _ (s : Side) where
   -- each record has positions
-  has_some : (x : PathState Carried) → Shown x → (t : Record) → IsRecordOf (end_at s x) t → t.pos < end_of t
+  pub has_some : (x : PathState Carried) → Shown x → (t : Record) → IsRecordOf (end_at s x) t → t.pos < end_of t
   has_some x shown t has = by t.kind refl
     where
       by : (k : RecordKind) → t.kind ≡ k → t.pos < end_of t
@@ -119,7 +113,7 @@ module _ (s : Side) (debts by_then : ℕ) (p q : PathState Carried) (records : R
       by kinds.Fin is = let end : end_of t ≡ t.pos + 1 = ap (λ k. t.pos + occupied k t.piece) is in omega (arith, end)
 
   -- and isn't acknowledged whole
-  left : (x : PathState Carried) → EndsAreReached x → Shown x → (t : Record) → IsRecordOf (end_at s x) t → (end_at s x).tcp.send.una < end_of t
+  pub left : (x : PathState Carried) → EndsAreReached x → Shown x → (t : Record) → IsRecordOf (end_at s x) t → (end_at s x).tcp.send.una < end_of t
   left x reached_x shown t has = by (end_at s x).tcp.send.records refl
     where
       all : Line (end_at s x).tcp.send.una (end_at s x).tcp.send.nxt (map span_of (end_at s x).tcp.send.records)
@@ -144,6 +138,14 @@ module _ (s : Side) (debts by_then : ℕ) (p q : PathState Carried) (records : R
           at : (i : ℕ) → slice_get (r ∷ rs) i ≡ Some t → (end_at s x).tcp.send.una < end_of t
           at zero there = subst (λ y. (end_at s x).tcp.send.una < end_of y) (same_Some r t there) first_left
           at (suc i) there = let more = behind (end_at s x).tcp.send.nxt rs (end_of r) line.2 i t there in let some = has_some x shown t has in omega (arith, first_left, more, some)
+
+-- ---- a turn of a path
+
+module _ (s : Side) (debts by_then : ℕ) (p q : PathState Carried) (records : RecordsStayWell s p q) (loses : LosesNoMore s p q) (mends : MendsByExpiry s p q) (again : GoesAgain values p q)
+    (timers : TimersWaitOn (Path p) (Path q)) (kept : KeepsWhatWaits (end_at s p) (end_at s q)) (frames : Frames p q) (past : ComesFrom p.clock p) (living : is_dead (end_at s q).tcp.state ≡ false)
+    (reached_p : EndsAreReached p) (reached_q : EndsAreReached q) (shown_p : Shown p) (shown_q : Shown q) where
+  abbrev Goes : Type 0
+  Goes = MendsFirstOn s debts by_then p q
 
   same_path : q ≡ p → MendsFirst s debts by_then p → Goes
   same_path same h = mending.on (subst (MendsFirst s debts by_then) (sym same) h)
@@ -176,10 +178,10 @@ module _ (s : Side) (debts by_then : ℕ) (p q : PathState Carried) (records : R
                 let one : h.is_first.first ≡ was.record_before = same_Some h.is_first.first was.record_before (sym first_there ∙ there) in
                 let ends : end_of t ≡ end_of was.record_before = rw (was.same.pos, was.same.kind, was.same.piece) refl in
                 let same_ends = ap end_of one in
-                let more = left q reached_q shown_q t at in omega (arith, ends, same_ends, end_same, more, reached_end)
+                let more = left s q reached_q shown_q t at in omega (arith, ends, same_ends, end_same, more, reached_end)
             by (suc i) there =
                 let low = behind (end_at s p).tcp.send.nxt h.is_first.others (end_of h.is_first.first) line.2 i was.record_before (subst (λ ts. slice_get ts (suc i) ≡ Some was.record_before) h.is_first.records there) in
-                let some = has_some p shown_p h.is_first.first (record { at = 0; item = h.is_first.first; there = first_there; holds = refl }) in
+                let some = has_some s p shown_p h.is_first.first (record { at = 0; item = h.is_first.first; there = first_there; holds = refl }) in
                 let at_first = h.is_first.same.pos in let at_t = was.same.pos in omega (arith, low, some, at_first, at_t, same)
 
         well : AreWellBut s (without h.first.pos h.lost) q

@@ -238,7 +238,7 @@ nil_so : (ds : List Duty) → is_nil ds ≡ true → ds ≡ []
 nil_so [] is = refl
 nil_so (d ∷ ds) is = absurd (true≢false (sym is))
 
-plain_none : (e : PathEnd) → e.modes.identity ≡ false → e.modes.own_infinite ≡ None → sends_plainly e.modes ≡ false
+pub plain_none : (e : PathEnd) → e.modes.identity ≡ false → e.modes.own_infinite ≡ None → sends_plainly e.modes ≡ false
 plain_none e identity infinite = rw (identity, infinite) refl
 
 module _ (start : Start) (plan : PathPlan) (one : start.paths ≡ plan ∷ []) (mild : IsMildStart start) (some : 1 ≤ start.buffer) where

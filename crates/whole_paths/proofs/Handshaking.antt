@@ -197,13 +197,13 @@ module _ (p : PathState Carried) (first : is_joined p.profile ≡ false) (copies
 -- ---- path 0
 
 -- what is known of it at a moment
-record Given (start : Start) (p : PathState Carried) : Type 0 where
+pub record Given (start : Start) (p : PathState Carried) : Type 0 where
   first : IsFirstPath start p
   states : GoByTheHandshake p
   reached : EndsAreReached p
   unbroken : IsUnbroken p
   clears : AllClear p.agenda p
-  upright : PathUpright p
+  pub upright : PathUpright p
   link : LinkIsMild start.lines p
 
 pub record PathMet (p : PathState Carried) : Type 0 where
@@ -234,14 +234,14 @@ module _ (start : Start) (p : PathState Carried) (g : Given start p) (h : PathMe
   moment = record { first = g.first; states = g.states; awake = h.awake; reached = g.reached; early = h.early; unbroken = g.unbroken; clears = g.clears; settled = g.upright.passes.settled }
 
   -- no path joins here
-  never_waits : is_waiting p.a.tcp.state ≡ true → ⊥
+  pub never_waits : is_waiting p.a.tcp.state ≡ true → ⊥
   never_waits is = by p.a.tcp.state h.awake is
     where
       by : (x : State) → 1 ≤ stage x → is_waiting x ≡ true → ⊥
       by phase.Waiting up is = omega (arith, up)
       by _ up is = true≢false (sym is)
 
-  never_joins : (d : Duty) (others : List Duty) → p.agenda ≡ d ∷ others → is_joining d ≡ true → ⊥
+  pub never_joins : (d : Duty) (others : List Duty) → p.agenda ≡ d ∷ others → is_joining d ≡ true → ⊥
   never_joins d others is joins = by d (subst (λ ds. FirstStands ds p) is g.upright.passes.settled) (ap (list_any hears_join) (sym is) ∙ h.early.joins) joins
     where
       by : (d : Duty) → stands d p ≡ true → list_any hears_join (d ∷ others) ≡ false → is_joining d ≡ true → ⊥
@@ -344,7 +344,7 @@ module _ (start : Start) (mild : IsMildStart start) where
   given_first (Path p) first states reached unbroken clears upright link =
       record { first = first; states = states; reached = reached; unbroken = unbroken first.first; clears = clears first.first; upright = upright; link = link }
 
-  given : (turns : List Turn) → OfFirst (Given start) (reached values start turns)
+  pub given : (turns : List Turn) → OfFirst (Given start) (reached values start turns)
   given turns = record {
     each = λ c there. given_first c.member (each_first start turns mild.plain.size c there) ((ends_go_by_the_handshake values start turns).each 2 c there) ((each_is_reached values start turns).each 2 c there)
         ((never_breaks start turns mild).each 2 c there) ((each_clears values start turns).each 2 c there) ((each_upright start turns mild.plain mild.strips).each 2 c there) ((links_are_mild values start turns mild).each 2 c there);

@@ -11,6 +11,7 @@ pub mod Boundaries
 pub mod Breaking
 pub mod Bringing
 pub mod Came
+pub mod ClearRounds
 pub mod Clearing
 pub mod Closing
 pub mod ClosingAsked
@@ -34,6 +35,18 @@ pub mod Duties
 pub mod Exchanges
 pub mod ExpiriesInARow
 pub mod Deaths
+pub mod ExpirySegments
+pub mod AnsweredExpiries
+pub mod FewLossesDeliver
+pub mod HarmlessDeaths
+pub mod KeptAddresses
+pub mod NoRemovals
+pub mod RemovedItems
+pub mod HarmlessLines
+pub mod HeardRemovals
+pub mod KeptBooks
+pub mod SaidRemovals
+pub mod QueuedRemovals
 pub mod Debts
 pub mod FewLossesEnd
 pub mod OpenCopies
@@ -77,6 +90,7 @@ pub mod NewsBounds
 pub mod Offered
 pub mod OnePath
 pub mod OnlyBooks
+pub mod OctetsPassed
 pub mod OnePathScripts
 pub mod OnlyPaths
 pub mod OpenAsks
@@ -98,6 +112,8 @@ pub mod Probes
 pub mod Reaching
 pub mod Reasons
 pub mod RecordsGo
+pub mod RecordsInTime
+pub mod RecordsPassed
 pub mod Received
 pub mod RecordsWell
 pub mod Refusals
@@ -117,9 +133,11 @@ pub mod Settling
 pub mod OpeningStates
 pub mod OpeningWaits
 pub mod SenderWaits
+pub mod SendsEnds
 pub mod SharpCourses
 pub mod ShutWaits
 pub mod Standing
+pub mod StatesByDuties
 pub mod Staying
 pub mod StayingWhole
 pub mod Straying
@@ -142,6 +160,7 @@ pub mod RisesOwed
 pub mod Unpassed
 pub mod Unstopped
 pub mod Waiting
+pub mod WellOctets
 pub mod WindowRoom
 pub mod WindowWaits
 pub mod WindowsHeard
@@ -149,6 +168,8 @@ pub mod Writers
 pub mod Endings
 pub mod EndedStreams
 pub mod Ends
+pub mod EndsHeard
+pub mod EndsUntold
 pub mod Counted
 pub mod OpenCourses
 pub mod Finishing
@@ -168,6 +189,7 @@ pub mod SynAcks
 pub mod Syns
 pub mod FirstAwaited
 pub mod FirstLost
+pub mod FirstReached
 pub mod FirstPieces
 pub mod WholeMappings
 pub mod ReadModes
@@ -182,6 +204,7 @@ pub mod SegmentRounds
 pub mod ReadSegments
 pub mod EndRounds
 pub mod UnitRounds
+pub mod ShortWaits
 pub mod UnderWay
 pub mod ByTurns
 pub mod Rising

@@ -2,10 +2,7 @@
 use Rattle.std.proofs.Common.{◌≡◌, refl, sym, subst, ap, ◌∙◌, ◌⊎◌, inl, inr, ⊎_elim, ℕ, suc, ◌+◌, ◌<◌, ◌≤◌, arith, Bool, true, false, true≢false, Option, Some, None, List, [], ◌∷◌, ◌++◌, length}
 use Rattle.std.specs.Prelude.{IfSome}
 use Rattle.std.specs.List.{slice_get}
-use Rattle.std.proofs.lemmas.Bool.{cases_lt}
 use Rattle.sides.specs.declared.side.Side.{Side}
-use Rattle.sides.specs.declared.side.Side.TheVariants.{A, B}
-use Rattle.sides.specs.Side.{peer}
 use Rattle.path_segments.specs.Spelled.{PlainSegment}
 use Rattle.stream_lanes.specs.Words.{Has}
 use Rattle.subflow_send.specs.declared.record.RecordKind.{RecordKind}
@@ -19,37 +16,25 @@ use Rattle.path_core.specs.Looking.{first_sends, segment_sent}
 use Rattle.path_core.specs.State.{PathState, end_at}
 use Rattle.path_core.specs.Values.{Carried, values}
 use Rattle.world_laws.proofs.Numbers.TellSmall.{RecordKindTells}
-use Rattle.world_laws.specs.declared.member.Member.TheVariants.{Path}
-use Rattle.world_laws.specs.Openings.{PathPlan, Start, opened_world}
 use Rattle.world_laws.specs.RoundDone.{reached}
-use Rattle.world_laws.specs.Worlds.{Turn, WorldState, after_turn}
+use Rattle.world_laws.specs.Worlds.{WorldState}
 use Rattle.whole_paths.specs.Answered.{AcksGoFirst, IsBareAck}
 use Rattle.whole_paths.specs.Answered.{IsBareAck as bare}
-use Rattle.whole_paths.specs.AsFar.{IsActorAsFar, IsPathAsFar, stage}
+use Rattle.whole_paths.specs.AsFar.{stage}
 use Rattle.whole_paths.specs.Exchanges.{IsSentWhole}
 use Rattle.whole_paths.specs.Expiries.{IsSegmentOf}
-use Rattle.whole_paths.specs.Courses.{harmed_so_far}
-use Rattle.whole_paths.specs.Debts.{OwesOn}
-use Rattle.whole_paths.specs.Finish.{harms_between, harms_of, is_harmed}
+use Rattle.whole_paths.specs.Finish.{is_harmed}
 use Rattle.whole_paths.specs.Kept.{IsSameRecord}
-use Rattle.whole_paths.specs.Mending.{ComesBy, EachIsToldSoon, EachRecordStaysWell, IsAllThereOf, IsOpenTurn, IsRecordOf, IsThereBy, IsToldSoon, IsToldBy, IsWell, RecordsStayWell, StaysTold, WasSent}
+use Rattle.whole_paths.specs.Mending.{ComesBy, IsAllThereOf, IsRecordOf, IsThereBy, IsWell, RecordsStayWell, WasSent}
 use Rattle.whole_paths.specs.Mending.{IsThereBy as there_by}
-use Rattle.whole_paths.specs.Mending.{IsToldBy as told_by}
-use Rattle.whole_paths.specs.Mending.{IsToldSoon as told_soon}
 use Rattle.whole_paths.specs.Mending.{IsWell as is_well}
 use Rattle.whole_paths.specs.News.{one_if}
 use Rattle.whole_paths.specs.RecordsGo.{GoesNext, IsOneSo, PathsGoAlone, RecordsGoAlone}
-use Rattle.whole_paths.specs.Mild.{IsMildStart}
-use Rattle.whole_paths.specs.OpenCourses.{IsOpenAfter}
 use Rattle.whole_paths.specs.Unmended.{AreWellBut, HarmsAloneLoseRecords, LosesNoMore}
-use Rattle.whole_paths.proofs.Arrivals.{sender_of}
-use Rattle.whole_paths.proofs.Counted.{harmed_snoc}
 use Rattle.whole_paths.proofs.DataLeft.{EndsAreBegun, each_is_begun}
 use Rattle.whole_paths.proofs.Exchanges.{Shown, each_shown}
-use Rattle.whole_paths.proofs.FinPlaces.{FinsStay, FinsStayMember, fins_stay, still_past}
 use Rattle.whole_paths.proofs.Flying.{same_said, same_segment}
-use Rattle.whole_paths.proofs.GoesOn.{goes_on_so}
-use Rattle.whole_paths.proofs.OpenTurns.{now, of_after, of_before, with_both}
+use Rattle.whole_paths.proofs.OpenTurns.{of_after, of_before, with_both}
 use Rattle.whole_paths.proofs.Owing.{copies_are_answered}
 use Rattle.whole_paths.proofs.RecordsGo.{each_record_goes_alone}
 use Rattle.whole_paths.proofs.RecordsWell.{each_record_stays_well}
@@ -59,11 +44,11 @@ use Rattle.whole_paths.proofs.RecordsWell.{each_record_stays_well}
 pub back : (r t : Record) → IsSameRecord r t → IsSameRecord t r
 back r t x = record { pos = sym x.pos; kind = sym x.kind; piece = sym x.piece; mapping = sym x.mapping }
 
-same_end : (r t : Record) → IsSameRecord r t → end_of t ≡ end_of r
+pub same_end : (r t : Record) → IsSameRecord r t → end_of t ≡ end_of r
 same_end r t x = rw (x.pos, x.kind, x.piece) refl
 
 module _ (s : Side) (r t : Record) (same : IsSameRecord r t) (p : PathState Carried) where
-  all_there : IsAllThereOf s r p → IsAllThereOf s t p
+  pub all_there : IsAllThereOf s r p → IsAllThereOf s t p
   all_there h pos from low = h pos (let at = same.pos in omega (arith, at, from)) (let end = same_end r t same in omega (arith, end, low))
 
   but_sendings : t ≡ record r { sending = t.sending }

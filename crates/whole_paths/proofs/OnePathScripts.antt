@@ -1,11 +1,14 @@
 -- Connections over one path by mild scripts begin mildly; what is said by how they begin holds of them, and their ways stay.
 use Rattle.std.proofs.Common.{◌≡◌, refl, sym, subst, ap, ◌∙◌, ℕ, suc, ◌+◌, ◌-◌, ◌*◌, ◌/◌, ◌^◌, ◌<◌, ◌≤◌, ◌⊎◌, arith, Option, Some, None, List, [], ◌∷◌, ◌++◌, length, append_assoc, le_refl}
-use Rattle.std.specs.List.{slice_get}
+use Rattle.std.specs.List.{All, slice_get}
+use Rattle.std.proofs.lemmas.List.Elements.{All-head}
 use Rattle.std.proofs.lemmas.Option.{same_Some}
 use Rattle.std.proofs.Math.Nat.{lt-div-mul-add}
 use Rattle.sides.specs.declared.side.Side.{Side}
 use Rattle.sides.specs.declared.side.Side.TheVariants.{A, B}
 use Rattle.sides.specs.Side.{peer}
+use Rattle.link_script.specs.Scripts.{IsPath}
+use Rattle.link_script.specs.declared.script.PathLine.{PathLine}
 use Rattle.link_model.specs.State.{LinkState}
 use Rattle.link_model.specs.Steps.{lines_of}
 use Rattle.actor_desk.specs.declared.ask.Reply.{Reply}
@@ -40,6 +43,7 @@ mild_scripts_begin_with_one_path script path file_a file_b h =
     record {
       mild = mild_scripts_start_mildly script file_a file_b (record { ranges = h.ranges; short_a = omega (arith, short_a); short_b = omega (arith, short_b) }) h.mild;
       one = ap (plans_from script 0) h.one;
+      size = (let most = (All-head IsPath path [] (subst (λ (ps : List PathLine). All IsPath ps) h.one h.ranges.paths)).mss.most in omega (arith, most));
       buffer = omega (arith, least);
     }
 
@@ -129,7 +133,7 @@ lawful_rest : (ts us : List Turn) (w : WorldState Carried) → AreLawful values 
 lawful_rest [] us w lawful = lawful
 lawful_rest (t ∷ ts) us w lawful = lawful_rest ts us (after_turn values t w) lawful.1
 
-rounds_so : (n rounds : ℕ) → n / 100 + 4 ≤ rounds → n + 300 < 100 * rounds
+pub rounds_so : (n rounds : ℕ) → n / 100 + 4 ≤ rounds → n + 300 < 100 * rounds
 rounds_so n rounds many = let less = lt-div-mul-add {a = n} {b = 100} (omega arith) in omega (arith, less, many)
 
 pub ends_as_it_begins : EndsAsItBegins values

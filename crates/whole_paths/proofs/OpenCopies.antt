@@ -1,7 +1,7 @@
 -- What a copy is to an end that has both SYNs: it is answered at once or taken, where it is no reset and acknowledges something; and in the
 -- window it is acceptable.
-use Rattle.std.proofs.Common.{◌≡◌, refl, sym, subst, ap, ◌∙◌, inl, inr, ◌⊎◌, ⊎_elim, ℕ, ◌+◌, ◌<◌, ◌≤◌, ◌==◌, arith, eq-eqb, nat_lt, ◌&&◌, ◌||◌, Bool, true, false, true≢false, if◌then◌else◌, Option, Some, None, List, [], length}
-use Rattle.std.proofs.lemmas.Bool.{eqb-true, le-leb, lt-ltb}
+use Rattle.std.proofs.Common.{◌≡◌, refl, sym, subst, ap, ◌∙◌, inl, inr, ◌⊎◌, ⊎_elim, ℕ, ◌+◌, ◌<◌, ◌≤◌, ◌==◌, arith, eq-eqb, nat_le, nat_lt, ◌&&◌, ◌||◌, Bool, true, false, true≢false, if◌then◌else◌, Option, Some, None, List, [], length}
+use Rattle.std.proofs.lemmas.Bool.{eqb-true, le-leb, lt-leb, lt-ltb, ne_eqb}
 use Rattle.subflow_tcp.specs.Judging.{ends_in_window, is_acceptable, is_at_right_edge, is_in_window, is_repeated_syn, meaning_acknowledging, meaning_at, meaning_connected, meaning_of, meaning_outside, meaning_placed, meaning_within}
 use Rattle.subflow_tcp.specs.Segments.{Copy, occupied}
 use Rattle.subflow_tcp.specs.State.{EndState, is_at_limit}
@@ -87,3 +87,25 @@ module _ (c : Copy) (s : EndState) (opened : 2 ≤ stage s.state) (living : is_d
         let Ends : Meaning → Type 0 = λ m. ends_row m ≡ true in
         connected Ends (subst (λ b. Ends (if b then means.RepeatedSyn else meaning_placed c.position c s)) (sym other)
         (subst (λ o. Ends (meaning_placed o c s)) (sym at) (subst (λ b. Ends (if b then meaning_within pos c s else meaning_outside c)) (sym accepted) (within Ends pos refl refl refl))))
+
+  -- ---- before the window
+
+  -- what occupies nothing there is outside, and answered
+  module _ (pos : ℕ) (at : c.position ≡ Some pos) (behind : pos < s.recv.edge) (none : occupied c ≡ 0) where
+    refused : is_acceptable s.recv.edge pos c ≡ false
+    refused =
+        let low : nat_le s.recv.edge pos ≡ false = lt-leb s.recv.edge pos behind in let apart : (pos == s.recv.edge + 1048576) ≡ false = ne_eqb pos (s.recv.edge + 1048576) (λ is. omega (arith, is, behind)) in
+        outside_all (nat_le s.recv.edge pos) (nat_lt pos (s.recv.edge + 1048576)) (nat_lt 0 (occupied c)) _ (length c.payload == 0) (pos == s.recv.edge + 1048576) low (ap (λ k. nat_lt 0 k) none) apart
+      where
+        outside_all : (a b d e f g : Bool) → a ≡ false → d ≡ false → g ≡ false → ((a && b) || ((d && e) || (f && g))) ≡ false
+        outside_all false b false e true false x y z = refl
+        outside_all false b false e false false x y z = refl
+        outside_all true b d e f g x y z = absurd (true≢false x)
+        outside_all false b true e f g x y z = absurd (true≢false y)
+        outside_all false b false e f true x y z = absurd (true≢false z)
+
+    pub is_refused : is_answered (meaning_of c s) ≡ true
+    is_refused =
+        let Answers : Meaning → Type 0 = λ m. is_answered m ≡ true in
+        connected Answers (choice Answers (is_repeated_syn c s) means.RepeatedSyn (meaning_placed c.position c s) (λ again. refl)
+        (λ other. subst (λ o. Answers (meaning_placed o c s)) (sym at) (subst (λ b. Answers (if b then meaning_within pos c s else meaning_outside c)) (sym refused) (outside Answers refl))))

@@ -49,7 +49,7 @@ use Rattle.whole_paths.proofs.Waiting.{path_far}
 
 -- ---- what is taken comes to an end that has the peer's SYN
 
-abbrev HasSyn : State → Meaning → Type 0
+abbrev pub HasSyn : State → Meaning → Type 0
 HasSyn state (means.Taken pos n) = 2 ≤ stage state
 HasSyn state _ = Unit {0}
 
@@ -65,7 +65,7 @@ high_has : (state : State) (m : Meaning) → 2 ≤ stage state → HasSyn state 
 high_has state (means.Taken pos n) high = high
 high_has state _ high = tt
 
-meaning_has : (state : State) (c : Copy) (s : EndState) → HasSyn state (meaning_at state c s)
+pub meaning_has : (state : State) (c : Copy) (s : EndState) → HasSyn state (meaning_at state c s)
 meaning_has phase.Dead c s = elim c.rst as (λ b. HasSyn phase.Dead (if b then means.Ignored else means.Unwanted)) [ true ↦ tt | false ↦ tt ]
 meaning_has phase.Waiting c s = tt
 meaning_has phase.Listen c s = elim (is_syn_alone c) as (λ b. HasSyn phase.Listen (if b then means.Opens else means.Ignored)) [ true ↦ tt | false ↦ tt ]
@@ -110,7 +110,7 @@ held_state (means.Taken pos n) (octet ∷ octets) s = refl
 held_state _ payload s = refl
 
 module _ (c : Profile) (s : Side) (now : ℕ) (x : HeardSegment) (e : PathEnd) where
-  abbrev heard_as : Meaning → PathEnd
+  abbrev pub heard_as : Meaning → PathEnd
   heard_as m = copy_judged (is_joined c) (held_of c s x) (reset_for c s x) s now x m e
 
   taken_up : (pos n : ℕ) → 2 ≤ stage e.tcp.state → 3 ≤ stage (heard_as (means.Taken pos n)).tcp.state
@@ -123,7 +123,7 @@ module _ (c : Profile) (s : Side) (now : ℕ) (x : HeardSegment) (e : PathEnd) w
       let more = ack_up n now ready in
       subst (λ state. 3 ≤ stage state) (sym (owing_state (owes_by (means.Taken pos n) items) (after_taken pos n hint now (copy_of x) held) ∙ heard_state n hint now (copy_of x) ready)) (omega (arith, up, more))
 
-  means_up : (m : Meaning) → HasSyn e.tcp.state m → opens_to m ≤ stage (heard_as m).tcp.state
+  pub means_up : (m : Meaning) → HasSyn e.tcp.state m → opens_to m ≤ stage (heard_as m).tcp.state
   means_up means.Opens has = le_refl 2
   means_up (means.Accepts n) has = ack_up n now (record (after_hearing (after_payload 1 (hint_of (items_of (is_joined c) s x)) (copy_of x) e.tcp)) { state = phase.Established })
   means_up (means.Taken pos n) has = taken_up pos n has

@@ -51,7 +51,12 @@ use Rattle.whole_paths.proofs.Courses.{round_next, round_step}
 use Rattle.whole_paths.proofs.FirstSigns.{asks_for_its_end}
 use Rattle.whole_paths.proofs.GoesOn.{goes_on_so}
 use Rattle.whole_paths.proofs.GoingOn.{ends_go_on, open_behind, step_side, steps_let_it_go_on}
+use Rattle.whole_paths.proofs.Clearing.{clear_ends_are_past}
+use Rattle.whole_paths.proofs.EndsUntold.{a_is_told_no_end_before}
+use Rattle.path_core.specs.MpJoin.{is_joined}
 use Rattle.whole_paths.proofs.Handshaking.{living_ends_open_or_are_past}
+use Rattle.whole_paths.proofs.SendsEnds.{who_is_done_is_clear}
+use Rattle.whole_paths.specs.Clear.{IsPastIfClear}
 use Rattle.whole_paths.proofs.InTime.{nil_so}
 use Rattle.whole_paths.proofs.Keyed.{keys_are_known}
 use Rattle.whole_paths.proofs.OpenCourses.{IsFirstPath, each_first}
@@ -196,13 +201,15 @@ module _ (start : Start) (plan : PathPlan) (most way within : ℕ) (one : start.
 
   -- ---- the opening isn't over where A's end has finished
 
-  firm_at : (v : List Turn) → IsAliveAfter start most v → (p : PathState Carried) → IsPathAt 0 (at v) p → OpensFirmly (at v) p
+  firm_at : (v : List Turn) → IsAliveAfter start most v → (p : PathState Carried) → IsPathAt 0 (at v) p → OpensFirmly p
   firm_at v now p here = firm v p here (subst IsAlive (path_is (at v) now.path p now.here here) now.is_open)
 
   never_done : (v : List Turn) → IsAliveAfter start most v → AHasFinished start v → (p : PathState Carried) → IsPathAt 0 (at v) p → stage p.b.tcp.state ≤ 2 → ⊥
   never_done v now done p here low =
       let f = firm_at v now done.path done.here in
-      let high : 3 ≤ stage p.b.tcp.state = subst (λ (q : PathState Carried). 3 ≤ stage q.b.tcp.state) (path_is (at v) done.path p done.here here) (f.past (f.sure (f.finished done.finished))) in
+      let first : is_joined done.path.profile ≡ false = subst (λ (q : PathState Carried). is_joined q.profile ≡ false) (path_is (at v) now.path done.path now.here done.here) now.faithful.joined in
+      let past = subst (HoldsOfKind (λ app. Unit {0}) IsPastIfClear) done.here.is (clear_ends_are_past values start v 2 done.here.crew done.here.there) first B (f.sure (who_is_done_is_clear start v mild done.path done.here done.finished)) in
+      let high : 3 ≤ stage p.b.tcp.state = subst (λ (q : PathState Carried). 3 ≤ stage q.b.tcp.state) (path_is (at v) done.path p done.here here) past in
       omega (arith, high, low)
 
   to_open_low : (s : Side) (p : PathState Carried) → IsToOpen s p → stage p.b.tcp.state ≤ 2
@@ -232,7 +239,7 @@ module _ (start : Start) (plan : PathPlan) (most way within : ℕ) (one : start.
     alive : IsAlive p
     alive = step.before.is_open
 
-    f : OpensFirmly (at v) p
+    f : OpensFirmly p
     f = firm v p here alive
 
     silent : p.agenda ≡ []
@@ -278,7 +285,7 @@ module _ (start : Start) (plan : PathPlan) (most way within : ℕ) (one : start.
         where
           by : (b : Bool) → may_finish p.a.tcp.state ≡ b → p.a.tcp.send.finished ≡ false
           by true may = first.may A may
-          by false behind = absurd (both_ways p.a.modes.clear unclear (f.finished (HasFinished.sent_fin (open_behind p.a.tcp.state (past A) (alive.living A) behind) (alive.living A))))
+          by false behind = absurd (both_ways p.a.modes.clear unclear (who_is_done_is_clear start v mild p here (HasFinished.sent_fin (open_behind p.a.tcp.state (past A) (alive.living A) behind) (alive.living A))))
 
       room : p.a.tcp.send.nxt ≤ p.b.tcp.recv.edge + 1048576
       room = let few = within_window A in let none = ap one_if a_unfinished in let low = came.una A (alive.living A) in omega (arith, few, none, low)
@@ -287,7 +294,7 @@ module _ (start : Start) (plan : PathPlan) (most way within : ℕ) (one : start.
       missing : IsAllThere B (at u) → ⊥
       missing all =
           let now = then_from in
-          both_ways now.path.a.modes.clear now.unclear ((firm_at u step.after now.path now.here).there all)
+          let none = a_is_told_no_end_before start plan u one mild now.path now.here now.unclear in let some = all.known in cc
 
       begun : at u ≡ world_run values (Turn.Round ∷ []) (at v)
       begun = ap at step.is ∙ run_append values v (Turn.Round ∷ []) (opened_world start)

@@ -9,12 +9,13 @@ use Rattle.sides.specs.declared.side.Side.TheVariants.{A, B}
 use Rattle.subflow_tcp.specs.States.{is_dead}
 use Rattle.subflow_tcp.specs.declared.handshake.State.{State}
 use Rattle.path_core.specs.State.{PathState, end_at}
+use Rattle.path_core.specs.Octets.{octets}
 use Rattle.path_core.specs.Values.{Carried, values}
 use Rattle.world_laws.specs.declared.member.Member.TheVariants.{App, Path}
 use Rattle.world_laws.specs.declared.outcome.Outcome.TheVariants.{Delivered}
 use Rattle.world_laws.specs.Actors.{Actor, ActorCrew}
 use Rattle.world_laws.specs.Members.{HoldsOfKind}
-use Rattle.world_laws.specs.Openings.{PathPlan, Start, opened_world}
+use Rattle.world_laws.specs.Openings.{PathPlan, Start, opened_world, plan_of, start_of}
 use Rattle.world_laws.specs.Outcomes.{outcome_of}
 use Rattle.world_laws.specs.RoundDone.{reached}
 use Rattle.world_laws.specs.Worlds.{Turn, WorldState, AreLawful, world_run}
@@ -24,7 +25,7 @@ use Rattle.whole_paths.specs.Finish.{AnEndDied, IsPathAt, harmed, rounds_in}
 use Rattle.whole_paths.specs.Mild.{IsMildStart, LinkIsMild}
 use Rattle.whole_paths.specs.OnePathScripts.{AnEndDiedEarly, for_all_news, way_there_and_back}
 use Rattle.whole_paths.specs.OnlyPaths.{news_within}
-use Rattle.whole_paths.specs.OpeningCourses.{DeliversWithin, IsOpenOrDone, IsOpeningStill, OpensWithin}
+use Rattle.whole_paths.specs.OpeningCourses.{FirmPathsEnd, for_twice, opening_patience, DeliversWithin, IsOpenOrDone, IsOpeningStill, OpensWithin}
 use Rattle.whole_paths.specs.OpeningWaits.{IsAliveAfter}
 use Rattle.whole_paths.specs.SentByTurns.{SentAtMost}
 use Rattle.whole_paths.proofs.Courses.{exchanges_end, harmed_append}
@@ -33,9 +34,11 @@ use Rattle.whole_paths.proofs.GoesOn.{goes_on_so}
 use Rattle.whole_paths.proofs.GoingOn.{path_at}
 use Rattle.whole_paths.proofs.Mild.{links_are_mild}
 use Rattle.whole_paths.proofs.NewsBounds.{news_is_bounded}
+use Rattle.whole_paths.proofs.OnePathScripts.{mild_scripts_begin_with_one_path, rounds_so}
 use Rattle.whole_paths.proofs.OnlyPaths.{only_paths_end, ways_short}
 use Rattle.whole_paths.proofs.OpenCourses.{IsFirstPath, each_first, lawful_parts}
 use Rattle.whole_paths.proofs.OpeningCourses.{exchanges}
+use Rattle.whole_paths.proofs.OverOctets.{as_far, ended}
 use Rattle.whole_paths.proofs.RecordWaits.{path_is}
 use Rattle.whole_paths.proofs.SentByTurns.{each_turn_sends_one_at_most}
 use Rattle.whole_paths.proofs.ThereInTime.{LastRounds, dead_stage, last_rounds}
@@ -198,3 +201,18 @@ delivers_within start plan turns most begins firm lawful few low enough =
         opened (inl whole) = ⊎_elim (λ delivered. inl delivered) early
             (only_paths_end start plan first rest most begins parts_lawful.1 short whole fewer (let enough_now = last_enough in omega (arith, enough_now, rounds)))
         opened (inr all) = inl (what_is_there_is_delivered start plan first rest begins.one begins.mild all parts_lawful.1 (let some = rounds in omega (arith, some)))
+
+-- ---- by scripts
+
+pub firm_paths_end : FirmPathsEnd values opening_patience
+firm_paths_end script path file_a file_b turns mild brief firm lawful many =
+    let start : Start = start_of script file_a file_b in
+    let harms = harmed values 0 turns (opened_world start) in
+    let enough = rounds_so (for_twice (for_all_news news_within) start harms) (rounds_in turns) many in
+    delivers_within start (plan_of script 0 path) turns harms (mild_scripts_begin_with_one_path script path file_a file_b mild) firm lawful brief.few (le_refl harms) (omega (arith, enough))
+
+pub firm_paths_end_in_octets : FirmPathsEnd octets opening_patience
+firm_paths_end_in_octets script path file_a file_b turns mild brief firm lawful many =
+    let whole = as_far script path file_a file_b mild turns in
+    ended (start_of script file_a file_b) turns whole
+    (firm_paths_end script path file_a file_b turns mild brief firm (whole.lawful.0 lawful) (subst (λ n. opening_patience script path file_a file_b n ≤ rounds_in turns) (whole.harms 0) many))

@@ -243,7 +243,7 @@ octets_are_as_far_as_values start turns size fit =
 -- ---- scripts
 
 -- over octets as over values
-as_far : (script : Script) (path : PathLine) (file_a file_b : List ℕ) → IsMild script path file_a file_b → (turns : List Turn) → IsAsFarAsOverValues (start_of script file_a file_b) turns
+pub as_far : (script : Script) (path : PathLine) (file_a file_b : List ℕ) → IsMild script path file_a file_b → (turns : List Turn) → IsAsFarAsOverValues (start_of script file_a file_b) turns
 as_far script path file_a file_b mild turns =
     let starts = (mild_scripts_begin_with_one_path script path file_a file_b mild).mild in
     octets_are_as_far_as_values (start_of script file_a file_b) turns starts.plain.size starts.fit
@@ -261,7 +261,7 @@ whole_paths_deliver_as_over_values = deliver_where (λ script turns. Unit {0})
 pub brief_paths_deliver_as_over_values : BriefPathsDeliverAsOverValues
 brief_paths_deliver_as_over_values = deliver_where IsBrief
 
-ended : (start : Start) (turns : List Turn) → IsAsFarAsOverValues start turns → (outcome_of (reached values start turns).crew ≡ Delivered) ⊎ AnEndDied 0 (reached values start turns)
+pub ended : (start : Start) (turns : List Turn) → IsAsFarAsOverValues start turns → (outcome_of (reached values start turns).crew ≡ Delivered) ⊎ AnEndDied 0 (reached values start turns)
     → (outcome_of (reached octets start turns).crew ≡ Delivered) ⊎ AnEndDied 0 (reached octets start turns)
 ended start turns whole (inl delivered) = inl (whole.outcome ∙ delivered)
 ended start turns whole (inr died) = inr ((whole.died 0).1 died)

@@ -16,7 +16,6 @@ use Rattle.world_laws.specs.RoundDone.{reached}
 use Rattle.world_laws.specs.Worlds.{Turn, WorldState}
 use Rattle.whole_paths.specs.Delivery.{IsAllThere}
 use Rattle.whole_paths.specs.Finish.{IsPathAt}
-use Rattle.whole_paths.specs.Mending.{EachIsToldSoon, EachRecordStaysWell}
 use Rattle.whole_paths.specs.OnePathScripts.{BeginsWithOnePath}
 use Rattle.whole_paths.specs.Pushed.{IsPushed}
 use Rattle.whole_paths.specs.SegmentRounds.{ASegmentIsRead, IsHeard, IsRound, IsWellAfter, Rounds, read_after, written_after}
@@ -28,7 +27,7 @@ use Rattle.whole_paths.proofs.RecordWaits.{path_is}
 use Rattle.whole_paths.proofs.RoundSteps.{Between, IsPathThere, begins_so, begun, between, ended, far, one_between, open_last, path_there, read, same_books, silent, then_between, there_whole, wrote}
 use Rattle.whole_paths.proofs.SegmentRounds.{bring, counts, if_may, path_far, stays_there, tell, una_up, unfinished}
 
-module _ (well : EachRecordStaysWell) (told : EachIsToldSoon) (start : Start) (plan : PathPlan) (x : BeginsWithOnePath start plan) (small : plan.mss ≤ 1460) (s : Side) (v a b u : List Turn)
+module _ (start : Start) (plan : PathPlan) (x : BeginsWithOnePath start plan) (s : Side) (v a b u : List Turn)
     (first : Rounds start 5 v a) (second : Rounds start 2 a b) (third : Rounds start 5 b u) (well_v : IsWellAfter start s v) (well_b : IsWellAfter start s b) (heard : IsHeard start plan s v a) where
   abbrev total : ℕ
   total = length (pick s start.file_a start.file_b)
@@ -129,14 +128,14 @@ module _ (well : EachRecordStaysWell) (told : EachIsToldSoon) (start : Start) (p
           let wrote_so = wrote start plan x a written_at writes s in
           let acked = heard.acked in
           let window = heard.window in
-          let buffer = x.buffer in omega (arith, more, same_written, same_edge, edge_later, wrote_so, acked, window, buffer, small)
+          let buffer = x.buffer in let small = x.size in omega (arith, more, same_written, same_edge, edge_later, wrote_so, acked, window, buffer, small)
 
   una_later : (end_at s told_path.path).tcp.send.una ≤ (end_at s q).tcp.send.una
   una_later = una_up start plan x s told_path.path q (path_far start plan x heard_at b told_path.path q to_sent told_path.here well_b.here)
 
   comes : (end_at (peer s) p).tcp.recv.edge ≤ (end_at s told_path.path).tcp.send.una → Goal
   comes una = if_may start plan x Goal b q well_b.here opened s (λ all. whole (stays_there start plan x b came_at s to_came all)) (λ may. ⊎_elim whole (λ low. ends (sent (omega (arith, una, una_later)) may) low)
-      (bring start plan x well b came_at third.1.0 s q came_path.path well_b.here came_path.here well_b.mended))
+      (bring start plan x b came_at third.1.0 s q came_path.path well_b.here came_path.here well_b.mended))
     where
       ends : goal < sent_up_to (end_at s q).tcp.send → sent_up_to (end_at s q).tcp.send ≤ (end_at (peer s) came_path.path).tcp.recv.edge → Goal
       ends more low = if_may start plan x Goal came_at came_path.path came_path.here came_path.is_open s whole (λ may.
@@ -145,7 +144,7 @@ module _ (well : EachRecordStaysWell) (told : EachIsToldSoon) (start : Start) (p
 
   is_read : Goal
   is_read = ⊎_elim (λ all. whole (stays_there start plan x heard_at came_at s (then_between start heard_at b came_at to_sent to_came) all)) comes
-      (tell start plan x told v heard_at first.1.0 s p told_path.path well_v.here told_path.here well_v.mended)
+      (tell start plan x v heard_at first.1.0 s p told_path.path well_v.here told_path.here (well_v.mended.told s))
 
 pub a_segment_is_read : ASegmentIsRead
-a_segment_is_read well told start plan x small s v a b u first second third well_v well_b heard = is_read well told start plan x small s v a b u first second third well_v well_b heard
+a_segment_is_read start plan x s v a b u first second third well_v well_b heard = is_read start plan x s v a b u first second third well_v well_b heard

@@ -71,11 +71,11 @@ use Rattle.world_laws.specs.Writes.{EndWrites, EndView, Writes, Only, OnlyAt, no
 use Rattle.world_laws.proofs.Falls.FailedChecks.{infinite_came_so, fail_answered_so}
 use Rattle.world_laws.proofs.Writes.Paths.{writes_no_more, passes_no_more}
 use Rattle.world_laws.proofs.Writes.Steps.{Lasts, unwritten, both_ends, settled_lasts, begins_lasts}
-use Rattle.whole_paths.specs.Expiries.{IsSegmentOf}
+use Rattle.whole_paths.specs.Expiries.{IsSaidAt, IsSegmentOf}
 use Rattle.whole_paths.specs.Kept.{IsSameRecord}
 use Rattle.whole_paths.specs.Mending.{IsRecordOf, WasSent}
 use Rattle.whole_paths.specs.RecordsGo.{EachRecordGoesAlone, GoesNext, IsOneSo, PathsGoAlone, RecordsGoAlone}
-use Rattle.whole_paths.proofs.Flying.{same_record, same_segment}
+use Rattle.whole_paths.proofs.Flying.{same_record, same_said, same_segment}
 use Rattle.whole_paths.proofs.Turns.{turn_each}
 
 -- ---- lists of records
@@ -304,8 +304,14 @@ item_same s (Some _) e = refl
 -- ---- a record and its end
 
 -- the segment of a record
-of_record : (c : Profile) (s : Side) (o : Option Record) (r t : Record) (e : PathEnd) → o ≡ Some r → IsSameRecord r t → IsSegmentOf t (record_or_ack c s o e)
-of_record c s o r t e is x = subst (λ o. IsSegmentOf t (record_or_ack c s o e)) (sym is) (same_segment t r _ (record { pos = sym x.pos; kind = sym x.kind; piece = sym x.piece; mapping = sym x.mapping }) (record { position = refl; syn = refl; fin = refl; rst = refl; payload = refl }))
+of_record : (c : Profile) (s : Side) (o : Option Record) (r t : Record) (e : PathEnd) → o ≡ Some r → IsSameRecord r t → IsSegmentOf t (record_or_ack c s o e) × IsSaidAt c s t e (record_or_ack c s o e)
+of_record c s o r t e is x = subst (λ o. IsSegmentOf t (record_or_ack c s o e) × IsSaidAt c s t e (record_or_ack c s o e)) (sym is) (
+  same_segment t r _ back (record { position = refl; syn = refl; fin = refl; rst = refl; payload = refl }),
+  same_said c s e t r _ back (record { options = refl; acknowledged = refl }),
+)
+  where
+    back : IsSameRecord t r
+    back = record { pos = sym x.pos; kind = sym x.kind; piece = sym x.piece; mapping = sym x.mapping }
 
 -- the SYN/ACK goes again only before the SYN is acknowledged
 syn_ack_still : (now : ℕ) (v : SendState) → 0 < v.una → Stay v.records (syn_resent now v).records
@@ -412,7 +418,7 @@ module _ {C : Type 0} where
   -- what was sent stays so, or it is of the segment that the duty sends
   abbrev DutySends : Duty → PathState C → PathState C → Type 0
   DutySends d p q = (s : Side) → 0 < (end_at s p).tcp.send.una → (t : Record) → Went t (end_at s q).tcp.send.records
-      → Before t (end_at s p).tcp.send.records ⊎ IsOneSo (duty_sends d p) (λ x. (x.from ≡ s) × IsSegmentOf t (segment_sent p x))
+      → Before t (end_at s p).tcp.send.records ⊎ IsOneSo (duty_sends d p) (λ x. (x.from ≡ s) × IsSegmentOf t (segment_sent p x) × IsSaidAt p.profile s t (end_at s p) (segment_sent p x))
 
   rest : (d : Duty) (p q : PathState C) → BothStill p q → DutySends d p q
   rest d p q x A some t h = inl (x.a.stays.each t h)
@@ -420,7 +426,7 @@ module _ {C : Type 0} where
 
   -- an end that sends one record of its own
   sends_one : (d : Duty) (s : Side) (o : Option Record) (f : PathEnd) (p q : PathState C)
-      → ((r t : Record) → o ≡ Some r → IsSameRecord r t → IsOneSo (duty_sends d p) (λ x. (x.from ≡ s) × IsSegmentOf t (segment_sent p x)))
+      → ((r t : Record) → o ≡ Some r → IsSameRecord r t → IsOneSo (duty_sends d p) (λ x. (x.from ≡ s) × IsSegmentOf t (segment_sent p x) × IsSaidAt p.profile s t (end_at s p) (segment_sent p x)))
       → (0 < (end_at s p).tcp.send.una → StayBut o (end_at s p).tcp.send.records f.tcp.send.records)
       → q.a ≡ (goes_on s f [] p).a → q.b ≡ (goes_on s f [] p).b → DutySends d p q
   sends_one d A o f p q goes but same_a same_b A some t h = ⊎_elim
@@ -444,7 +450,9 @@ module _ {C : Type 0} where
 
   data_row : (k : Codec C) (s : Side) (o : Option Record) (r : Reply) (p : PathState C) → first_unsent (end_at s p) ≡ o → DutySends (duties.Step (step_duties.Data s)) p (answered_data k s o r p)
   data_row k s (Some unsent) r p is = sends_one (duties.Step (step_duties.Data s)) s (first_unsent (end_at s p)) (having_sent_unsent s p) p (answered_data k s (Some unsent) r p)
-      (λ u t one same. subst (λ o. IsOneSo (unsent_sends s o) (λ x. (x.from ≡ s) × IsSegmentOf t (segment_sent p x))) (sym is) (refl, of_record p.profile s (first_unsent (end_at s p)) u t (end_at s p) one same))
+      (λ u t one same.
+      let one_is = of_record p.profile s (first_unsent (end_at s p)) u t (end_at s p) one same in
+      subst (λ o. IsOneSo (unsent_sends s o) (λ x. (x.from ≡ s) × IsSegmentOf t (segment_sent p x) × IsSaidAt p.profile s t (end_at s p) (segment_sent p x))) (sym is) (refl, one_is.0, one_is.1))
       (λ some. unsent_but p.clock (end_at s p).tcp.send.records) refl refl
   data_row k s None r p is = rest (duties.Step (step_duties.Data s)) p (answered_data k s None r p) (by (grant_in r))
     where
@@ -470,7 +478,9 @@ module _ {C : Type 0} where
 
       by : (b : Bool) → has_records e.tcp ≡ b → DutySends (duties.Send (send_duties.Resend s)) p (answered_resend k s p)
       by true is = sends_one (duties.Send (send_duties.Resend s)) s (first_record e) sent p (answered_resend k s p)
-          (λ u t one same. (refl, subst (λ b. IsSegmentOf t (if b then record_or_ack p.profile s (first_record e) e else ack_resent p.profile s e)) (sym is) (of_record p.profile s (first_record e) u t e one same)))
+          (λ u t one same.
+          let one_is = subst (λ b. let x = if b then record_or_ack p.profile s (first_record e) e else ack_resent p.profile s e in IsSegmentOf t x × IsSaidAt p.profile s t e x) (sym is) (of_record p.profile s (first_record e) u t e one same) in
+          (refl, one_is.0, one_is.1))
           (λ some. subst (λ b. StayBut (first_record e) e.tcp.send.records (after_sending (if b then to_send.First else other) p.clock e.tcp).send.records) (sym is) (first_but p.clock e.tcp.send.records)) refl refl
       by false is = sends_none (duties.Send (send_duties.Resend s)) s sent p (answered_resend k s p) (λ some. record {
         stays = subst (λ b. Stay e.tcp.send.records (after_sending (if b then to_send.First else other) p.clock e.tcp).send.records) (sym is) (none (e.modes.owes_third || (e.notices.fast_closed || is_data_fin_owed e)));
@@ -504,11 +514,11 @@ module _ {C : Type 0} where
   answered_row k (duties.Step (step_duties.Data s)) r p = data_row k s (first_unsent (end_at s p)) r p refl
   answered_row k (duties.Send (send_duties.Update s)) r p = rest (duties.Send (send_duties.Update s)) p (answered k (duties.Send (send_duties.Update s)) r p) (side s _ p (answered k (duties.Send (send_duties.Update s)) r p) (same _ _ refl) refl refl)
   answered_row k (duties.Send (send_duties.Syn s)) r p = sends_one (duties.Send (send_duties.Syn s)) s (first_unsent (end_at s p)) (having_sent_unsent s p) p (answered k (duties.Send (send_duties.Syn s)) r p)
-      (λ u t one same. (refl, of_record p.profile s (first_unsent (end_at s p)) u t (end_at s p) one same)) (λ some. unsent_but p.clock (end_at s p).tcp.send.records) refl refl
+      (λ u t one same. let one_is = of_record p.profile s (first_unsent (end_at s p)) u t (end_at s p) one same in (refl, one_is.0, one_is.1)) (λ some. unsent_but p.clock (end_at s p).tcp.send.records) refl refl
   answered_row k (duties.Send (send_duties.Fin s)) r p = fin_row k s p
   answered_row k (duties.Send (send_duties.SynAck s)) r p = sends_none (duties.Send (send_duties.SynAck s)) s _ p (answered k (duties.Send (send_duties.SynAck s)) r p) (λ some. record { stays = syn_ack_still p.clock (end_at s p).tcp.send some }) refl refl
   answered_row k (duties.Send (send_duties.Again s)) r p = sends_one (duties.Send (send_duties.Again s)) s (first_record (end_at s p)) _ p (answered k (duties.Send (send_duties.Again s)) r p)
-      (λ u t one same. (refl, of_record p.profile s (first_record (end_at s p)) u t (end_at s p) one same)) (λ some. first_but p.clock (end_at s p).tcp.send.records) refl refl
+      (λ u t one same. let one_is = of_record p.profile s (first_record (end_at s p)) u t (end_at s p) one same in (refl, one_is.0, one_is.1)) (λ some. first_but p.clock (end_at s p).tcp.send.records) refl refl
   answered_row k (duties.Send (send_duties.Answer s)) r p = answer_row k s p
   answered_row k (duties.Send (send_duties.Resend s)) r p = resend_row k s p
   answered_row k (duties.Send (send_duties.BreakReset s reason)) r p = rest (duties.Send (send_duties.BreakReset s reason)) p (answered k (duties.Send (send_duties.BreakReset s reason)) r p) (side s _ p (answered k (duties.Send (send_duties.BreakReset s reason)) r p) (gone _ _ refl) refl refl)
@@ -567,7 +577,7 @@ module _ {C : Type 0} where
 
   -- ---- a turn
 
-  takes_row : (k : Codec C) (r : Reply) (p : PathState C) → RecordsGoAlone p (takes k r p)
+  pub takes_row : (k : Codec C) (r : Reply) (p : PathState C) → RecordsGoAlone p (takes k r p)
   takes_row k r p s = by p.agenda
     where
       by : (ds : List Duty) → let x = record p { agenda = ds } in 0 < (end_at s x).tcp.send.una → (t : Record) → IsRecordOf (end_at s (takes k r x)) t → t.kind ≡ kinds.Data → t.sending.unsent ≡ false
@@ -582,14 +592,18 @@ module _ {C : Type 0} where
           (λ goes. inr goes)
           (answered_row k d r x s some t went)
 
-  next_row : (p : PathState C) → RecordsGoAlone p (next_round p)
-  next_row p s some t h data_is sent =
+  -- what was sent at the end of a round, or while another actor goes on
+  pub next_was : (p : PathState C) (s : Side) (t : Record) → IsRecordOf (end_at s (next_round p)) t → t.kind ≡ kinds.Data → t.sending.unsent ≡ false → WasSent (end_at s p) t
+  next_was p s t h data_is sent =
       let q : PathState C = record p { clock = p.until; until = p.until + 100 } in
-      inl (was_sent t (end_at s p) (was_there t (end_at s p).tcp.send.records (subst (λ rs. Went t rs) (begins_lasts SameRecords same_lasts q s ∙ still s) (went_of t (end_at s (next_round p)) h data_is sent))))
+      was_sent t (end_at s p) (was_there t (end_at s p).tcp.send.records (subst (λ rs. Went t rs) (begins_lasts SameRecords same_lasts q s ∙ still s) (went_of t (end_at s (next_round p)) h data_is sent)))
     where
       still : (t : Side) → (end_at t (record p { clock = p.until; until = p.until + 100 })).tcp.send.records ≡ (end_at t p).tcp.send.records
       still A = refl
       still B = refl
+
+  pub still_was : (p : PathState C) (s : Side) (t : Record) → IsRecordOf (end_at s p) t → t.kind ≡ kinds.Data → t.sending.unsent ≡ false → WasSent (end_at s p) t
+  still_was p s t h data_is sent = was_sent t (end_at s p) (was_there t (end_at s p).tcp.send.records (went_of t (end_at s p) h data_is sent))
 
   -- ---- the world
 
@@ -599,11 +613,11 @@ module _ {C : Type 0} where
 
   member_begins : (m : Actor C) → PathsGoAlone m (member_next m)
   member_begins (App a) = tt
-  member_begins (Path p) = next_row p
+  member_begins (Path p) = λ s some t h data_is sent. inl (next_was p s t h data_is sent)
 
   member_stays : (m : Actor C) → PathsGoAlone m m
   member_stays (App a) = tt
-  member_stays (Path p) = λ s some t h data_is sent. inl (was_sent t (end_at s p) (was_there t (end_at s p).tcp.send.records (went_of t (end_at s p) h data_is sent)))
+  member_stays (Path p) = λ s some t h data_is sent. inl (still_was p s t h data_is sent)
 
   pub each_record_goes_alone : (k : Codec C) → EachRecordGoesAlone k
   each_record_goes_alone k w turn actor c there = turn_each k (λ c d. PathsGoAlone c.member d.member) (λ c. member_stays c.member)

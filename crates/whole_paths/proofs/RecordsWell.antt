@@ -71,6 +71,7 @@ use Rattle.whole_paths.proofs.Bringing.{what_comes_is_kept}
 use Rattle.whole_paths.proofs.Came.{what_is_acknowledged_came}
 use Rattle.whole_paths.proofs.Copies.{copies_leave}
 use Rattle.whole_paths.proofs.DataLast.{DataStands, data_always_stands}
+use Rattle.whole_paths.proofs.DataLeft.{EndsAreBegun, each_is_begun}
 use Rattle.whole_paths.proofs.Due.{copies_arrive_as_sent, each_link}
 use Rattle.whole_paths.proofs.Exchanges.{Known, SameHeader, Shown, below_limit, changed_said, each_shown, under_way}
 use Rattle.whole_paths.proofs.Flying.{Frames, FramesStay, frames_stay, same_said, same_segment}
@@ -79,7 +80,7 @@ use Rattle.whole_paths.proofs.InTime.{nothing_is_overdue}
 use Rattle.whole_paths.proofs.Keyed.{keys_are_known}
 use Rattle.whole_paths.proofs.Knowing.{what_is_told_is_known}
 use Rattle.whole_paths.proofs.LastFin.{fins_are_last}
-use Rattle.whole_paths.proofs.Marking.{EachMarks, Marks, MarksTo, WasIn, turn_marks}
+use Rattle.whole_paths.proofs.Marking.{EachMarks, Marks, MarksTo, turn_marks}
 use Rattle.whole_paths.proofs.Marking.{Marks as marked}
 use Rattle.whole_paths.proofs.Mild.{mapping_is_kept}
 use Rattle.whole_paths.proofs.Overruns.{no_end_overruns}
@@ -386,80 +387,82 @@ module _ (start : Start) (mild : IsMildStart start) (turns : List Turn) (turn : 
         comes_by tick (by_then.there h) = by_then.there (all_there h)
         comes_by tick (by_then.comes h) = goes h.copy h.there h.of_it h.whole tick h.soon (copies h.copy h.there)
 
-        -- ---- it is sent
-
-        -- so the end sends it with its own mapping
-        mapped_now : (u : Record) → IsSameRecord r u → HasItsMapping p.profile s u (end_at s p)
-        mapped_now u same =
-            let some : 1 ≤ r.mapping.length = tells.0 in
-            let place : place_numbered p.profile s r.mapping.number < 2 ^ 31 = tells.3 in
-            let whole = whole_length in
-            let few : length r.piece ≤ 65475 = told.octets in
-            let reaches : r.pos + length r.piece + 1 < 2 ^ 31 = told.reaches in
-            let behind = ((stands s).each is_one.at r at_it kind).behind in
-            let octets : length u.piece ≡ length r.piece = ap (λ (o : List ℕ). length o) same.piece in
-            let size : u.mapping.length ≡ r.mapping.length = ap (λ m. m.length) same.mapping in
-            let number : place_numbered p.profile s u.mapping.number ≡ place_numbered p.profile s r.mapping.number = ap (λ m. place_numbered p.profile s m.number) same.mapping in
-            let at = same.pos in
-            record {
-              kind = same.kind ∙ kind;
-              some = omega (arith, some, whole, octets);
-              behind_syn = omega (arith, behind, at);
-              short = omega (arith, reaches, octets, at);
-              whole = omega (arith, whole, octets, size);
-              low = omega (arith, place, few, octets, number);
-              mapped = (mapped_p s).identity;
-              finite = (mapped_p s).own;
-              told = ap (λ b. is_side_a s && (not b && u.pos == 1)) (open_p.clear s) ∙ never (is_side_a s);
-            }
-
-        sent_now : (u : Record) (x : PlainSegment) → IsSameRecord r u → IsSegmentOf r x → IsSaidAt p.profile s r (end_at s p) x → IsSentSoon values s x p q → ComesBy s u (p.clock + 400) q
-        sent_now u x same of_r says h =
-            let back : IsSameRecord u r = record { pos = sym same.pos; kind = sym same.kind; piece = sym same.piece; mapping = sym same.mapping } in record {
-              copy = h.copy;
-              there = h.there;
-              of_it = record {
-                to = h.to;
-                segment = x;
-                of_it = same_segment u r x back of_r;
-                sender = end_at s p;
-                says = subst (λ c. IsSaidAt c s u (end_at s p) x) (sym frames.profile) (same_said p.profile s (end_at s p) u r x back says);
-                stripped = h.stripped;
-                altered = h.altered;
-                whole = λ strips. h.whole (subst StripsNothing frames.lines strips);
-                plain = λ alters. h.plain (subst AltersNothing frames.lines alters);
-                carried = subst (λ (c : Profile). h.copy.carried ≡ changed (values.strips c.spelling s) (values.alters c.spelling s) h.stripped h.altered (values.makes c.spelling s x)) (sym frames.profile) h.carried;
-              };
-              whole = subst (λ c. IsSentWhole c s u (end_at s p) h.stripped h.altered) (sym frames.profile) (record {
-                mapped = mapped_now u same;
-                acknowledges = ap (λ b. if b then None else Some (end_at s p).tcp.recv.edge) (unopening (end_at s p).tcp.state (open_p.past s));
-                edge = known.edge s;
-                unstripped = h.whole before.faithful.whole;
-                unaltered = h.plain before.faithful.plain;
-              });
-              soon = h.soon;
-            }
-
       -- ---- all of them
 
       abbrev Sent : Record → Type 0
       Sent u = WasSent (end_at s p) u ⊎ ((is_harmed s p q ≡ true) ⊎ IsThereBy s u (p.clock + 400) q)
 
-      was_sent : (u : Record) → WasIn (end_at s p).tcp.send.records u → WasSent (end_at s p) u
-      was_sent u h = record { record_before = h.before; there = h.there; same = h.same; sent = h.sent }
+      begun : EndsAreBegun p
+      begun = holds_p EndsAreBegun (each_is_begun values start turns).each
 
-      by_marks : (u : Record) → u.kind ≡ Data → Marks values s u p q.link → Sent u
-      by_marks u kind (marked.before h) = inl (was_sent u h)
-      by_marks u kind (marked.now r is_one same x of_r says taken) = inr (⊎_elim (λ harmed. inl harmed)
-          (λ h. inr (by_then.comes (sent_now r is_one (sym same.kind ∙ kind) u x same of_r says h)))
+      alive : (state : EndPhase) → is_dead state ≡ false → stage state ≤ 6
+      alive phase.Dead living = absurd (true≢false living)
+      alive _ living = omega arith
+
+      some : 0 < (end_at s p).tcp.send.una
+      some = let one = (begun s).past (open_p.past s) (alive (end_at s p).tcp.state (open_p.living s)) in omega (arith, one)
+
+      -- what is sent goes with its own mapping
+      mapped_now : (u : Record) → IsRecordOf (end_at s q) u → u.kind ≡ Data → HasItsMapping p.profile s u (end_at s p)
+      mapped_now u h kind =
+          let shown : Shown q = holds_q Shown (each_shown start later mild.plain.size mild.fit) in
+          let stand : DataStands q = holds_q DataStands (data_always_stands start later mild.plain.size).each in
+          let there : slice_get (end_at s q).tcp.send.records h.at ≡ Some u = h.there ∙ ap Some h.holds in
+          let told = (shown.tells s).sender.records.each h.at u there in
+          let tells : RecordKindTells p.profile s Data u = subst (λ c. RecordKindTells c s Data u) frames.profile (subst (λ k. RecordKindTells q.profile s k u) kind told.mapped) in
+          let one : 1 ≤ u.mapping.length = tells.0 in
+          let place : place_numbered p.profile s u.mapping.number < 2 ^ 31 = tells.3 in
+          let whole = tells.4 in
+          let few : length u.piece ≤ 65475 = told.octets in
+          let reaches : u.pos + length u.piece + 1 < 2 ^ 31 = told.reaches in
+          let behind = ((stand s).each h.at u there kind).behind in
+          record {
+            kind = kind;
+            some = omega (arith, one, whole);
+            behind_syn = omega (arith, behind);
+            short = omega (arith, reaches);
+            whole = whole;
+            low = omega (arith, place, few);
+            mapped = (mapped_p s).identity;
+            finite = (mapped_p s).own;
+            told = ap (λ b. is_side_a s && (not b && u.pos == 1)) (open_p.clear s) ∙ never (is_side_a s);
+          }
+
+      sent_now : (u : Record) → IsRecordOf (end_at s q) u → u.kind ≡ Data → (x : PlainSegment) → IsSegmentOf u x → IsSaidAt p.profile s u (end_at s p) x → IsSentSoon values s x p q
+          → ComesBy s u (p.clock + 400) q
+      sent_now u is_one kind x of_it says h = record {
+        copy = h.copy;
+        there = h.there;
+        of_it = record {
+          to = h.to;
+          segment = x;
+          of_it = of_it;
+          sender = end_at s p;
+          says = subst (λ c. IsSaidAt c s u (end_at s p) x) (sym frames.profile) says;
+          stripped = h.stripped;
+          altered = h.altered;
+          whole = λ strips. h.whole (subst StripsNothing frames.lines strips);
+          plain = λ alters. h.plain (subst AltersNothing frames.lines alters);
+          carried = subst (λ (c : Profile). h.copy.carried ≡ changed (values.strips c.spelling s) (values.alters c.spelling s) h.stripped h.altered (values.makes c.spelling s x)) (sym frames.profile) h.carried;
+        };
+        whole = subst (λ c. IsSentWhole c s u (end_at s p) h.stripped h.altered) (sym frames.profile) (record {
+          mapped = mapped_now u is_one kind;
+          acknowledges = ap (λ b. if b then None else Some (end_at s p).tcp.recv.edge) (unopening (end_at s p).tcp.state (open_p.past s));
+          edge = known.edge s;
+          unstripped = h.whole before.faithful.whole;
+          unaltered = h.plain before.faithful.plain;
+        });
+        soon = h.soon;
+      }
+
+      by_marks : (u : Record) → IsRecordOf (end_at s q) u → u.kind ≡ Data → Marks values s u p q.link → Sent u
+      by_marks u is_one kind (marked.before h) = inl h
+      by_marks u is_one kind (marked.now x of_it says taken) = inr (⊎_elim (λ harmed. inl harmed)
+          (λ h. inr (by_then.comes (sent_now u is_one kind x of_it says h)))
           (segments_come_soon values p q (numbered_so p known.link) s x (before.few s) taken))
-      by_marks u kind (marked.answers r same at none) =
-          let is_one : IsRecordOf (end_at s p) r = record { at = 0; item = r; there = at; holds = refl } in
-          let behind = ((stands s).each 0 r at (sym same.kind ∙ kind)).behind in
-          let low = first_low (end_at s p).tcp.send.records (end_at s p).tcp.send.una (end_at s p).tcp.send.nxt r (known.reached s).lined.line at in absurd (omega (arith, behind, low, none))
 
       sent_so : (u : Record) → IsRecordOf (end_at s q) u → u.kind ≡ Data → u.sending.unsent ≡ false → Sent u
-      sent_so u h kind sent = by_marks u kind ((marks.marks s).each h.at u (h.there ∙ ap Some h.holds) kind sent)
+      sent_so u h kind sent = by_marks u h kind (marks.marks s some u h kind sent)
 
       later_there : (u : Record) → IsThereBy s u (p.clock + 400) q → IsThereBy s u (q.clock + 400) q
       later_there u (by_then.there h) = by_then.there h

@@ -41,14 +41,14 @@ use Rattle.whole_paths.specs.Delivery.{FinishedIsThere, HasFinished, IsAllThere}
 use Rattle.whole_paths.specs.Finish.{IsPathAt}
 use Rattle.whole_paths.specs.Kept.{AreKept, EndsKeepWhatWaits, IsSameRecord, KeepsWhatWaits}
 use Rattle.whole_paths.specs.Mapped.{EndsAreLive, IsMapped, IsToLearn}
-use Rattle.whole_paths.specs.Mending.{EachIsToldSoon, EachRecordStaysWell, IsAllThereOf, IsMended, IsThereBy, IsToldBy, IsToldSoon, IsWell}
+use Rattle.whole_paths.specs.Mending.{IsAllThereOf, IsThereBy, IsToldBy, IsToldSoon, IsWell}
 use Rattle.whole_paths.specs.Mending.{IsThereBy as there_by, IsToldBy as told_by, IsToldSoon as told_soon, IsWell as well_by}
 use Rattle.whole_paths.specs.Mild.{EndsGoByMappings}
 use Rattle.whole_paths.specs.OnePathScripts.{BeginsWithOnePath}
 use Rattle.whole_paths.specs.OpenCourses.{IsOpenAfter}
 use Rattle.whole_paths.specs.Passed.{HasPassed}
 use Rattle.whole_paths.specs.PositionCounts.{CountsBytes}
-use Rattle.whole_paths.specs.SegmentRounds.{FourRoundsBring, FourRoundsTell, Rounds}
+use Rattle.whole_paths.specs.SegmentRounds.{FourRoundsBring, FourRoundsTell, NothingIsToMend, Rounds}
 use Rattle.whole_paths.specs.SentInOrder.{sent_before, sent_up_to}
 use Rattle.whole_paths.specs.Straying.{IsOpen}
 use Rattle.whole_paths.specs.WholeMappings.{HasRecord, NoneIsPartial}
@@ -68,6 +68,8 @@ use Rattle.whole_paths.proofs.Passing.{what_is_in_order_is_passed}
 use Rattle.whole_paths.proofs.PositionCounts.{positions_count_bytes}
 use Rattle.whole_paths.proofs.Reached.{EndsAreReached, Joined, Line, each_is_reached}
 use Rattle.whole_paths.proofs.RecordWaits.{path_is}
+use Rattle.whole_paths.proofs.RecordsWell.{each_record_stays_well}
+use Rattle.whole_paths.proofs.ToldSoon.{each_answer_comes_soon}
 use Rattle.whole_paths.proofs.RoundSteps.{Between, between, carried, early, far, none_comes, open_first, open_last, over_after, over_before, rounds_later, silent}
 use Rattle.whole_paths.proofs.WholeMappings.{mappings_are_whole}
 
@@ -219,7 +221,7 @@ module _ (start : Start) (plan : PathPlan) (x : BeginsWithOnePath start plan) wh
 
   -- ---- what comes in four rounds
 
-  module _ (well : EachRecordStaysWell) (s : Side) (r : Record) (kind : r.kind ≡ Data) (by : ℕ) where
+  module _ (s : Side) (r : Record) (kind : r.kind ≡ Data) (by : ℕ) where
     -- the record waits still, and is there by the tick; or it is acknowledged
     abbrev StillComes : PathState Carried → Type 0
     StillComes p = (HasRecord r (end_at s p) × IsThereBy s r by p) ⊎ (end_of r ≤ (end_at s p).tcp.send.una)
@@ -245,13 +247,13 @@ module _ (start : Start) (plan : PathPlan) (x : BeginsWithOnePath start plan) wh
             let has = h.0 in
             let item = has.item in
             let of_data : item.kind ≡ Data = has.holds.kind ∙ kind in
-            let there = there_so s r item by q has.holds ((well start turns turn (record { mild = x.mild; before = before; after = after }) s).comes item by (record { at = has.at; item = item; there = has.there; holds = refl }) of_data (there_so s item r by p (turned r item has.holds) h.1)) in
+            let there = there_so s r item by q has.holds ((each_record_stays_well start turns turn (record { mild = x.mild; before = before; after = after }) s).comes item by (record { at = has.at; item = item; there = has.there; holds = refl }) of_data (there_so s item r by p (turned r item has.holds) h.1)) in
             ⊎_elim
             (λ gone. inr (let low = gone.1 in let end = same_end r item has.holds in omega (arith, low, end)))
             (λ on. inl (record { at = on.at; item = on.item; there = on.there; holds = same_then r item on.item has.holds on.holds }, there))
             (kept_one _ (end_at s p).tcp.send.records (end_at s q).tcp.send.records kept.records has.at item has.there)
 
-  module _ (well : EachRecordStaysWell) (v u : List Turn) (rounds : Rounds start 4 v u) (s : Side) (p q : PathState Carried) (here : IsPathAt 0 (at v) p) (there : IsPathAt 0 (at u) q) (mended : IsMended p) where
+  module _ (v u : List Turn) (rounds : Rounds start 4 v u) (s : Side) (p q : PathState Carried) (here : IsPathAt 0 (at v) p) (there : IsPathAt 0 (at u) q) (mended : NothingIsToMend p) where
     abbrev r : Side
     r = peer s
 
@@ -312,8 +314,8 @@ module _ (start : Start) (plan : PathPlan) (x : BeginsWithOnePath start plan) wh
           of_well (well_by.unsent unsent) = absurd (true≢false (sym unsent ∙ found.sent))
           of_well (well_by.sent soon) = soon
 
-      later : StillComes well s item of_data (p.clock + 400) q
-      later = carried start (StillComes well s item of_data (p.clock + 400)) (goes well s item of_data (p.clock + 400)) v path_between.more path_between.stays_open p q here (subst (λ t. IsPathAt 0 (at t) q) path_between.is there)
+      later : StillComes s item of_data (p.clock + 400) q
+      later = carried start (StillComes s item of_data (p.clock + 400)) (goes s item of_data (p.clock + 400)) v path_between.more path_between.stays_open p q here (subst (λ t. IsPathAt 0 (at t) q) path_between.is there)
           (inl (record { at = found.at; item = item; there = found.there; holds = same_record item }, comes))
 
       abbrev taker : PathEnd
@@ -356,7 +358,7 @@ module _ (start : Start) (plan : PathPlan) (x : BeginsWithOnePath start plan) wh
       never : ⊥
       never = by later
         where
-          by : StillComes well s item of_data (p.clock + 400) q → ⊥
+          by : StillComes s item of_data (p.clock + 400) q → ⊥
           by (inr acked) = let up = came u q there s (opened_last.living s) in let high = found.high in omega (arith, acked, up, high, is)
           by (inl h) = by_tick h.0 h.1
             where
@@ -375,7 +377,7 @@ module _ (start : Start) (plan : PathPlan) (x : BeginsWithOnePath start plan) wh
 
   -- ---- what is told in four rounds
 
-  module _ (told : EachIsToldSoon) (v u : List Turn) (rounds : Rounds start 4 v u) (s : Side) (p q : PathState Carried) (here : IsPathAt 0 (at v) p) (there : IsPathAt 0 (at u) q) (mended : IsMended p) where
+  module _ (v u : List Turn) (rounds : Rounds start 4 v u) (s : Side) (p q : PathState Carried) (here : IsPathAt 0 (at v) p) (there : IsPathAt 0 (at u) q) (is_told : IsToldSoon s p) where
     told_between : Between start v u
     told_between = between start 3 v u rounds
 
@@ -386,7 +388,7 @@ module _ (start : Start) (plan : PathPlan) (x : BeginsWithOnePath start plan) wh
     edge = (end_at (peer s) p).tcp.recv.edge
 
     follows : IsToldBy s edge (p.clock + 400) p → edge ≤ (end_at s q).tcp.send.una
-    follows h = by (carried start (IsToldBy s edge (p.clock + 400)) (λ turns turn before after. (told start turns turn (record { mild = x.mild; before = before; after = after }) s).comes edge (p.clock + 400))
+    follows h = by (carried start (IsToldBy s edge (p.clock + 400)) (λ turns turn before after. (each_answer_comes_soon start turns turn (record { mild = x.mild; before = before; after = after }) s).comes edge (p.clock + 400))
         v told_between.more told_between.stays_open p q here (subst (λ t. IsPathAt 0 (at t) q) told_between.is there) h)
       where
         by : IsToldBy s edge (p.clock + 400) q → edge ≤ (end_at s q).tcp.send.una
@@ -404,7 +406,7 @@ module _ (start : Start) (plan : PathPlan) (x : BeginsWithOnePath start plan) wh
     unpassed may behind = none_passed (end_at (peer s) p).tcp.fin_at (end_at (peer s) p).tcp.recv.edge ((of_path v p (IsFirstPath start) here (each_first start v x.mild.plain.size here.crew here.there)).fins s (unfinished v p here s may)) behind
 
     pub tell : IsAllThere s (at u) ⊎ (edge ≤ (end_at s q).tcp.send.una)
-    tell = if_may (IsAllThere s (at u) ⊎ (edge ≤ (end_at s q).tcp.send.una)) v p here told_open s (λ all. inl (stays_there v u s told_between all)) (λ may. by may (mended.told s))
+    tell = if_may (IsAllThere s (at u) ⊎ (edge ≤ (end_at s q).tcp.send.una)) v p here told_open s (λ all. inl (stays_there v u s told_between all)) (λ may. by may is_told)
       where
         by : may_finish (end_at s p).tcp.state ≡ true → IsToldSoon s p → IsAllThere s (at u) ⊎ (edge ≤ (end_at s q).tcp.send.una)
         by may (told_soon.past_fin behind) = absurd (unpassed may behind)
@@ -412,7 +414,7 @@ module _ (start : Start) (plan : PathPlan) (x : BeginsWithOnePath start plan) wh
         by may (told_soon.told h) = inr (follows h)
 
 pub four_rounds_bring : FourRoundsBring
-four_rounds_bring well start plan v u x rounds s p q here there mended = bring start plan x well v u rounds s p q here there mended
+four_rounds_bring start plan v u x rounds s p q here there mended = bring start plan x v u rounds s p q here there mended
 
 pub four_rounds_tell : FourRoundsTell
-four_rounds_tell told start plan v u x rounds s p q here there mended = tell start plan x told v u rounds s p q here there mended
+four_rounds_tell start plan v u x rounds s p q here there soon = tell start plan x v u rounds s p q here there soon

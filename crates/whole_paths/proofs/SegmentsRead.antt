@@ -63,7 +63,7 @@ stream_up mss length b c d e sent arrived =
     let closed = one_up b.closed c.closed sent.closed in
     let known = known_up d.known_end e.known_end arrived.end in omega (arith, read, closed, known)
 
-stream_few : (mss length : ℕ) (b : Sending) (d : Arriving) → stream_units mss length b d ≤ segments mss length + 2
+pub stream_few : (mss length : ℕ) (b : Sending) (d : Arriving) → stream_units mss length b d ≤ segments mss length + 2
 stream_few mss length b d =
     let read = segments_few mss length d.read in
     let closed = one_most b.closed in

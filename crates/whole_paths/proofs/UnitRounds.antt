@@ -23,19 +23,19 @@ use Rattle.whole_paths.specs.Delivery.{AllIsThere, IsAllThere}
 use Rattle.whole_paths.specs.EndRounds.{AnEndComes, EndIsKnown, IsClosed}
 use Rattle.whole_paths.specs.Finish.{payload_of, segments}
 use Rattle.whole_paths.specs.GoingOn.{steps_of}
-use Rattle.whole_paths.specs.Mending.{EachIsToldSoon, EachRecordStaysWell}
 use Rattle.whole_paths.specs.News.{one_if}
+use Rattle.whole_paths.specs.Mild.{IsMildStart}
 use Rattle.whole_paths.specs.OnePathScripts.{BeginsWithOnePath}
 use Rattle.whole_paths.specs.OpenCourses.{IsOpenAfter}
 use Rattle.whole_paths.specs.SegmentRounds.{IsRound, IsWellAfter, Rounds, StaysOpen, read_after}
-use Rattle.whole_paths.specs.SharpCourses.{segments_read, stream_units, units}
-use Rattle.whole_paths.specs.UnitRounds.{AUnitIsMade, IsAllWell, ShortWaitsGoOn, WaitsGoOn, WellRounds, WhatIsToldIsHeard}
+use Rattle.whole_paths.specs.SharpCourses.{most_units, segments_read, stream_units, units}
+use Rattle.whole_paths.specs.UnitRounds.{AUnitIsMade, AllUnitsAreThere, IsAllWell, ShortWaitsGoOn, WaitsGoOn, WellRounds, WhatIsToldIsHeard}
 use Rattle.whole_paths.proofs.Delivery.{bounds_at}
 use Rattle.whole_paths.proofs.EndRounds.{an_end_is_told}
-use Rattle.whole_paths.proofs.News.{known_up, one_up}
+use Rattle.whole_paths.proofs.News.{known_up, one_most, one_up}
 use Rattle.whole_paths.proofs.ReadSegments.{a_segment_is_read}
 use Rattle.whole_paths.proofs.RoundSteps.{Between, between, far, rounds_later, steps_later}
-use Rattle.whole_paths.proofs.SegmentsRead.{segments_up}
+use Rattle.whole_paths.proofs.SegmentsRead.{segments_few, segments_up, stream_few}
 use Rattle.whole_paths.proofs.Courses.{round_next}
 
 -- ---- waits
@@ -161,6 +161,9 @@ module _ (start : Start) (plan : PathPlan) (x : BeginsWithOnePath start plan) wh
       let closed = one_up (written_by s (at v)).closed (written_by s (at u)).closed sent.closed in
       let known = known_up (arrived_at (peer s) (at v)).known_end (arrived_at (peer s) (at u)).known_end arrived.end in omega (arith, read, closed, known)
 
+  abbrev HasAllUnits : Side → List Turn → Type 0
+  HasAllUnits s turns = segments plan.mss (length (pick s start.file_a start.file_b)) + 2 ≤ units_of s turns
+
   one_rises : (b c : Bool) → b ≡ false → c ≡ true → one_if b < one_if c
   one_rises b c was is = rw (was, is) (omega arith)
 
@@ -178,25 +181,15 @@ module _ (start : Start) (plan : PathPlan) (x : BeginsWithOnePath start plan) wh
       let known = known_up (arrived_at (peer s) (at v)).known_end (arrived_at (peer s) (at u)).known_end arrived.end in
       ⊎_elim (λ more. omega (arith, more, closed, known)) (λ others. ⊎_elim (λ more. omega (arith, more, read, known)) (λ more. omega (arith, more, read, closed)) others) rises
 
-  -- a stream that is read, closed, and whose end is known, is there
-  there_so : (v : List Turn) (s : Side) → length (pick s start.file_a start.file_b) ≤ read_after start s v → IsClosed start s v → EndIsKnown start s v → IsAllThere s (at v)
-  there_so v s read closed known = by (arrived_at (peer s) (at v)).known_end refl known
-    where
-      whole : length (written_by s (at v)).written ≡ length (pick s start.file_a start.file_b)
-      whole = of s closed
-        where
-          of : (t : Side) → (written_by t (at v)).closed ≡ true → length (written_by t (at v)).written ≡ length (pick t start.file_a start.file_b)
-          of A is = ap (λ (xs : List ℕ). length xs) ((writes_the_files values start v).a.whole is)
-          of B is = ap (λ (xs : List ℕ). length xs) ((writes_the_files values start v).b.whole is)
+  -- a stream that is read, closed, and whose end is known, has all its units
+  all_units : (v : List Turn) (s : Side) → length (pick s start.file_a start.file_b) ≤ read_after start s v → IsClosed start s v → EndIsKnown start s v → HasAllUnits s v
+  all_units v s read closed known =
+      let of_read : segments_read plan.mss (length (pick s start.file_a start.file_b)) (read_after start s v) ≡ segments plan.mss (length (pick s start.file_a start.file_b)) =
+      ap (λ b. if b then segments plan.mss (length (pick s start.file_a start.file_b)) else read_after start s v / payload_of plan.mss) (le-leb (length (pick s start.file_a start.file_b)) (read_after start s v) read) in
+      let of_closed : one_if (written_by s (at v)).closed ≡ 1 = ap one_if closed in
+      let of_known : one_if (is_some (arrived_at (peer s) (at v)).known_end) ≡ 1 = ap one_if known in omega (arith, of_read, of_closed, of_known)
 
-      most : received (arrived_at (peer s) (at v)) ≤ length (written_by s (at v)).written
-      most = (bounds_at start v x.mild s).most
-
-      by : (o : Option ℕ) → (arrived_at (peer s) (at v)).known_end ≡ o → is_some o ≡ true → IsAllThere s (at v)
-      by None is known = absurd (true≢false (sym known))
-      by (Some e) is known = record { closed = closed; received = omega (arith, most, whole, read); known = is ∙ ap (λ n. Some n) ((bounds_at start v x.mild s).end e is).1 }
-
-  module _ (well : EachRecordStaysWell) (told : EachIsToldSoon) (small : plan.mss ≤ 1460) (room : 29 ≤ plan.mss) (Well : List Turn → Type 0) (so : ((turns : List Turn) → Well turns → IsAllWell start turns)) (hears : WhatIsToldIsHeard start plan Well)
+  module _ (room : 29 ≤ plan.mss) (Well : List Turn → Type 0) (so : ((turns : List Turn) → Well turns → IsAllWell start turns)) (hears : WhatIsToldIsHeard start plan Well)
       (v u : List Turn) (rounds : WellRounds start Well 13 v u) where
     -- five rounds, two, five, and one
     last_part : Parted start Well 12 1 v u
@@ -232,20 +225,20 @@ module _ (start : Start) (plan : PathPlan) (x : BeginsWithOnePath start plan) wh
     -- a stream of which bytes are left
     reads : (s : Side) → read_after start s v < length (pick s start.file_a start.file_b) → units_of s v < units_of s u
     reads s left =
-        let more = a_segment_is_read well told start plan x small s v a_part.between_them b_part.between_them last_part.between_them first_rounds second_rounds third_rounds (well_v s)
+        let more = a_segment_is_read start plan x s v a_part.between_them b_part.between_them last_part.between_them first_rounds second_rounds third_rounds (well_v s)
         (so b_part.between_them (well_after start Well 7 v b_part.between_them b_part.first) s) (hears.heard s v a_part.between_them a_part.first) in
         let up = ((far start last_part.between_them u last_round).sides (peer s)).arrival.read in
         units_rise s v u all_between (inl (segment_rises plan.mss (length (pick s start.file_a start.file_b)) (read_after start s v) (read_after start s u) left (omega (arith, more, up, room))))
 
     -- one that is read
-    ends : (s : Side) → length (pick s start.file_a start.file_b) ≤ read_after start s v → IsAllThere s (at v) ⊎ (units_of s v < units_of s u)
+    ends : (s : Side) → length (pick s start.file_a start.file_b) ≤ read_after start s v → HasAllUnits s v ⊎ (units_of s v < units_of s u)
     ends s all = by_closed (written_by s (at v)).closed refl
       where
         acked : length (pick s start.file_a start.file_b) ≤ acked_len (written_by s (at a_part.between_them)).marks
         acked = (let came = (hears.heard s v a_part.between_them a_part.first).acked in let low : read_after start s v ≤ received (arrived_at (peer s) (at v)) = omega arith in omega (arith, came, low, all))
 
         comes : AnEndComes start s b_part.between_them end_part.between_them
-        comes = an_end_is_told told start plan x s v a_part.between_them b_part.between_them end_part.between_them first_rounds second_rounds
+        comes = an_end_is_told start plan x s v a_part.between_them b_part.between_them end_part.between_them first_rounds second_rounds
             (rounds_of start Well 4 b_part.between_them end_part.between_them end_part.first) (well_v s).path (well_v s).here (well_v s).mended all acked (hears.fins s b_part.between_them end_part.between_them end_part.first)
 
         to_end : Between start b_part.between_them u
@@ -267,32 +260,97 @@ module _ (start : Start) (plan : PathPlan) (x : BeginsWithOnePath start plan) wh
             by None is known = absurd (true≢false (sym known))
             by (Some e) is known = ap (λ o. is_some o) (((far start end_part.between_them u from_end).sides (peer s)).arrival.end e is)
 
-        by_known : (written_by s (at v)).closed ≡ true → (c : Bool) → is_some (arrived_at (peer s) (at v)).known_end ≡ c → IsAllThere s (at v) ⊎ (units_of s v < units_of s u)
-        by_known closed true known = inl (there_so v s all closed known)
+        by_known : (written_by s (at v)).closed ≡ true → (c : Bool) → is_some (arrived_at (peer s) (at v)).known_end ≡ c → HasAllUnits s v ⊎ (units_of s v < units_of s u)
+        by_known closed true known = inl (all_units v s all closed known)
         by_known closed false none = inr (units_rise s v u all_between (inr (inr (one_rises (is_some (arrived_at (peer s) (at v)).known_end) (is_some (arrived_at (peer s) (at u)).known_end) none known_last))))
 
-        by_closed : (c : Bool) → (written_by s (at v)).closed ≡ c → IsAllThere s (at v) ⊎ (units_of s v < units_of s u)
+        by_closed : (c : Bool) → (written_by s (at v)).closed ≡ c → HasAllUnits s v ⊎ (units_of s v < units_of s u)
         by_closed true closed = by_known closed (is_some (arrived_at (peer s) (at v)).known_end) refl
         by_closed false still_open = inr (units_rise s v u all_between (inr (inl (one_rises (written_by s (at v)).closed (written_by s (at u)).closed still_open closed_last))))
 
-    of_side : (s : Side) → IsAllThere s (at v) ⊎ (units_of s v < units_of s u)
+    of_side : (s : Side) → HasAllUnits s v ⊎ (units_of s v < units_of s u)
     of_side s = ⊎_elim (λ left. inr (reads s left)) (ends s) (cases_lt (read_after start s v) (length (pick s start.file_a start.file_b)))
 
-    pub unit_more : AllIsThere (at v) ⊎ (units start plan (at v) < units start plan (at u))
+    pub unit_more : (most_units start plan ≤ units start plan (at v)) ⊎ (units start plan (at v) < units start plan (at u))
     unit_more =
         let a_up = units_up A v u all_between in
         let b_up = units_up B v u all_between in
         ⊎_elim
-        (λ there_a. ⊎_elim (λ there_b. inl (record { of = elim [ A ↦ there_a | B ↦ there_b ] })) (λ more. inr (omega (arith, more, a_up))) (of_side B))
+        (λ all_a. ⊎_elim (λ all_b. inl (omega (arith, all_a, all_b))) (λ more. inr (omega (arith, more, a_up))) (of_side B))
         (λ more. inr (omega (arith, more, b_up)))
         (of_side A)
 
 -- ... whatever says that all is well, so that more may be said of it than that
-pub unit_so : EachRecordStaysWell → EachIsToldSoon → (start : Start) (plan : PathPlan) → BeginsWithOnePath start plan → plan.mss ≤ 1460 → (Well : List Turn → Type 0)
+pub unit_so : (start : Start) (plan : PathPlan) → BeginsWithOnePath start plan → (Well : List Turn → Type 0)
     → ((turns : List Turn) → Well turns → IsAllWell start turns) → WhatIsToldIsHeard start plan Well → (v u : List Turn) → WellRounds start Well 13 v u
-    → AllIsThere (reached values start v) ⊎ (units start plan (reached values start v) < units start plan (reached values start u))
-unit_so well told start plan x small Well so hears v u rounds =
-    unit_more start plan x well told small ((subst (Every (λ (y : PathPlan). 29 ≤ y.mss)) x.one x.mild.plain.size).each 0 plan refl) Well so hears v u rounds
+    → (most_units start plan ≤ units start plan (reached values start v)) ⊎ (units start plan (reached values start v) < units start plan (reached values start u))
+unit_so start plan x Well so hears v u rounds =
+    unit_more start plan x ((subst (Every (λ (y : PathPlan). 29 ≤ y.mss)) x.one x.mild.plain.size).each 0 plan refl) Well so hears v u rounds
 
 pub a_unit_is_made : AUnitIsMade
-a_unit_is_made well told start plan x small hears v u rounds = unit_so well told start plan x small (IsAllWell start) (λ turns is. is) hears v u rounds
+a_unit_is_made start plan x hears v u rounds = unit_so start plan x (IsAllWell start) (λ turns is. is) hears v u rounds
+
+-- ---- where all units are there
+
+all_read : (mss total read : ℕ) → segments mss total ≤ segments_read mss total read → total ≤ read
+all_read mss total read all = by (nat_le total read) refl all
+  where
+    by : (b : Bool) → nat_le total read ≡ b → segments mss total ≤ (if b then segments mss total else read / payload_of mss) → total ≤ read
+    by true is all = leb-true total read is
+    by false is all =
+        let whole = div_ceil_times total (payload_of mss) (omega arith) in
+        let under = div-mul-le_self read (payload_of mss) in
+        let product : segments mss total * payload_of mss ≤ read / payload_of mss * payload_of mss = mul-le-mul_right (payload_of mss) all in omega (arith, whole, under, product)
+
+set_so : (b : Bool) → 1 ≤ one_if b → b ≡ true
+set_so true one = refl
+set_so false one = absurd (omega (arith, one))
+
+module _ (start : Start) (plan : PathPlan) (turns : List Turn) (mild : IsMildStart start) (all : most_units start plan ≤ units start plan (reached values start turns)) where
+  abbrev now : WorldState Carried
+  now = reached values start turns
+
+  of_units : (s : Side) → segments plan.mss (length (pick s start.file_a start.file_b)) + 2 ≤ stream_units plan.mss (length (pick s start.file_a start.file_b)) (written_by s now) (arrived_at (peer s) now)
+      → IsAllThere s now
+  of_units s full = by (arrived_at (peer s) now).known_end refl known
+    where
+      few_read : segments_read plan.mss (length (pick s start.file_a start.file_b)) (arrived_at (peer s) now).read ≤ segments plan.mss (length (pick s start.file_a start.file_b))
+      few_read = segments_few plan.mss (length (pick s start.file_a start.file_b)) (arrived_at (peer s) now).read
+
+      few_closed : one_if (written_by s now).closed ≤ 1
+      few_closed = one_most (written_by s now).closed
+
+      few_known : one_if (is_some (arrived_at (peer s) now).known_end) ≤ 1
+      few_known = one_most (is_some (arrived_at (peer s) now).known_end)
+
+      closed : (written_by s now).closed ≡ true
+      closed = set_so (written_by s now).closed (omega (arith, full, few_read, few_known))
+
+      known : is_some (arrived_at (peer s) now).known_end ≡ true
+      known = set_so (is_some (arrived_at (peer s) now).known_end) (omega (arith, full, few_read, few_closed))
+
+      read : length (pick s start.file_a start.file_b) ≤ (arrived_at (peer s) now).read
+      read = all_read plan.mss (length (pick s start.file_a start.file_b)) (arrived_at (peer s) now).read (omega (arith, full, few_closed, few_known))
+
+      whole : length (written_by s now).written ≡ length (pick s start.file_a start.file_b)
+      whole = of s closed
+        where
+          of : (t : Side) → (written_by t now).closed ≡ true → length (written_by t now).written ≡ length (pick t start.file_a start.file_b)
+          of A is = ap (λ (xs : List ℕ). length xs) ((writes_the_files values start turns).a.whole is)
+          of B is = ap (λ (xs : List ℕ). length xs) ((writes_the_files values start turns).b.whole is)
+
+      most : received (arrived_at (peer s) now) ≤ length (written_by s now).written
+      most = (bounds_at start turns mild s).most
+
+      by : (o : Option ℕ) → (arrived_at (peer s) now).known_end ≡ o → is_some o ≡ true → IsAllThere s now
+      by None is known = absurd (true≢false (sym known))
+      by (Some e) is known = record { closed = closed; received = omega (arith, most, whole, read); known = is ∙ ap (λ n. Some n) ((bounds_at start turns mild s).end e is).1 }
+
+  pub all_there : AllIsThere now
+  all_there =
+      let a = stream_few plan.mss (length start.file_a) (written_by A now) (arrived_at B now) in
+      let b = stream_few plan.mss (length start.file_b) (written_by B now) (arrived_at A now) in
+      record { of = elim [ A ↦ of_units A (omega (arith, all, b)) | B ↦ of_units B (omega (arith, all, a)) ] }
+
+pub all_units_are_there : AllUnitsAreThere
+all_units_are_there start plan turns mild all = all_there start plan turns mild all

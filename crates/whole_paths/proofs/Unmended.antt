@@ -1,57 +1,34 @@
 -- No more of a path's segments is to be mended than before, but one for each segment that is harmed.
-use Rattle.std.proofs.Common.{◌≡◌, refl, sym, subst, ap, ◌∙◌, ◌⊎◌, inl, inr, ⊎_elim, ℕ, suc, ◌+◌, ◌<◌, ◌≤◌, arith, Bool, true, false, true≢false, Option, Some, None, List, [], ◌∷◌, ◌++◌, length}
-use Rattle.std.specs.Prelude.{IfSome}
+use Rattle.std.proofs.Common.{◌≡◌, refl, sym, subst, ap, ◌∙◌, ◌⊎◌, inl, inr, ⊎_elim, ℕ, ◌+◌, ◌≤◌, arith, Bool, true, false, true≢false, Some, List, [], ◌∷◌, ◌++◌, length}
 use Rattle.std.specs.List.{slice_get}
 use Rattle.std.proofs.lemmas.Bool.{cases_lt}
 use Rattle.sides.specs.declared.side.Side.{Side}
 use Rattle.sides.specs.declared.side.Side.TheVariants.{A, B}
 use Rattle.sides.specs.Side.{peer}
-use Rattle.path_segments.specs.Spelled.{PlainSegment}
 use Rattle.stream_lanes.specs.Words.{Has}
-use Rattle.subflow_send.specs.declared.record.RecordKind.{RecordKind}
-use Rattle.subflow_send.specs.declared.record.RecordKind.TheVariants as kinds
-use Rattle.subflow_send.specs.Records.{Record, end_of}
-use Rattle.subflow_tcp.specs.declared.handshake.State.{State as EndPhase}
-use Rattle.subflow_tcp.specs.declared.handshake.State.TheVariants as phase
-use Rattle.subflow_tcp.specs.States.{is_dead}
-use Rattle.path_core.specs.End.{PathEnd}
-use Rattle.path_core.specs.Looking.{first_sends, segment_sent}
+use Rattle.subflow_send.specs.Records.{Record}
 use Rattle.path_core.specs.State.{PathState, end_at}
 use Rattle.path_core.specs.Values.{Carried, values}
-use Rattle.world_laws.proofs.Numbers.TellSmall.{RecordKindTells}
 use Rattle.world_laws.specs.declared.member.Member.TheVariants.{Path}
 use Rattle.world_laws.specs.Openings.{PathPlan, Start, opened_world}
 use Rattle.world_laws.specs.RoundDone.{reached}
 use Rattle.world_laws.specs.Worlds.{Turn, WorldState, after_turn}
-use Rattle.whole_paths.specs.Answered.{AcksGoFirst, IsBareAck}
-use Rattle.whole_paths.specs.Answered.{IsBareAck as bare}
-use Rattle.whole_paths.specs.AsFar.{IsActorAsFar, IsPathAsFar, stage}
-use Rattle.whole_paths.specs.Exchanges.{IsSentWhole}
-use Rattle.whole_paths.specs.Expiries.{IsSegmentOf}
+use Rattle.whole_paths.specs.AsFar.{IsActorAsFar, IsPathAsFar}
 use Rattle.whole_paths.specs.Courses.{harmed_so_far}
 use Rattle.whole_paths.specs.Debts.{OwesOn}
 use Rattle.whole_paths.specs.Finish.{harms_between, harms_of, is_harmed}
-use Rattle.whole_paths.specs.Kept.{IsSameRecord}
-use Rattle.whole_paths.specs.Mending.{ComesBy, EachIsToldSoon, EachRecordStaysWell, IsAllThereOf, IsOpenTurn, IsRecordOf, IsThereBy, IsToldSoon, IsToldBy, IsWell, RecordsStayWell, StaysTold, WasSent}
-use Rattle.whole_paths.specs.Mending.{IsThereBy as there_by}
+use Rattle.whole_paths.specs.Mending.{EachIsToldSoon, IsMended, IsOpenTurn, IsRecordOf, IsToldSoon, IsToldBy, IsWell, StaysTold}
 use Rattle.whole_paths.specs.Mending.{IsToldBy as told_by}
 use Rattle.whole_paths.specs.Mending.{IsToldSoon as told_soon}
-use Rattle.whole_paths.specs.Mending.{IsWell as is_well}
 use Rattle.whole_paths.specs.News.{one_if}
-use Rattle.whole_paths.specs.RecordsGo.{GoesNext, IsOneSo, PathsGoAlone, RecordsGoAlone}
 use Rattle.whole_paths.specs.Mild.{IsMildStart}
 use Rattle.whole_paths.specs.OpenCourses.{IsOpenAfter}
-use Rattle.whole_paths.specs.Unmended.{AreWellBut, DebtsGoOn, HarmsAloneAreOwed, LosesNoMore, Owes, OwesAt, OwesBy, OwesNoMore}
+use Rattle.whole_paths.specs.Unmended.{DebtsGoOn, HarmsAloneAreOwed, LosesNoMore, Owes, OwesAt, OwesBy, OwesNoMore}
 use Rattle.whole_paths.proofs.Arrivals.{sender_of}
 use Rattle.whole_paths.proofs.Counted.{harmed_snoc}
-use Rattle.whole_paths.proofs.DataLeft.{EndsAreBegun, each_is_begun}
-use Rattle.whole_paths.proofs.Exchanges.{Shown, each_shown}
 use Rattle.whole_paths.proofs.FinPlaces.{FinsStay, FinsStayMember, fins_stay, still_past}
-use Rattle.whole_paths.proofs.Flying.{same_said, same_segment}
 use Rattle.whole_paths.proofs.GoesOn.{goes_on_so}
-use Rattle.whole_paths.proofs.OpenTurns.{now, of_after, of_before, with_both}
-use Rattle.whole_paths.proofs.Owing.{copies_are_answered}
-use Rattle.whole_paths.proofs.RecordsGo.{each_record_goes_alone}
+use Rattle.whole_paths.proofs.OpenTurns.{now, with_both}
 use Rattle.whole_paths.proofs.Losing.{harms_alone_lose_records}
 use Rattle.whole_paths.proofs.RecordWaits.{path_is}
 use Rattle.whole_paths.proofs.RecordsWell.{each_record_stays_well}
@@ -211,3 +188,31 @@ module _ (told : EachIsToldSoon) where
       subst (λ t. OwesOn start plan most (Owes start) debts turns t) (sym step.is) (owes_then start plan most mild turns (Turn.Step step.actor) debts step.before (subst (IsOpenAfter start) step.is step.after) h)
   debts_go_on start plan most debts turns later mild (inr step) h =
       subst (λ t. OwesOn start plan most (Owes start) debts turns t) (sym step.is) (owes_then start plan most mild turns Turn.Round debts step.before (subst (IsOpenAfter start) step.is step.after) h)
+
+-- ---- nothing is owed
+
+empty : (ns : List ℕ) (i n : ℕ) → ns ≡ [] → slice_get ns i ≡ Some n → ⊥
+empty [] i n is there = cc
+empty (m ∷ ns) i n is there = cc
+
+none_lost : (s : Side) (debts : ℕ) (p : PathState Carried) → debts ≡ 0 → OwesBy s debts p → (r : Record) → IsRecordOf (end_at s p) r → IsWell s p r
+none_lost s debts p none h r has = ⊎_elim (λ is. is) (λ among. absurd (by h.lost among (let few = h.few in omega (arith, few, none)))) (h.well r has)
+  where
+    by : (lost : List ℕ) → Has (λ n. n ≡ r.pos) lost → length lost ≤ 0 → ⊥
+    by [] among few = empty [] among.at among.item refl among.there
+    by (n ∷ ns) among few = omega (arith, few)
+
+all_told : (s : Side) (debts : ℕ) (p : PathState Carried) → debts ≡ 0 → OwesBy s debts p → IsToldSoon (peer s) p
+all_told s debts p none h = ⊎_elim (λ is. is) (λ one. absurd (let few = h.few in omega (arith, few, none, one))) h.told
+
+-- where nothing is owed nothing is to be mended
+pub none_owed : (p : PathState Carried) → OwesAt 0 p → IsMended p
+none_owed p h = record { records = λ s. record { each = λ i r there. well s r (record { at = i; item = r; there = there; holds = refl }) }; told = told }
+  where
+    well : (s : Side) (r : Record) → IsRecordOf (end_at s p) r → IsWell s p r
+    well A = none_lost A h.by_a p (let few = h.few in omega (arith, few)) h.a
+    well B = none_lost B h.by_b p (let few = h.few in omega (arith, few)) h.b
+
+    told : (s : Side) → IsToldSoon s p
+    told A = all_told B h.by_b p (let few = h.few in omega (arith, few)) h.b
+    told B = all_told A h.by_a p (let few = h.few in omega (arith, few)) h.a

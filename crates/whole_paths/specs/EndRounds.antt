@@ -12,9 +12,8 @@ use Rattle.world_laws.specs.Promises.{arrived_at, written_by}
 use Rattle.world_laws.specs.RoundDone.{reached}
 use Rattle.world_laws.specs.Worlds.{Turn}
 use Rattle.whole_paths.specs.Finish.{IsPathAt}
-use Rattle.whole_paths.specs.Mending.{EachIsToldSoon, IsMended}
 use Rattle.whole_paths.specs.OnePathScripts.{BeginsWithOnePath}
-use Rattle.whole_paths.specs.SegmentRounds.{Rounds, read_after}
+use Rattle.whole_paths.specs.SegmentRounds.{NothingIsToMend, Rounds, read_after}
 
 module _ (start : Start) (s : Side) where
   -- the stream of the side is closed after these turns
@@ -29,14 +28,17 @@ module _ (start : Start) (s : Side) where
   abbrev pub FinIsSent : List Turn → Type 0
   FinIsSent turns = (p : PathState Carried) → IsPathAt 0 (reached values start turns) p → (end_at s p).sending.fin_sent ≡ true
 
--- Where all of a stream is read, and nothing is to be mended, and all of it is acknowledged in the first five rounds, it is closed a round later; and in
--- the next round its end sends the DATA_FIN, or the peer's side knows the end. If what the end sent so comes in four more, the peer's side knows it then.
+-- Where all of a stream is read, and nothing is to be mended, and all of it is acknowledged in the first five rounds, it is closed a round later; and
+-- in the next round its end sends the DATA_FIN, or the peer's side knows the end. If what the end sent so comes in four more, the peer's side knows
+-- it then.
 pub record AnEndComes (start : Start) (s : Side) (b u : List Turn) : Type 0 where
   pub closed : IsClosed start s b
   pub known : EndIsKnown start s u
 
 abbrev pub AnEndIsTold : Type 0
-AnEndIsTold = EachIsToldSoon → (start : Start) (plan : PathPlan) → BeginsWithOnePath start plan → (s : Side) (v a b u : List Turn)
-    → Rounds start 5 v a → Rounds start 2 a b → Rounds start 4 b u → (p : PathState Carried) → IsPathAt 0 (reached values start v) p → IsMended p
-    → let file = length (pick s start.file_a start.file_b) in file ≤ read_after start s v → file ≤ acked_len (written_by s (reached values start a)).marks
+AnEndIsTold = (start : Start) (plan : PathPlan) → BeginsWithOnePath start plan → (s : Side) (v a b u : List Turn)
+    → Rounds start 5 v a → Rounds start 2 a b → Rounds start 4 b u
+    → (p : PathState Carried) → IsPathAt 0 (reached values start v) p → NothingIsToMend p
+    → let file = length (pick s start.file_a start.file_b) in file ≤ read_after start s v
+    → file ≤ acked_len (written_by s (reached values start a)).marks
     → (FinIsSent start s b → EndIsKnown start s u) → AnEndComes start s b u

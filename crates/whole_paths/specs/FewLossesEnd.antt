@@ -8,11 +8,10 @@ use Rattle.subflow_tcp.specs.States.{is_dead}
 use Rattle.path_core.specs.Codec.{Codec}
 use Rattle.path_core.specs.State.{PathState, end_at}
 use Rattle.path_core.specs.Values.{Carried, values}
-use Rattle.world_laws.specs.Openings.{Start, start_of}
+use Rattle.world_laws.specs.Openings.{Start}
 use Rattle.world_laws.specs.RoundDone.{reached}
 use Rattle.world_laws.specs.Worlds.{WorldState, Turn}
 use Rattle.whole_paths.specs.Finish.{AnEndDied, IsBrief, IsMild, IsPathAt, harmed, is_harmless_to_ends, opened, run_of}
-use Rattle.whole_paths.specs.MildDeaths.{IsTakenBack}
 
 -- the moment is one after these turns, fewer than 2^64 - 1, and both ends of path 0 live
 pub record RunsAlive (start : Start) (w : WorldState Carried) : Type 0 where
@@ -27,11 +26,6 @@ pub record RunsAlive (start : Start) (w : WorldState Carried) : Type 0 where
 pub record HarmsNoEnd (script : Script) (path : PathLine) (file_a file_b : List ℕ) : Type 0 where
   pub mild : IsMild script path file_a file_b
   pub harmless : list_all is_harmless_to_ends script.lines ≡ true
-
--- no side takes the address of path 0 back then
-abbrev pub NoneTakesItBack : Type 0
-NoneTakesItBack = (script : Script) (path : PathLine) (file_a file_b : List ℕ) → HarmsNoEnd script path file_a file_b → (turns : List Turn) (s : Side)
-    → IsTakenBack 0 s (reached values (start_of script file_a file_b) turns).books → ⊥
 
 -- with four harmed segments at most no end of the path is ever dead, by fewer than 2^64 - 1 turns
 abbrev pub BriefLossesEndNone : {C : Type 0} → Codec C → Type 0

@@ -1,5 +1,5 @@
 -- How a side's first record is mended that may be lost: SND.UNA rises past it, or the timer runs out, and it goes again.
-use Rattle.std.specs.Prelude.{ℕ, suc, ◌+◌, ◌≡◌, ◌<◌, ◌≤◌, ◌⊎◌, true, List, [], ◌∷◌, length}
+use Rattle.std.specs.Prelude.{ℕ, ◌+◌, ◌≡◌, ◌<◌, ◌≤◌, true, List, [], ◌∷◌, length}
 use Rattle.sides.specs.declared.side.Side.{Side}
 use Rattle.stream_lanes.specs.Words.{Has}
 use Rattle.subflow_send.specs.Records.{Record}
@@ -54,7 +54,8 @@ LostRecordsAreMended = (start : Start) (turns : List Turn) (turn : Turn) (h : Is
 -- Where a turn is over such a wait begins, as the first record may be lost, and ends within a minute; and none ends before the round does.
 pub record FirstIsAwaited (s : Side) (debts : ℕ) (p : PathState Carried) : Type 0 where
   pub begins : (first : Record) (others : List Record) → (end_at s p).tcp.send.records ≡ first ∷ others
-      → (lost : List ℕ) → length lost ≤ debts → AreWellBut s lost p → Has (λ n. n ≡ first.pos) lost → (by : ℕ) × (by ≤ p.clock + 60000) × MendsFirst s debts by p
+      → (lost : List ℕ) → length lost ≤ debts → AreWellBut s lost p → Has (λ n. n ≡ first.pos) lost
+      → (by : ℕ) × (by ≤ p.clock + 60000) × MendsFirst s debts by p
   pub in_time : (by : ℕ) → MendsFirst s debts by p → p.until ≤ by
 
 -- of path 0, at each moment at which it is open and its turn is over

@@ -10,6 +10,8 @@ pub mod Between
 pub mod AwaitedThere
 pub mod Brought
 pub mod Came
+pub mod Clear
+pub mod ClearRounds
 pub mod Closing
 pub mod ClosingAsked
 pub mod ClosingFin
@@ -31,6 +33,10 @@ pub mod Exchanges
 pub mod Expiries
 pub mod ExpiriesInARow
 pub mod Deaths
+pub mod ExpirySegments
+pub mod AnsweredExpiries
+pub mod FewLossesDeliver
+pub mod KeptAddresses
 pub mod Debts
 pub mod FewLossesEnd
 pub mod ComingCopies
@@ -59,6 +65,7 @@ pub mod Mild
 pub mod OpenAsks
 pub mod OpeningConfirmed
 pub mod OpeningKeys
+pub mod OctetsPassed
 pub mod OnePathScripts
 pub mod OnlyPaths
 pub mod Outstanding
@@ -70,6 +77,7 @@ pub mod Passed
 pub mod Probes
 pub mod Reasons
 pub mod RecordsGo
+pub mod RecordsPassed
 pub mod Received
 pub mod Room
 pub mod Rounds
@@ -120,6 +128,7 @@ pub mod EndRounds
 pub mod UnitRounds
 pub mod RisesOwed
 pub mod ToldStays
+pub mod ShortWaits
 pub mod Rising
 pub mod FirstSigns
 pub mod SignWaits

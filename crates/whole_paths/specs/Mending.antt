@@ -21,13 +21,11 @@ use Rattle.world_laws.specs.Laws.{Always}
 use Rattle.world_laws.specs.Members.{HoldsOfKind}
 use Rattle.world_laws.specs.NeverFalls.{StripsNothing}
 use Rattle.world_laws.specs.Openings.{Start}
-use Rattle.world_laws.specs.RoundDone.{reached}
 use Rattle.world_laws.specs.Worlds.{Turn, WorldState}
 use Rattle.whole_paths.specs.Brought.{IsThere}
 use Rattle.whole_paths.specs.Copies.{IsUnderWay}
-use Rattle.whole_paths.specs.Courses.{harmed_so_far}
 use Rattle.whole_paths.specs.Exchanges.{IsSentWhole}
-use Rattle.whole_paths.specs.Finish.{IsPathAt, is_harmed}
+use Rattle.whole_paths.specs.Finish.{is_harmed}
 use Rattle.whole_paths.specs.Flights.{IsCopyOf}
 use Rattle.whole_paths.specs.Kept.{IsSameRecord}
 use Rattle.whole_paths.specs.Mapped.{IsMapped}
@@ -136,11 +134,9 @@ pub data IsToldSoon (s : Side) (p : PathState Carried) : Type 0 where
   owed : (end_at (peer s) p).tcp.due.ack ≡ true → IsToldSoon s p
   told : IsToldBy s (end_at (peer s) p).tcp.recv.edge (p.clock + 400) p → IsToldSoon s p
 
--- No segment is to be mended: each record of either end is well, and none of data was the first one as the timer ran out; and each end is told
--- soon.
+-- No segment is to be mended: each record of either end is well, and each end is told soon.
 pub record IsMended (p : PathState Carried) : Type 0 where
   pub records : (s : Side) → Every (IsWell s p) (end_at s p).tcp.send.records
-  pub first : (s : Side) → Every (λ (r : Record). r.kind ≡ Data → r.sending.first_at_expiry ≡ false) (end_at s p).tcp.send.records
   pub told : (s : Side) → IsToldSoon s p
 
 -- ---- by turns between open ends
@@ -209,13 +205,3 @@ EachAnswerComesSoon = (start : Start) (turns : List Turn) (turn : Turn) (h : IsO
 abbrev pub EachIsToldSoon : Type 0
 EachIsToldSoon = (start : Start) (turns : List Turn) (turn : Turn) (h : IsOpenTurn start turns turn) (s : Side)
     → StaysTold s h.before.path h.after.path
-
--- ---- path 0
-
-module _ (start : Start) where
-  -- so many harms are mended after these turns: each, if all is well; or each but one
-  pub data AreMended (harms : ℕ) (turns : List Turn) : Type 0 where
-    none : harms ≡ 0 → AreMended harms turns
-    all : (p : PathState Carried) → IsPathAt 0 (reached values start turns) p → IsMended p
-        → harms ≤ harmed_so_far values start turns → AreMended harms turns
-    but_one : harms < harmed_so_far values start turns → AreMended harms turns

@@ -27,10 +27,11 @@ use Rattle.whole_paths.specs.Rounds.{ticks_for}
 
 -- ---- how they begin
 
--- It begins mildly, with one path, and each side buffers 4,096 octets at least.
+-- It begins mildly, with one path, whose segments carry 1,460 octets at most, and each side buffers 4,096 octets at least.
 pub record BeginsWithOnePath (start : Start) (plan : PathPlan) : Type 0 where
   pub mild : IsMildStart start
   pub one : start.paths ≡ plan ∷ []
+  pub size : plan.mss ≤ 1460
   pub buffer : 4096 ≤ start.buffer
 
 -- the connection of a mild script of one path begins like that

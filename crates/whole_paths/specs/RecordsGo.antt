@@ -9,7 +9,7 @@ use Rattle.path_core.specs.State.{PathState, end_at}
 use Rattle.world_laws.specs.declared.member.Member.TheVariants.{App, Path}
 use Rattle.world_laws.specs.Actors.{Actor, ActorCrew}
 use Rattle.world_laws.specs.Worlds.{WorldState, Turn, after_turn}
-use Rattle.whole_paths.specs.Expiries.{IsSegmentOf}
+use Rattle.whole_paths.specs.Expiries.{IsSaidAt, IsSegmentOf}
 use Rattle.whole_paths.specs.Mending.{IsRecordOf, WasSent}
 
 -- there is one, and this holds of it
@@ -18,9 +18,10 @@ IsOneSo None P = ⊥
 IsOneSo (Some x) P = P x
 
 module _ {C : Type 0} where
-  -- the segment that goes next is the record's, from this side
+  -- the segment that goes next is the record's, from this side, with its options
   abbrev pub GoesNext : Side → Record → PathState C → Type 0
-  GoesNext s r p = IsOneSo (first_sends p.agenda p) (λ t. (t.from ≡ s) × IsSegmentOf r (segment_sent p t))
+  GoesNext s r p = IsOneSo (first_sends p.agenda p) (λ t. let x = segment_sent p t in
+      (t.from ≡ s) × IsSegmentOf r x × IsSaidAt p.profile s r (end_at s p) x)
 
   -- As the path becomes another one: each record of data that an end sent it had sent before, or it is that of the segment which went. So it is once
   -- the end's SYN is acknowledged.

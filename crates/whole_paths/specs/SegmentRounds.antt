@@ -3,6 +3,7 @@
 use Rattle.std.specs.Prelude.{ℕ, suc, zero, ◌+◌, ◌-◌, ◌*◌, ◌≡◌, ◌≤◌, ◌⊎◌, min, true, List, [], ◌∷◌, ◌++◌, length}
 use Rattle.sides.specs.declared.side.Side.{Side}
 use Rattle.sides.specs.Side.{peer}
+use Rattle.stream_lanes.specs.Words.{Every}
 use Rattle.send_book.specs.State.{acked_len}
 use Rattle.reassembly_book.specs.State.{received}
 use Rattle.actor_desk.specs.Words.{pick}
@@ -15,10 +16,15 @@ use Rattle.world_laws.specs.Worlds.{Turn, all_over}
 use Rattle.whole_paths.specs.Delivery.{IsAllThere}
 use Rattle.whole_paths.specs.Finish.{IsPathAt}
 use Rattle.whole_paths.specs.GoingOn.{steps_of}
-use Rattle.whole_paths.specs.Mending.{EachIsToldSoon, EachRecordStaysWell, IsMended}
+use Rattle.whole_paths.specs.Mending.{IsToldSoon, IsWell}
 use Rattle.whole_paths.specs.OnePathScripts.{BeginsWithOnePath}
 use Rattle.whole_paths.specs.OpenCourses.{IsOpenAfter}
 use Rattle.whole_paths.specs.SentInOrder.{sent_up_to}
+
+-- Nothing of a path is to be mended: each record of either end is to be sent, or comes soon, and each end is told soon how far its peer is.
+pub record NothingIsToMend (p : PathState Carried) : Type 0 where
+  pub records : (s : Side) → Every (IsWell s p) (end_at s p).tcp.send.records
+  pub told : (s : Side) → IsToldSoon s p
 
 module _ (start : Start) where
   -- path 0 is open after these turns, and after each of the others
@@ -52,7 +58,7 @@ module _ (start : Start) where
   pub record IsWellAfter (s : Side) (turns : List Turn) : Type 0 where
     pub path : PathState Carried
     pub here : IsPathAt 0 (reached values start turns) path
-    pub mended : IsMended path
+    pub mended : NothingIsToMend path
     pub wide : 2 * path.profile.mss ≤ (end_at s path).tcp.congestion.reno.window
 
   -- What the peer could tell of the stream after the first turns is heard after the others: all that its side had received is acknowledged, and
@@ -66,7 +72,8 @@ module _ (start : Start) where
 -- In a round the application writes its file, or as much as a side buffers past what was acknowledged as it began.
 abbrev pub EachRoundWrites : Type 0
 EachRoundWrites = (start : Start) (plan : PathPlan) (v u : List Turn) → BeginsWithOnePath start plan → IsRound start v u → (s : Side)
-    → min (length (pick s start.file_a start.file_b)) (acked_len (written_by s (reached values start v)).marks + start.buffer) ≤ written_after start s u
+    → min (length (pick s start.file_a start.file_b)) (acked_len (written_by s (reached values start v)).marks + start.buffer)
+    ≤ written_after start s u
 
 -- And the peer's reader reads all that had come in order as it began.
 abbrev pub EachRoundReads : Type 0
@@ -75,14 +82,14 @@ EachRoundReads = (start : Start) (plan : PathPlan) (v u : List Turn) → BeginsW
 
 -- In four rounds all comes that is sent, where nothing is to be mended; or all of the stream is there.
 abbrev pub FourRoundsBring : Type 0
-FourRoundsBring = EachRecordStaysWell → (start : Start) (plan : PathPlan) (v u : List Turn) → BeginsWithOnePath start plan → Rounds start 4 v u → (s : Side)
-    → (p q : PathState Carried) → IsPathAt 0 (reached values start v) p → IsPathAt 0 (reached values start u) q → IsMended p
+FourRoundsBring = (start : Start) (plan : PathPlan) (v u : List Turn) → BeginsWithOnePath start plan → Rounds start 4 v u → (s : Side)
+    → (p q : PathState Carried) → IsPathAt 0 (reached values start v) p → IsPathAt 0 (reached values start u) q → NothingIsToMend p
     → IsAllThere s (reached values start u) ⊎ (sent_up_to (end_at s p).tcp.send ≤ (end_at (peer s) q).tcp.recv.edge)
 
--- And the end hears how far the peer was.
+-- And the end hears how far the peer was, where it was to be told soon.
 abbrev pub FourRoundsTell : Type 0
-FourRoundsTell = EachIsToldSoon → (start : Start) (plan : PathPlan) (v u : List Turn) → BeginsWithOnePath start plan → Rounds start 4 v u → (s : Side)
-    → (p q : PathState Carried) → IsPathAt 0 (reached values start v) p → IsPathAt 0 (reached values start u) q → IsMended p
+FourRoundsTell = (start : Start) (plan : PathPlan) (v u : List Turn) → BeginsWithOnePath start plan → Rounds start 4 v u → (s : Side)
+    → (p q : PathState Carried) → IsPathAt 0 (reached values start v) p → IsPathAt 0 (reached values start u) q → IsToldSoon s p
     → IsAllThere s (reached values start u) ⊎ ((end_at (peer s) p).tcp.recv.edge ≤ (end_at s q).tcp.send.una)
 
 -- ---- a segment
@@ -90,7 +97,6 @@ FourRoundsTell = EachIsToldSoon → (start : Start) (plan : PathPlan) (v u : Lis
 -- Of a stream the peer's reader reads a full segment's payload more within twelve rounds, or all of it, where nothing is to be mended as the first
 -- one begins and once seven are over, and what was told is heard in the first five.
 abbrev pub ASegmentIsRead : Type 0
-ASegmentIsRead = EachRecordStaysWell → EachIsToldSoon → (start : Start) (plan : PathPlan) → BeginsWithOnePath start plan → plan.mss ≤ 1460
-    → (s : Side) (v a b u : List Turn)
+ASegmentIsRead = (start : Start) (plan : PathPlan) → BeginsWithOnePath start plan → (s : Side) (v a b u : List Turn)
     → Rounds start 5 v a → Rounds start 2 a b → Rounds start 5 b u → IsWellAfter start s v → IsWellAfter start s b → IsHeard start plan s v a
     → min (length (pick s start.file_a start.file_b)) (read_after start s v + (plan.mss - 28)) ≤ read_after start s u

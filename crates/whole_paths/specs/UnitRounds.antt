@@ -10,11 +10,11 @@ use Rattle.whole_paths.specs.Courses.{round_end}
 use Rattle.whole_paths.specs.Delivery.{AllIsThere}
 use Rattle.whole_paths.specs.EndRounds.{EndIsKnown, FinIsSent}
 use Rattle.whole_paths.specs.GoingOn.{steps_of}
-use Rattle.whole_paths.specs.Mending.{EachIsToldSoon, EachRecordStaysWell}
+use Rattle.whole_paths.specs.Mild.{IsMildStart}
 use Rattle.whole_paths.specs.OnePathScripts.{BeginsWithOnePath}
 use Rattle.whole_paths.specs.OpenCourses.{IsOpenAfter}
 use Rattle.whole_paths.specs.SegmentRounds.{IsHeard, IsRound, IsWellAfter, StaysOpen}
-use Rattle.whole_paths.specs.SharpCourses.{units}
+use Rattle.whole_paths.specs.SharpCourses.{most_units, units}
 
 -- ---- rounds after each of which all is well
 
@@ -36,8 +36,8 @@ module _ (start : Start) (Well : List Turn → Type 0) where
   -- Such a wait begins with each round before which all is well; it goes on by each step, and as the next round begins, if all is well still; and the
   -- round ends so many rounds later than that after which it began.
   pub record WaitsGoOn : Type 0 where
-    pub begins : (v : List Turn) → all_over (reached values start v).crew ≡ true → Well v → IsOpenAfter start v → IsOpenAfter start (v ++ Turn.Round ∷ [])
-        → WaitsSince 0 v (v ++ Turn.Round ∷ [])
+    pub begins : (v : List Turn) → all_over (reached values start v).crew ≡ true → Well v → IsOpenAfter start v
+        → IsOpenAfter start (v ++ Turn.Round ∷ []) → WaitsSince 0 v (v ++ Turn.Round ∷ [])
     pub on : (count : ℕ) (v u : List Turn) (actor : ℕ) → WaitsSince count v u → IsOpenAfter start (u ++ Turn.Step actor ∷ [])
         → WaitsSince count v (u ++ Turn.Step actor ∷ [])
     pub next : (count : ℕ) (v u : List Turn) → WaitsSince count v u → all_over (reached values start u).crew ≡ true → Well u
@@ -59,6 +59,13 @@ abbrev pub ShortWaitsGoOn : Type 0
 ShortWaitsGoOn = (start : Start) → WaitsGoOn start (IsAllWell start)
 
 abbrev pub AUnitIsMade : Type 0
-AUnitIsMade = EachRecordStaysWell → EachIsToldSoon → (start : Start) (plan : PathPlan) → BeginsWithOnePath start plan → plan.mss ≤ 1460
+AUnitIsMade = (start : Start) (plan : PathPlan) → BeginsWithOnePath start plan
     → WhatIsToldIsHeard start plan (IsAllWell start) → (v u : List Turn) → WellRounds start (IsAllWell start) 13 v u
-    → AllIsThere (reached values start v) ⊎ (units start plan (reached values start v) < units start plan (reached values start u))
+    → (most_units start plan ≤ units start plan (reached values start v))
+    ⊎ (units start plan (reached values start v) < units start plan (reached values start u))
+
+-- as many as there can be are there once all of both streams is
+abbrev pub AllUnitsAreThere : Type 0
+AllUnitsAreThere = (start : Start) (plan : PathPlan) (turns : List Turn) → IsMildStart start
+    → most_units start plan ≤ units start plan (reached values start turns)
+    → AllIsThere (reached values start turns)

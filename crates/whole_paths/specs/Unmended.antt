@@ -50,7 +50,8 @@ pub record Owes (start : Start) (debts : ℕ) (turns : List Turn) : Type 0 where
 pub record LosesNoMore (s : Side) (p q : PathState Carried) : Type 0 where
   pub unharmed : is_harmed s p q ≡ false → (lost : List ℕ) → AreWellBut s lost p → AreWellBut s lost q
   pub owing : (end_at s p).tcp.due.ack ≡ true → (lost : List ℕ) → AreWellBut s lost p → AreWellBut s lost q
-  pub one_more : (lost : List ℕ) → AreWellBut s lost p → (more : List ℕ) × (length more ≤ length lost + one_if (is_harmed s p q)) × AreWellBut s more q
+  pub one_more : (lost : List ℕ) → AreWellBut s lost p
+      → (more : List ℕ) × (length more ≤ length lost + one_if (is_harmed s p q)) × AreWellBut s more q
 
 -- by a turn of a mild connection between open ends
 abbrev pub HarmsAloneLoseRecords : Type 0

@@ -27,5 +27,5 @@ NoneIsPartial p = (s : Side) (r : Record) → HasRecord r (end_at s p) → r.kin
 
 -- on path 0 of a mild connection, at every moment
 abbrev pub MappingsAreWhole : Type 0
-MappingsAreWhole = (start : Start) (turns : List Turn) → IsMildStart start → (c : ActorCrew Carried) → slice_get (reached values start turns).crew 2 ≡ Some c
-    → HoldsOfKind (λ app. Unit {0}) NoneIsPartial c.member
+MappingsAreWhole = (start : Start) (turns : List Turn) → IsMildStart start → (c : ActorCrew Carried)
+    → slice_get (reached values start turns).crew 2 ≡ Some c → HoldsOfKind (λ app. Unit {0}) NoneIsPartial c.member

@@ -16,6 +16,7 @@ ghost use Rattle.whole_paths.specs.FirstSigns.{EachFirstSignComes};
 ghost use Rattle.whole_paths.specs.GoingOn.{EndsGoOn, RoundsBeginToGoOn, RoundsGoOn, StepsLetItGoOn};
 ghost use Rattle.whole_paths.specs.Halted.{WhoHaltsGoesOnHalting};
 ghost use Rattle.whole_paths.specs.Lanes.Laws.{LossyLanesEnd, LossyLanesFinish};
+ghost use Rattle.whole_paths.specs.KeptAddresses.{FirstAddressesStay, HarmlessEndsDieOfExpiries};
 ghost use Rattle.whole_paths.specs.LastFin.{FinsAreLast};
 ghost use Rattle.whole_paths.specs.Mending.{EachAnswerComesSoon, EachRecordStaysWell};
 ghost use Rattle.whole_paths.specs.Mends.{WhatRunsOutIsMended};
@@ -30,7 +31,7 @@ ghost use Rattle.whole_paths.specs.OpenAsks.{OpenAsksAreInTime, OpenAsksGoOn, Op
 ghost use Rattle.whole_paths.specs.OnlyPaths.{long_patience, news_within};
 ghost use Rattle.whole_paths.specs.OverOctets.{FewLossesFinishAsOverValues, OctetsAreAsFarAsValues, OnePathEndsAsOverValues, BriefPathsDeliverAsOverValues, WholePathsDeliverAsOverValues};
 ghost use Rattle.whole_paths.specs.OpenCourses.{WhatHoldsUpCounts};
-ghost use Rattle.whole_paths.specs.OpeningCourses.{DeliversWithin, OpensWithin};
+ghost use Rattle.whole_paths.specs.OpeningCourses.{opening_patience, DeliversWithin, FirmPathsEnd, OpensWithin};
 ghost use Rattle.whole_paths.specs.OpeningWaits.{EndsOpenOrArePast, LivingEndsOpenOrArePast, OpeningsAreAwaited};
 ghost use Rattle.whole_paths.specs.Outstanding.{WhatIsOutstandingIsAwaited};
 ghost use Rattle.whole_paths.specs.OverOctets.{FewLossesFinishAsOverValues, OctetsAreAsFarAsValues, OnePathEndsAsOverValues, BriefPathsDeliverAsOverValues, WholePathsDeliverAsOverValues};
@@ -41,8 +42,12 @@ ghost use Rattle.whole_paths.specs.Received.{HoldsOfOnlyPaths};
 ghost use Rattle.whole_paths.specs.RecordWaits.{NoRoundCounts, RecordsAreAwaitedAlways};
 ghost use Rattle.whole_paths.specs.RisesOwed.{WhatRisesIsOwed};
 ghost use Rattle.whole_paths.specs.SegmentRounds.{ASegmentIsRead, EachRoundReads, EachRoundWrites, FourRoundsBring, FourRoundsTell};
+ghost use Rattle.whole_paths.specs.ClearRounds.{EightRoundsClear, FourRoundsClear, LostRecordsAreFirst, LostRecordsStay, WhatIsReachedIsFirst};
+ghost use Rattle.whole_paths.specs.OctetsPassed.{AllComesUpToLost, OctetsArePassed, WellOctetsCome};
+ghost use Rattle.whole_paths.specs.RecordsPassed.{FirstRecordsArePassed, RecordsComeInTime, WholeRecordsArePassed};
 ghost use Rattle.whole_paths.specs.SenderWaits.{SendersAreAwaited};
 ghost use Rattle.whole_paths.specs.SentInOrder.{EachIsSentInOrder};
+ghost use Rattle.whole_paths.specs.ShortWaits.{WhatIsNotOwedIsWell};
 ghost use Rattle.whole_paths.specs.ShutWaits.{ShutWindowsOpenInTime};
 ghost use Rattle.whole_paths.specs.ShutWindows.{ShutWindowsHaveRoom};
 ghost use Rattle.whole_paths.specs.SignWaits.{FirstSignsAreAwaited};
@@ -50,7 +55,7 @@ ghost use Rattle.whole_paths.specs.StayingWhole.{WholePathsStayWhole};
 ghost use Rattle.whole_paths.specs.Straying.{OpenEndsHardlyStray, SendersHardlyStray, WholePathsAreOpen};
 ghost use Rattle.whole_paths.specs.ToldStays.{WhoIsToldStaysTold};
 ghost use Rattle.whole_paths.specs.Unmended.{HarmsAloneLoseRecords};
-ghost use Rattle.whole_paths.specs.UnitRounds.{AUnitIsMade, ShortWaitsGoOn};
+ghost use Rattle.whole_paths.specs.UnitRounds.{AUnitIsMade, AllUnitsAreThere, ShortWaitsGoOn};
 ghost use Rattle.whole_paths.specs.Unstopped.{MildPathsAreNeverStopped};
 ghost use Rattle.whole_paths.specs.WindowRoom.{EachWindowHasRoom};
 ghost use Rattle.whole_paths.specs.WindowWaits.{WindowsAreAwaitedAlways};
@@ -97,6 +102,19 @@ pub fn mild_scripts_never_break()
 /// between two ends that live, none is refused, and no mapping clashes or is missing.
 pub fn mild_ends_die_of_expiries()
     ensures { MildEndsDieOfExpiries }
+{}
+
+/// A law: no side counts the address of path 0 as removed, always, where no line of the script takes it back (RFC 8684, section 3.4.2) or lets
+/// a path die.
+///
+/// Neither book is told to take id 0 back, no path has it to note, no segment says so, and no end hears it.
+pub fn first_addresses_stay()
+    ensures { FirstAddressesStay }
+{}
+
+/// A law: in a mild connection without such lines an end of path 0 dies by its sixth expiry in a row alone, as long as its peer lives too.
+pub fn harmless_ends_die_of_expiries()
+    ensures { HarmlessEndsDieOfExpiries }
 {}
 
 /// A law: as long as both ends of path 0 of a mild connection live, what an end owes its peer goes: an acknowledgement of what came, at
@@ -184,8 +202,8 @@ pub fn what_has_room_is_sent()
     ensures { WhatHasRoomIsSent }
 {}
 
-/// A law: in each round of a mild connection over one path an application writes its file, or as much as a side buffers past what was acknowledged as the
-/// round began; and the peer's reader reads all that had come in order then.
+/// A law: in each round of a mild connection over one path an application writes its file, or as much as a side buffers past what was acknowledged
+/// as the round began; and the peer's reader reads all that had come in order then.
 pub fn each_round_writes_and_reads()
     ensures writes { EachRoundWrites }
     ensures reads { EachRoundReads }
@@ -194,10 +212,10 @@ pub fn each_round_writes_and_reads()
 /// A law: where nothing is to be mended, all that an open end sent comes within four rounds (`brought`), and as soon the end is told how far the peer
 /// was (`told`); so the peer's reader reads a full segment more in twelve rounds (`read`), or all of the stream.
 ///
-/// It is said of a mild connection over one path with segments of 1,460 octets at most, between moments at which the path is open, whose records stay
-/// well and whose ends are told soon. For `read` nothing is to be mended as the rounds begin and after seven of them, the congestion window
-/// holds two full segments then, and what the peer could tell of the stream is heard in the first five: the Data ACK, and a window that takes a full
-/// segment. Then come a round in which the application writes, one in which the end sends, four in which that comes, and one in which it is read.
+/// It is said of a mild connection over one path, between moments at which the path is open. For `read` nothing is to be mended as the rounds begin and
+/// after seven of them, the congestion window holds two full segments then, and what the peer could tell of the stream is heard in the first
+/// five, as a premise says: the Data ACK, and a window that takes a full segment. Then come a round in which the application writes, one in which the
+/// end sends, four in which that comes, and one in which it is read.
 pub fn a_segment_is_read()
     ensures brought { FourRoundsBring }
     ensures told { FourRoundsTell }
@@ -206,21 +224,24 @@ pub fn a_segment_is_read()
 
 /// A law: where nothing is to be mended, and all of a stream is read, the peer's side knows where it ends in eleven rounds (RFC 8684, section 3.3.3).
 ///
-/// It is said of a mild connection over one path, between moments at which the path is open, whose ends are told soon, and where all of the stream is
-/// acknowledged in the first five rounds. Then it is closed in the next one, and in the one after that its end sends the DATA_FIN, or the
-/// peer's side knows the end. That the DATA_FIN which is sent so comes in four more rounds is a premise.
+/// It is said of a mild connection over one path, between moments at which the path is open, where all of the stream is acknowledged in the first five
+/// rounds. Then it is closed in the next one, and in the one after that its end sends the DATA_FIN, or the peer's side knows the end. That the
+/// DATA_FIN which is sent so comes in four more rounds is a premise.
 pub fn an_end_is_told()
     ensures { AnEndIsTold }
 {}
 
-/// A law: in thirteen rounds in which nothing is to be mended a stream goes on by a full segment or by its end, or both streams are all there.
+/// A law: in thirteen rounds in which nothing is to be mended a stream goes on by a full segment or by its end, or all is read and told.
 ///
-/// It is said of any way in which all is well: nothing of path 0 is to be mended then, and both congestion windows hold two full segments. A wait
-/// for such rounds begins with each of them, and it goes on by each turn as long as all is well. What the peer could tell is heard in
-/// five rounds, and a DATA_FIN comes in four: these are premises.
+/// It is said of a mild connection over one path, as long as all is well: nothing of path 0 is to be mended then, and both congestion windows hold two
+/// full segments. A wait for such rounds begins with each of them, and it goes on by each turn as long as all is well. That what the peer could
+/// tell is heard in five rounds, and that a DATA_FIN comes in four, are premises. Where there are as many units as can be (`all`), all of
+/// both streams is with the peers. Where no record may be lost and each end is told soon (`free`), nothing is to be mended.
 pub fn a_unit_is_made()
     ensures waits { ShortWaitsGoOn }
     ensures made { AUnitIsMade }
+    ensures all { AllUnitsAreThere }
+    ensures free { WhatIsNotOwedIsWell }
 {}
 
 /// A law: where no line of a script speaks of a direction, each segment of a path that is harmed uses a line by which one is lost or late.
@@ -528,13 +549,16 @@ pub fn whole_paths_deliver()
 /// ends open firmly, however much is lost, late or repeated (`delivers`).
 ///
 /// After half of these rounds the path is whole, or all of both streams is with the peers, or an end died (`opens`). That the ends open firmly is
-/// a premise: A may send a DSS only once B may, and where A's end has finished, or all of B's stream is with A, A may; A's first piece waits
-/// until B may send one; and until A may, an end of B's without a record was granted nothing and knows of no shut window (RFC 8684, section 3.1).
-/// It is said of mild connections over one path with buffers of 4,096 octets at least, over segments as values, and of fewer than 2^64 - 1 turns.
-/// Enough rounds are as many as in `whole_paths_deliver`, twice.
+/// a premise: A may send a DSS only once B may; A's first piece waits while B, past the handshake, may send none; and until A may, an end of B's
+/// without a record was granted nothing and knows of no shut window (RFC 8684, section 3.1). What else it needs is so: an end that may send a DSS
+/// is past the handshake, and until A may, A's end hasn't finished, and its side knows no end of B's stream (`clear_ends_are_past`). It is said
+/// of mild connections over one path with buffers of 4,096 octets at least, and of fewer than 2^64 - 1 turns; and of scripts of one path, over
+/// segments as values and over octets (`values`, `octets`). Enough rounds are as many as in `whole_paths_deliver`, twice.
 pub fn firm_openings_deliver()
     ensures opens { OpensWithin (for_all_news news_within) }
     ensures delivers { DeliversWithin (for_all_news news_within) }
+    ensures octets { FirmPathsEnd octets opening_patience }
+    ensures values { FirmPathsEnd values opening_patience }
 {}
 
 /// A law: on a lane that loses segments all is acknowledged, or the end gave up, after five rounds or so for each segment and two
@@ -577,4 +601,75 @@ pub fn lost_records_are_mended()
 /// no such wait ends before the round does.
 pub fn lost_records_are_awaited()
     ensures { LostRecordsAreAwaited }
+{}
+
+/// A law: where a turn is over, a record that came whole, and begins at RCV.NXT or before it, lies below it (RFC 9293, section 3.10.7.4).
+///
+/// It is said of a record of data on path 0 of a mild connection between open ends, which came, or was to come by a tick of the round that ends.
+pub fn whole_records_are_passed()
+    ensures { WholeRecordsArePassed }
+{}
+
+/// A law: where a turn is over, the first record of a side that came whole lies below the peer's RCV.NXT (RFC 9293, section 3.10.7.4).
+///
+/// It is said of a record of data on path 0 of a mild connection between open ends, which came, or was to come by a tick of the round that ends.
+pub fn first_records_are_passed()
+    ensures { FirstRecordsArePassed }
+{}
+
+/// A law: where all comes by a tick that a side sends up to a position, RCV.NXT has reached that position as the turn is over in which that tick lies
+/// (RFC 9293, section 3.10.7.4).
+///
+/// It is said of path 0 of a mild connection between open ends (`due`): each octet before the position is acknowledged, or lies in a record of data
+/// that comes by that tick. So it is where each record before the position is such a one (`begins`), and stays so by each turn (`on`).
+pub fn octets_are_passed()
+    ensures { OctetsArePassed }
+{}
+
+/// A law: all comes within 400 ticks up to a record of data that a side sent, where each record before it is well (RFC 9293, section 3.4).
+///
+/// It is said of path 0 of a mild connection between open ends. No SYN is left there, the FIN is last, and records are sent in order.
+pub fn well_octets_come()
+    ensures { WellOctetsCome }
+{}
+
+/// A law: where records may be lost, all that the side sends comes within 400 ticks up to the first one that may be.
+///
+/// It is said of path 0 of a mild connection between open ends; where no record may be lost each is well.
+pub fn all_comes_up_to_lost()
+    ensures { AllComesUpToLost }
+{}
+
+/// A law: in four rounds all comes that a side sends before the first record that may be lost (RFC 9293, section 3.10.7.4).
+///
+/// It is said of rounds of a mild connection over one path between open ends: RCV.NXT has reached a record that could be lost as they began, or each
+/// record was well. After four rounds more SND.UNA has reached it, where the end was to be told soon how far its peer was (`told`).
+pub fn four_rounds_clear()
+    ensures comes { FourRoundsClear }
+    ensures told { EightRoundsClear }
+{}
+
+/// A law: where SND.UNA has reached a record that may be lost, that is the first one, or one less may be lost.
+///
+/// It is said of path 0 of a mild connection between open ends.
+pub fn what_is_reached_is_first()
+    ensures { WhatIsReachedIsFirst }
+{}
+
+/// A law: in eight rounds without a harm a record that may be lost becomes the first one, or one less may be lost (RFC 9293, section 3.4).
+///
+/// It is said of rounds of a mild connection over one path between open ends, where the end was to be told soon how far its peer was after the first
+/// four. By turns without a harm no more records may be lost (`stays`).
+pub fn lost_records_are_first()
+    ensures stays { LostRecordsStay }
+    ensures first { LostRecordsAreFirst }
+{}
+
+/// A law: a record of data that comes by a tick comes by that tick still, by each turn of a mild connection between open ends, until it is
+/// acknowledged (RFC 9293, section 3.10.7.4).
+///
+/// Neither what comes before it nor what is sent again puts it off (`on`). Where a turn is over such a record came whole by a tick of the round that
+/// ends, or is acknowledged (`due`).
+pub fn records_come_in_time()
+    ensures { RecordsComeInTime }
 {}

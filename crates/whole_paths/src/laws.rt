@@ -15,6 +15,7 @@ ghost use Rattle.whole_paths.specs.AsFar.{NothingGoesBack};
 ghost use Rattle.whole_paths.specs.Awaited.{EachWindowComes};
 ghost use Rattle.whole_paths.specs.Brought.{WhatComesIsKept};
 ghost use Rattle.whole_paths.specs.Came.{WhatIsAcknowledgedCame};
+ghost use Rattle.whole_paths.specs.Clear.{AHearsNoEndBefore, AIsToldNoEndBefore, ClearEndsArePast, WhoIsDoneIsClear};
 ghost use Rattle.whole_paths.specs.Closing.{EachDataFinCounts, EachDataFinIsSaid};
 ghost use Rattle.whole_paths.specs.ClosingAsked.{EachDataFinComes};
 ghost use Rattle.whole_paths.specs.ClosingFin.{EachFinIsPassed};
@@ -748,6 +749,18 @@ pub fn ends_go_by_the_handshake()
 pub fn ends_open_by_copies()
     ensures octets { EndsOpenByCopies octets }
     ensures values { EndsOpenByCopies values }
+{}
+
+/// A law: at every moment of a connection, an end of a path that doesn't join may send a DSS only past the handshake: it may from the first copy on
+/// that it takes, and hears (RFC 8684, section 3.1). On path 0 of a mild connection A has its DATA_FIN acknowledged, and sends its FIN, only where
+/// it may send one (`done`); and until then its end keeps no DATA_FIN of B's (`unheard`), and over one path its side
+/// knows no end of B's stream (`untold`).
+pub fn clear_ends_are_past()
+    ensures octets { ClearEndsArePast octets }
+    ensures values { ClearEndsArePast values }
+    ensures done { WhoIsDoneIsClear }
+    ensures unheard { AHearsNoEndBefore }
+    ensures untold { AIsToldNoEndBefore }
 {}
 
 /// A law: the SYN of A on path 0 comes to B while that listens, and the SYN/ACK of B to A while A waits for it, whatever is lost: an end goes

@@ -4,5 +4,11 @@ use Rattle.whole_paths.proofs.delivery_laws.firm_openings_deliver.Goals as goal
 pub returns-clause-opens : goal.returns-clause-opens
 returns-clause-opens c = ends.opens_within
 
+pub returns-clause-octets : goal.returns-clause-octets
+returns-clause-octets c = ends.firm_paths_end_in_octets
+
+pub returns-clause-values : goal.returns-clause-values
+returns-clause-values c = ends.firm_paths_end
+
 pub returns-clause-delivers : goal.returns-clause-delivers
 returns-clause-delivers c = ends.delivers_within

@@ -1,0 +1,49 @@
+-- An end of a path that doesn't join may send a DSS only past the handshake: it may from the first copy on that it takes.
+use Rattle.std.specs.Prelude.{◌≡◌, ◌≤◌, ℕ, None, Some, List, [], ◌∷◌, false, true}
+use Rattle.std.specs.List.{slice_get}
+use Rattle.sides.specs.declared.side.Side.{Side}
+use Rattle.sides.specs.declared.side.Side.TheVariants.{A}
+use Rattle.path_core.specs.Codec.{Codec}
+use Rattle.path_core.specs.MpJoin.{is_joined}
+use Rattle.path_core.specs.End.{PathEnd}
+use Rattle.path_core.specs.State.{PathState, end_at}
+use Rattle.path_core.specs.Values.{Carried, values}
+use Rattle.world_laws.specs.Actors.{ActorCrew}
+use Rattle.world_laws.specs.Members.{HoldsOfKind}
+use Rattle.world_laws.specs.Openings.{PathPlan, Start}
+use Rattle.world_laws.specs.Promises.{arrived_at}
+use Rattle.world_laws.specs.RoundDone.{reached}
+use Rattle.world_laws.specs.Worlds.{Turn}
+use Rattle.whole_paths.specs.AsFar.{stage}
+use Rattle.whole_paths.specs.Delivery.{HasFinished}
+use Rattle.whole_paths.specs.Finish.{IsPathAt}
+use Rattle.whole_paths.specs.Mild.{IsMildStart}
+
+-- On path 0 of a mild connection A's end has finished, its DATA_FIN acknowledged or its FIN sent, only where it may send a DSS.
+abbrev pub WhoIsDoneIsClear : Type 0
+WhoIsDoneIsClear = (start : Start) (turns : List Turn) → IsMildStart start → (p : PathState Carried) → IsPathAt 0 (reached values start turns) p → HasFinished p.a
+    → p.a.modes.clear ≡ true
+
+-- no end of the peer's stream is to be told at the end: none that a DATA_FIN said, alone or behind bytes
+pub record HearsNoEnd (e : PathEnd) : Type 0 where
+  pub fins : e.treated.fins ≡ []
+  pub mapped : e.receiving.mapped_data_fin ≡ None
+
+-- on path 0 of a mild connection none is at A's end, as long as it may send no DSS
+abbrev pub AHearsNoEndBefore : Type 0
+AHearsNoEndBefore = (start : Start) (turns : List Turn) → IsMildStart start → (p : PathState Carried) → IsPathAt 0 (reached values start turns) p → p.a.modes.clear ≡ false
+    → HearsNoEnd p.a
+
+-- over one path A's side knows no end of B's stream until then
+abbrev pub AIsToldNoEndBefore : Type 0
+AIsToldNoEndBefore = (start : Start) (plan : PathPlan) (turns : List Turn) → start.paths ≡ plan ∷ [] → IsMildStart start → (p : PathState Carried) → IsPathAt 0 (reached values start turns) p
+    → p.a.modes.clear ≡ false → (arrived_at A (reached values start turns)).known_end ≡ None
+
+module _ {C : Type 0} where
+  abbrev pub IsPastIfClear : PathState C → Type 0
+  IsPastIfClear p = is_joined p.profile ≡ false → (s : Side) → (end_at s p).modes.clear ≡ true → 3 ≤ stage (end_at s p).tcp.state
+
+  -- at every moment of a connection
+  abbrev pub ClearEndsArePast : Codec C → Type 0
+  ClearEndsArePast k = (start : Start) (turns : List Turn) (actor : ℕ) (c : ActorCrew C) → slice_get (reached k start turns).crew actor ≡ Some c
+      → HoldsOfKind (λ app. Unit {0}) IsPastIfClear c.member
