@@ -23,7 +23,7 @@ use Rattle.whole_paths.proofs.RecordsWell.{by_turn, each_record_stays_well}
 use Rattle.whole_paths.proofs.ToldSoon.{each_answer_comes_soon}
 use Rattle.whole_paths.proofs.WindowRoom.{each_window_has_room}
 
-told_later : (s : Side) (position first later : ℕ) (p : PathState Carried) → first ≤ later → IsToldBy s position first p → IsToldBy s position later p
+pub told_later : (s : Side) (position first later : ℕ) (p : PathState Carried) → first ≤ later → IsToldBy s position first p → IsToldBy s position later p
 told_later s position first later p low (told_by.heard h) = told_by.heard h
 told_later s position first later p low (told_by.comes copy there answers soon) = told_by.comes copy there answers (omega (arith, soon, low))
 

@@ -17,11 +17,11 @@ use Rattle.whole_paths.specs.AsFar.{IsActorAsFar, IsPathAsFar}
 use Rattle.whole_paths.specs.Courses.{harmed_so_far}
 use Rattle.whole_paths.specs.Debts.{OwesOn}
 use Rattle.whole_paths.specs.Finish.{harms_between, harms_of, is_harmed}
-use Rattle.whole_paths.specs.Mending.{EachIsToldSoon, IsMended, IsOpenTurn, IsRecordOf, IsToldSoon, IsToldBy, IsWell, StaysTold}
-use Rattle.whole_paths.specs.Mending.{IsToldBy as told_by}
+use Rattle.whole_paths.specs.Mending.{IsMended, IsOpenTurn, IsRecordOf, IsToldSoon, IsToldBy, IsWell}
 use Rattle.whole_paths.specs.Mending.{IsToldSoon as told_soon}
 use Rattle.whole_paths.specs.News.{one_if}
-use Rattle.whole_paths.specs.Mild.{IsMildStart}
+use Rattle.whole_paths.specs.OnePathScripts.{BeginsWithOnePath}
+use Rattle.whole_paths.specs.ToldStays.{ToldStays}
 use Rattle.whole_paths.specs.OpenCourses.{IsOpenAfter}
 use Rattle.whole_paths.specs.Unmended.{DebtsGoOn, HarmsAloneAreOwed, LosesNoMore, Owes, OwesAt, OwesBy, OwesNoMore}
 use Rattle.whole_paths.proofs.Arrivals.{sender_of}
@@ -32,14 +32,11 @@ use Rattle.whole_paths.proofs.OpenTurns.{now, with_both}
 use Rattle.whole_paths.proofs.Losing.{harms_alone_lose_records}
 use Rattle.whole_paths.proofs.RecordWaits.{path_is}
 use Rattle.whole_paths.proofs.RecordsWell.{each_record_stays_well}
+use Rattle.whole_paths.proofs.ToldStays.{told_later, who_is_told_stays_told}
 
 -- ---- what the peer is told
 
-told_later : (s : Side) (position first later : ℕ) (p : PathState Carried) → first ≤ later → IsToldBy s position first p → IsToldBy s position later p
-told_later s position first later p low (told_by.heard h) = told_by.heard h
-told_later s position first later p low (told_by.comes copy there answers soon) = told_by.comes copy there answers (omega (arith, soon, low))
-
-module _ (s : Side) (p q : PathState Carried) (clock : p.clock ≤ q.clock) (loses : LosesNoMore s p q) (answers : StaysTold (peer s) p q)
+module _ (s : Side) (p q : PathState Carried) (clock : p.clock ≤ q.clock) (loses : LosesNoMore s p q) (answers : ToldStays (peer s) p q)
     (edge_up : (t : Side) → (end_at t p).tcp.recv.edge ≤ (end_at t q).tcp.recv.edge) (fins : FinsStay p q) where
   abbrev told : PathState Carried → Type 0
   told x = IsToldSoon (peer s) x
@@ -73,8 +70,11 @@ module _ (s : Side) (p q : PathState Carried) (clock : p.clock ≤ q.clock) (los
   owed_on due = ⊎_elim
       (λ still. inl (told_soon.owed still))
       (λ x. ⊎_elim
+      (λ past. inl (told_soon.past_fin past))
+      (λ x. ⊎_elim
       (λ harmed. inr (subst (λ t. is_harmed t p q ≡ true) (sender_of s) harmed))
       (λ h. inl (told_soon.told (told_later (peer s) (end_at (peer (peer s)) q).tcp.recv.edge (p.clock + 400) (q.clock + 400) q (omega (arith, clock)) h)))
+      x)
       x)
       (answers.owed (ap (λ e. e.tcp.due.ack) (own p) ∙ due))
 
@@ -123,71 +123,70 @@ module _ (s : Side) (p q : PathState Carried) (clock : p.clock ≤ q.clock) (los
 
 -- ---- a turn of a connection
 
-module _ (told : EachIsToldSoon) where
-  pub harms_alone_are_owed : HarmsAloneAreOwed
-  harms_alone_are_owed start turns turn h s =
-      owes_no_more s p q (each_record_stays_well start turns turn h s).clock (harms_alone_lose_records start turns turn h s) (told start turns turn h (peer s)) edges fins
-    where
-      p : PathState Carried
-      p = h.before.path
+pub harms_alone_are_owed : HarmsAloneAreOwed
+harms_alone_are_owed start plan turns turn one h s =
+    owes_no_more s p q (each_record_stays_well start turns turn h s).clock (harms_alone_lose_records start turns turn h s) (who_is_told_stays_told start plan turns turn one h (peer s)) edges fins
+  where
+    p : PathState Carried
+    p = h.before.path
 
-      q : PathState Carried
-      q = h.after.path
+    q : PathState Carried
+    q = h.after.path
+
+    w : WorldState Carried
+    w = reached values start turns
+
+    far : IsPathAsFar p q
+    far = with_both start turns turn h IsActorAsFar (let found = (goes_on_so values w (turn ∷ [])).crew 2 h.before.here.crew h.before.here.there in (found.0, found.1, found.2.member))
+
+    fins : FinsStay p q
+    fins = with_both start turns turn h FinsStayMember (fins_stay values w turn 2 h.before.here.crew h.before.here.there)
+
+    edges : (t : Side) → (end_at t p).tcp.recv.edge ≤ (end_at t q).tcp.recv.edge
+    edges = elim [ A ↦ far.a.subflow.received | B ↦ far.b.subflow.received ]
+
+-- ---- debts
+
+module _ (start : Start) (plan : PathPlan) (most : ℕ) (one : BeginsWithOnePath start plan) where
+  owes_then : (turns : List Turn) (turn : Turn) (debts : ℕ) → IsOpenAfter start turns → IsOpenAfter start (turns ++ turn ∷ []) → Owes start debts turns
+      → OwesOn start plan most (Owes start) debts turns (turns ++ turn ∷ [])
+  owes_then turns turn debts before after h = record {
+    now = debts + (one_if (is_harmed A before.path after.path) + one_if (is_harmed B before.path after.path));
+    owes = record {
+      path = after.path;
+      here = after.here;
+      owes = record {
+        by_a = was.by_a + one_if (is_harmed A before.path after.path);
+        by_b = was.by_b + one_if (is_harmed B before.path after.path);
+        a = (harms_alone_are_owed start plan turns turn one open_turn A).owes was.by_a was.a;
+        b = (harms_alone_are_owed start plan turns turn one open_turn B).owes was.by_b was.b;
+        few = (let few = was.few in omega (arith, few));
+      };
+    };
+    few = omega (arith, harmed_is);
+  }
+    where
+      open_turn : IsOpenTurn start turns turn
+      open_turn = record { mild = one.mild; before = before; after = after }
+
+      was : OwesAt debts before.path
+      was = subst (OwesAt debts) (path_is (reached values start turns) h.path before.path h.here before.here) h.owes
 
       w : WorldState Carried
       w = reached values start turns
 
-      far : IsPathAsFar p q
-      far = with_both start turns turn h IsActorAsFar (let found = (goes_on_so values w (turn ∷ [])).crew 2 h.before.here.crew h.before.here.there in (found.0, found.1, found.2.member))
+      between : harms_of (slice_get w.crew 2) (slice_get (after_turn values turn w).crew 2) ≡ one_if (is_harmed A before.path after.path) + one_if (is_harmed B before.path after.path)
+      between = ap (λ o. harms_of o (slice_get (after_turn values turn w).crew 2)) before.here.there ∙ ap (λ o. harms_of (Some before.here.crew) o) (now start turns turn open_turn)
+          ∙ ap (λ m. harms_between m after.here.crew.member) before.here.is ∙ ap (λ m. harms_between (Path before.path) m) after.here.is
 
-      fins : FinsStay p q
-      fins = with_both start turns turn h FinsStayMember (fins_stay values w turn 2 h.before.here.crew h.before.here.there)
+      harmed_is : harmed_so_far values start (turns ++ turn ∷ []) ≡ harmed_so_far values start turns + (one_if (is_harmed A before.path after.path) + one_if (is_harmed B before.path after.path))
+      harmed_is = let is = harmed_snoc turns turn (opened_world start) in omega (arith, is, between)
 
-      edges : (t : Side) → (end_at t p).tcp.recv.edge ≤ (end_at t q).tcp.recv.edge
-      edges = elim [ A ↦ far.a.subflow.received | B ↦ far.b.subflow.received ]
-
-  -- ---- debts
-
-  module _ (start : Start) (plan : PathPlan) (most : ℕ) (mild : IsMildStart start) where
-    owes_then : (turns : List Turn) (turn : Turn) (debts : ℕ) → IsOpenAfter start turns → IsOpenAfter start (turns ++ turn ∷ []) → Owes start debts turns
-        → OwesOn start plan most (Owes start) debts turns (turns ++ turn ∷ [])
-    owes_then turns turn debts before after h = record {
-      now = debts + (one_if (is_harmed A before.path after.path) + one_if (is_harmed B before.path after.path));
-      owes = record {
-        path = after.path;
-        here = after.here;
-        owes = record {
-          by_a = was.by_a + one_if (is_harmed A before.path after.path);
-          by_b = was.by_b + one_if (is_harmed B before.path after.path);
-          a = (harms_alone_are_owed start turns turn open_turn A).owes was.by_a was.a;
-          b = (harms_alone_are_owed start turns turn open_turn B).owes was.by_b was.b;
-          few = (let few = was.few in omega (arith, few));
-        };
-      };
-      few = omega (arith, harmed_is);
-    }
-      where
-        open_turn : IsOpenTurn start turns turn
-        open_turn = record { mild = mild; before = before; after = after }
-
-        was : OwesAt debts before.path
-        was = subst (OwesAt debts) (path_is (reached values start turns) h.path before.path h.here before.here) h.owes
-
-        w : WorldState Carried
-        w = reached values start turns
-
-        between : harms_of (slice_get w.crew 2) (slice_get (after_turn values turn w).crew 2) ≡ one_if (is_harmed A before.path after.path) + one_if (is_harmed B before.path after.path)
-        between = ap (λ o. harms_of o (slice_get (after_turn values turn w).crew 2)) before.here.there ∙ ap (λ o. harms_of (Some before.here.crew) o) (now start turns turn open_turn)
-            ∙ ap (λ m. harms_between m after.here.crew.member) before.here.is ∙ ap (λ m. harms_between (Path before.path) m) after.here.is
-
-        harmed_is : harmed_so_far values start (turns ++ turn ∷ []) ≡ harmed_so_far values start turns + (one_if (is_harmed A before.path after.path) + one_if (is_harmed B before.path after.path))
-        harmed_is = let is = harmed_snoc turns turn (opened_world start) in omega (arith, is, between)
-
-  pub debts_go_on : DebtsGoOn
-  debts_go_on start plan most debts turns later mild (inl step) h =
-      subst (λ t. OwesOn start plan most (Owes start) debts turns t) (sym step.is) (owes_then start plan most mild turns (Turn.Step step.actor) debts step.before (subst (IsOpenAfter start) step.is step.after) h)
-  debts_go_on start plan most debts turns later mild (inr step) h =
-      subst (λ t. OwesOn start plan most (Owes start) debts turns t) (sym step.is) (owes_then start plan most mild turns Turn.Round debts step.before (subst (IsOpenAfter start) step.is step.after) h)
+pub debts_go_on : DebtsGoOn
+debts_go_on start plan most debts turns later one (inl step) h =
+    subst (λ t. OwesOn start plan most (Owes start) debts turns t) (sym step.is) (owes_then start plan most one turns (Turn.Step step.actor) debts step.before (subst (IsOpenAfter start) step.is step.after) h)
+debts_go_on start plan most debts turns later one (inr step) h =
+    subst (λ t. OwesOn start plan most (Owes start) debts turns t) (sym step.is) (owes_then start plan most one turns Turn.Round debts step.before (subst (IsOpenAfter start) step.is step.after) h)
 
 -- ---- nothing is owed
 

@@ -171,19 +171,6 @@ pub record AnswersStay (s : Side) (p q : PathState Carried) : Type 0 where
   pub owed : LeavesRoomFor s p → (end_at (peer s) p).tcp.due.ack ≡ true
       → ((end_at (peer s) q).tcp.due.ack ≡ true) ⊎ ((is_harmed (peer s) p q ≡ true) ⊎ IsToldBy s (end_at (peer s) p).tcp.recv.edge (p.clock + 400) q)
 
--- of what a side is told
-pub record StaysTold (s : Side) (p q : PathState Carried) : Type 0 where
-  -- what is told by a tick is told by that tick still
-  pub comes : (position by : ℕ) → IsToldBy s position by p → IsToldBy s position by q
-  -- what is owed is owed still, or goes in the turn, or was harmed
-  pub owed : (end_at (peer s) p).tcp.due.ack ≡ true → ((end_at (peer s) q).tcp.due.ack ≡ true) ⊎ ((is_harmed (peer s) p q ≡ true)
-      ⊎ IsToldBy s (end_at (peer s) q).tcp.recv.edge (p.clock + 400) q)
-  -- where more came an acknowledgement is owed, or the FIN came
-  pub more : (end_at (peer s) p).tcp.recv.edge < (end_at (peer s) q).tcp.recv.edge
-      → ((end_at (peer s) q).tcp.due.ack ≡ true) ⊎ (is_fin_passed (end_at (peer s) q).tcp ≡ true)
-  -- the end is told soon still, or an answer was harmed
-  pub soon : IsToldSoon s p → (is_harmed (peer s) p q ≡ true) ⊎ IsToldSoon s q
-
 module _ (start : Start) (turns : List Turn) (turn : Turn) where
   -- a turn of a mild connection, before which and after which both ends of path 0 are open
   pub record IsOpenTurn : Type 0 where
@@ -200,8 +187,3 @@ EachRecordStaysWell = (start : Start) (turns : List Turn) (turn : Turn) (h : IsO
 abbrev pub EachAnswerComesSoon : Type 0
 EachAnswerComesSoon = (start : Start) (turns : List Turn) (turn : Turn) (h : IsOpenTurn start turns turn) (s : Side)
     → AnswersStay s h.before.path h.after.path
-
--- each is told soon
-abbrev pub EachIsToldSoon : Type 0
-EachIsToldSoon = (start : Start) (turns : List Turn) (turn : Turn) (h : IsOpenTurn start turns turn) (s : Side)
-    → StaysTold s h.before.path h.after.path

@@ -13,7 +13,7 @@ use Rattle.world_laws.specs.Worlds.{Turn}
 use Rattle.whole_paths.specs.Debts.{Beginning, OwesOn, Stepping}
 use Rattle.whole_paths.specs.Finish.{IsPathAt, is_harmed}
 use Rattle.whole_paths.specs.Mending.{IsOpenTurn, IsRecordOf, IsToldSoon, IsWell}
-use Rattle.whole_paths.specs.Mild.{IsMildStart}
+use Rattle.whole_paths.specs.OnePathScripts.{BeginsWithOnePath}
 use Rattle.whole_paths.specs.News.{one_if}
 
 -- each record of the side is well, but for those that stand at these positions
@@ -64,11 +64,12 @@ pub record OwesNoMore (s : Side) (p q : PathState Carried) : Type 0 where
   pub told : is_harmed s p q ≡ false → IsToldSoon (peer s) p → IsToldSoon (peer s) q
 
 abbrev pub HarmsAloneAreOwed : Type 0
-HarmsAloneAreOwed = (start : Start) (turns : List Turn) (turn : Turn) (h : IsOpenTurn start turns turn) (s : Side)
+HarmsAloneAreOwed = (start : Start) (plan : PathPlan) (turns : List Turn) (turn : Turn) → BeginsWithOnePath start plan
+    → (h : IsOpenTurn start turns turn) (s : Side)
     → OwesNoMore s h.before.path h.after.path
 
 -- by each step, and as a round begins
 abbrev pub DebtsGoOn : Type 0
-DebtsGoOn = (start : Start) (plan : PathPlan) (most debts : ℕ) (turns later : List Turn) → IsMildStart start
+DebtsGoOn = (start : Start) (plan : PathPlan) (most debts : ℕ) (turns later : List Turn) → BeginsWithOnePath start plan
     → Stepping start plan most (Owes start) turns later ⊎ Beginning start plan most (Owes start) turns later → Owes start debts turns
     → OwesOn start plan most (Owes start) debts turns later

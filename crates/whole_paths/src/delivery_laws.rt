@@ -54,7 +54,7 @@ ghost use Rattle.whole_paths.specs.SignWaits.{FirstSignsAreAwaited};
 ghost use Rattle.whole_paths.specs.StayingWhole.{WholePathsStayWhole};
 ghost use Rattle.whole_paths.specs.Straying.{OpenEndsHardlyStray, SendersHardlyStray, WholePathsAreOpen};
 ghost use Rattle.whole_paths.specs.ToldStays.{WhoIsToldStaysTold};
-ghost use Rattle.whole_paths.specs.Unmended.{HarmsAloneLoseRecords};
+ghost use Rattle.whole_paths.specs.Unmended.{DebtsGoOn, HarmsAloneAreOwed, HarmsAloneLoseRecords};
 ghost use Rattle.whole_paths.specs.UnitRounds.{AUnitIsMade, AllUnitsAreThere, ShortWaitsGoOn};
 ghost use Rattle.whole_paths.specs.Unstopped.{MildPathsAreNeverStopped};
 ghost use Rattle.whole_paths.specs.WindowRoom.{EachWindowHasRoom};
@@ -306,6 +306,17 @@ pub fn what_rises_is_owed()
 /// meanwhile the next answer is owed (`what_rises_is_owed`).
 pub fn who_is_told_stays_told()
     ensures { WhoIsToldStaysTold }
+{}
+
+/// A law: between open ends of the only path of a mild connection no more is to be mended of what a side sends, but for one if a segment of it is
+/// harmed.
+pub fn harms_alone_are_owed()
+    ensures { HarmsAloneAreOwed }
+{}
+
+/// A law: debts go on so, by each step and as a round begins.
+pub fn debts_go_on()
+    ensures { DebtsGoOn }
 {}
 
 /// A law: a wait for a record of data goes on between open ends of a mild connection until the record is acknowledged, or something is
