@@ -1,5 +1,5 @@
 -- Which records of data a turn sends: each that is sent afterwards was sent before, or the link takes its segment.
-use Rattle.std.proofs.Common.{◌≡◌, refl, sym, subst, ap, ◌⊎◌, inl, inr, ⊎_elim, ℕ, ◌+◌, ◌<◌, ◌≤◌, arith, Bool, true, false, Option, Some, None, List, le_refl}
+use Rattle.std.proofs.Common.{◌≡◌, refl, subst, ap, ⊎_elim, ℕ, ◌+◌, ◌<◌, ◌≤◌, arith, false, Option, Some, None, le_refl}
 use Rattle.std.specs.List.{slice_get}
 use Rattle.sides.specs.declared.side.Side.{Side}
 use Rattle.path_segments.specs.Spelled.{PlainSegment}
@@ -29,10 +29,8 @@ use Rattle.world_laws.specs.Writes.{OnlyAt, PathView, Writes, side_of, writes}
 use Rattle.world_laws.proofs.Writes.Paths.{writes_no_more, passes_no_more}
 use Rattle.world_laws.proofs.Writes.Steps.{Lasts, unwritten, takes_lasts, begins_lasts}
 use Rattle.whole_paths.specs.Expiries.{IsSegmentOf, IsSaidAt}
-use Rattle.whole_paths.specs.Kept.{IsSameRecord}
 use Rattle.whole_paths.specs.Mending.{IsRecordOf, WasSent}
-use Rattle.whole_paths.specs.RecordsGo.{GoesNext, IsOneSo}
-use Rattle.whole_paths.proofs.Flying.{same_record}
+use Rattle.whole_paths.specs.RecordsGo.{IsOneSo}
 use Rattle.whole_paths.proofs.Timing.{happens_clock}
 use Rattle.whole_paths.proofs.RecordsGo.{next_was, still_was, takes_row}
 use Rattle.whole_paths.proofs.Saying.{ToSend}

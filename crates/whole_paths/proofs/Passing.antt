@@ -1,7 +1,7 @@
 -- What comes in order is passed in the same turn.
 use Rattle.std.proofs.Common.{◌≡◌, refl, sym, subst, ap, ◌∙◌, ◌⊎◌, inl, inr, ⊎_elim, ℕ, zero, suc, ◌+◌, ◌≤◌, arith, Bool, true, false, true≢false, if◌then◌else◌, Option, Some, None, is_some, List, [], ◌∷◌, drop, length}
 use Rattle.std.proofs.lemmas.Bool.{and_parts}
-use Rattle.std.specs.List.{list_all}
+use Rattle.std.specs.List.{list_all, slice_get}
 use Rattle.std.specs.Prelude.{IfSome}
 use Rattle.path_segments.specs.Heard.{HeardSegment}
 use Rattle.sides.specs.declared.side.Side.{Side}
@@ -72,12 +72,13 @@ use Rattle.path_core.specs.declared.judged.Judged.TheVariants as judged
 use Rattle.path_core.specs.declared.modes.Modes.{Modes}
 use Rattle.path_core.proofs.Judgements.{judged_taken}
 use Rattle.world_laws.specs.declared.member.Member.TheVariants.{App, Path}
-use Rattle.world_laws.specs.Actors.{Actor, member_takes, member_next, is_over}
+use Rattle.world_laws.specs.Actors.{Actor, ActorCrew, member_takes, member_next, is_over}
 use Rattle.world_laws.specs.Laws.{Always}
 use Rattle.world_laws.specs.Members.{HoldsOfKind}
 use Rattle.world_laws.specs.Openings.{PathPlan, Start, path_begins, opened_world}
 use Rattle.world_laws.specs.StampedBooks.{answer_to}
 use Rattle.world_laws.specs.Writes.{PathView, side_of}
+use Rattle.world_laws.specs.Worlds.{WorldState}
 use Rattle.world_laws.proofs.Keys.AreDrawn.{is_past}
 use Rattle.world_laws.proofs.Rounds.Lifting.{run_lifted, opened_lifted}
 use Rattle.world_laws.proofs.Whole.Ends.{MeansIs, means_so}
@@ -98,7 +99,7 @@ use Rattle.whole_paths.proofs.Waiting.{gone_stays, path_far}
 -- ---- what is still to be done
 
 -- each duty of this side is such a one
-abbrev AllLet : Side → Type 0 → List Duty → Type 0
+abbrev pub AllLet : Side → Type 0 → List Duty → Type 0
 AllLet s X [] = Unit {0}
 AllLet s X (d ∷ ds) = (side_of d ≡ s → Lets X d) × AllLet s X ds
 
@@ -114,7 +115,7 @@ all_free s X [] is = tt
 all_free s X (d ∷ ds) is = let parts = and_parts (is_free d) (list_all is_free ds) is in (λ own. inl parts.0, all_free s X ds parts.1)
 
 -- the edge moves as far as it can, or the path breaks
-abbrev Leads : Side → Duty → List Duty → Type 0
+abbrev pub Leads : Side → Duty → List Duty → Type 0
 Leads s (duties.Ask (ask_duties.Edge t)) ds = (t ≡ s) × AllLet s ⊥ ds
 Leads s (duties.Ask (ask_duties.BreakAck t reason)) ds = t ≡ s
 Leads s (duties.Send (send_duties.BreakReset t reason)) ds = t ≡ s
@@ -122,16 +123,16 @@ Leads s (duties.Send (send_duties.Reset t)) ds = t ≡ s
 Leads s _ ds = ⊥
 
 -- such a duty stands behind others of the same side, none of which sends a segment but a reset
-abbrev Ahead : Side → List Duty → Type 0
+abbrev pub Ahead : Side → List Duty → Type 0
 Ahead s [] = ⊥
 Ahead s (d ∷ ds) = Leads s d ds ⊎ ((side_of d ≡ s) × ((is_silent d ≡ true) × Ahead s ds))
 
 -- an end that has nothing to pass: before its handshake nothing is kept
-record Quiet (c : Profile) (e : PathEnd) : Type 0 where
-  none : next_piece c e ≡ None
-  fresh : stage e.tcp.state ≤ 1 → Bare e
+pub record Quiet (c : Profile) (e : PathEnd) : Type 0 where
+  pub none : next_piece c e ≡ None
+  pub fresh : stage e.tcp.state ≤ 1 → Bare e
 
-data Ready (s : Side) (ds : List Duty) (c : Profile) (e : PathEnd) : Type 0 where
+pub data Ready (s : Side) (ds : List Duty) (c : Profile) (e : PathEnd) : Type 0 where
   is_dead_now : is_gone e ≡ true → Ready s ds c e
   is_quiet : Quiet c e → AllLet s (Bare e) ds → Ready s ds c e
   passes : 2 ≤ stage e.tcp.state → Ahead s ds → Ready s ds c e
@@ -532,11 +533,11 @@ module _ {C : Type 0} where
 
   -- ---- any duty
 
-  abbrev Stands : Side → PathState C → Type 0
+  abbrev pub Stands : Side → PathState C → Type 0
   Stands s p = Ready s p.agenda p.profile (end_at s p)
 
   -- where the check of a mapping comes first, it failed
-  abbrev Checks : List Duty → PathState C → Type 0
+  abbrev pub Checks : List Duty → PathState C → Type 0
   Checks (duties.Ask (ask_duties.CheckFailed t) ∷ ds) p = stands (duties.Ask (ask_duties.CheckFailed t)) p ≡ true
   Checks _ p = Unit {0}
 
@@ -635,8 +636,8 @@ module _ {C : Type 0} where
 
   -- ---- the world
 
-  record IsReady (p : PathState C) : Type 0 where
-    ends : (s : Side) → Stands s p
+  pub record IsReady (p : PathState C) : Type 0 where
+    pub ends : (s : Side) → Stands s p
     checks : Checks p.agenda p
 
   settled_both : (ds : List Duty) (p : PathState C) → ((s : Side) → Ready s ds p.profile (end_at s p)) → IsReady (settled ds p)
@@ -703,7 +704,7 @@ module _ {C : Type 0} where
   begins_ready : (p : PathState C) → ((s : Side) → Ready s start_of_turn p.profile (end_at s p)) → IsReady (begins_turn p)
   begins_ready p h = settled_both start_of_turn (with_agenda start_of_turn p) h
 
-  abbrev ReadyMember : Actor C → Type 0
+  abbrev pub ReadyMember : Actor C → Type 0
   ReadyMember = HoldsOfKind (λ app. Unit {0}) IsReady
 
   member_takes_ready : (k : Codec C) (r : Reply) (m : Actor C) → ReadyMember m → ReadyMember (member_takes k r m)
@@ -718,9 +719,16 @@ module _ {C : Type 0} where
   member_so (App a) h = tt
   member_so (Path p) h = λ s living. record { over = λ over. over_so s p (h.ends s) over living; sends = sends_so s p (h.ends s) living }
 
-  pub what_is_in_order_is_passed : (k : Codec C) → Always k (λ start w. WhatIsInOrderIsPassed w)
-  what_is_in_order_is_passed k start turns = record {
-    each = λ actor c there. member_so c.member ((run_lifted k (λ c. ReadyMember c.member) (λ books c x asks h. member_takes_ready k (answer_to books x) c.member h)
+  -- on each path
+  pub record EachIsReady (w : WorldState C) : Type 0 where
+    pub each : (actor : ℕ) (c : ActorCrew C) → slice_get w.crew actor ≡ Some c → ReadyMember c.member
+
+  pub each_is_ready : (k : Codec C) → Always k (λ start w. EachIsReady w)
+  each_is_ready k start turns = record {
+    each = (run_lifted k (λ c. ReadyMember c.member) (λ books c x asks h. member_takes_ready k (answer_to books x) c.member h)
         (λ stamp c over h. member_begins c.member over h) turns (opened_world start)
-        (opened_lifted (λ c. ReadyMember c.member) start tt tt (λ number plan there. begins_ready (waiting_path (path_begins start number plan) start.lines) (first_ready C number start plan)))).each actor c there);
+        (opened_lifted (λ c. ReadyMember c.member) start tt tt (λ number plan there. begins_ready (waiting_path (path_begins start number plan) start.lines) (first_ready C number start plan)))).each;
   }
+
+  pub what_is_in_order_is_passed : (k : Codec C) → Always k (λ start w. WhatIsInOrderIsPassed w)
+  what_is_in_order_is_passed k start turns = record { each = λ actor c there. member_so c.member ((each_is_ready k start turns).each actor c there) }

@@ -1,4 +1,4 @@
--- Where a round is over an end has passed each first record that came whole: its octets are kept, with their mapping.
+-- Where a round is over an end has passed each record that came whole: its octets are kept, with their mapping.
 use Rattle.std.proofs.Common.{◌≡◌, subst, ap, ◌⊎◌, ⊎_elim, ℕ, ◌<◌, ◌≤◌, arith, is_some, Some, List, [], le_refl}
 use Rattle.std.specs.Prelude.{IsSome}
 use Rattle.std.specs.List.{slice_get}
@@ -16,11 +16,12 @@ use Rattle.path_core.specs.State.{PathState, end_at}
 use Rattle.path_core.specs.Values.{Carried, values}
 use Rattle.world_laws.specs.Actors.{ActorCrew}
 use Rattle.world_laws.specs.Members.{HoldsOfKind}
+use Rattle.world_laws.specs.Openings.{Start}
 use Rattle.world_laws.specs.RoundDone.{reached}
+use Rattle.world_laws.specs.Worlds.{Turn}
 use Rattle.whole_paths.specs.Brought.{IsThere, IsToKeep}
 use Rattle.whole_paths.specs.Brought.{IsThere as is_there}
 use Rattle.whole_paths.specs.Came.{HasCome}
-use Rattle.whole_paths.specs.Flights.{IsFirst}
 use Rattle.whole_paths.specs.InHand.{IsPartial}
 use Rattle.whole_paths.specs.InTime.{ComesFrom}
 use Rattle.whole_paths.specs.Mapped.{EndsAreLive, IsMapped, IsToLearn}
@@ -28,10 +29,11 @@ use Rattle.whole_paths.specs.Mapped.{IsMapped as is_mapped}
 use Rattle.whole_paths.specs.Mending.{IsAllThereOf, IsThereBy}
 use Rattle.whole_paths.specs.Mending.{IsThereBy as there_by}
 use Rattle.whole_paths.specs.Mild.{EndsGoByMappings}
+use Rattle.whole_paths.specs.OpenCourses.{IsOpenAfter}
 use Rattle.whole_paths.specs.Passed.{HasPassed}
-use Rattle.whole_paths.specs.RecordsPassed.{FirstRecordsArePassed}
+use Rattle.whole_paths.specs.RecordsPassed.{FirstRecordsArePassed, WholeRecordsArePassed}
 use Rattle.whole_paths.specs.Straying.{IsOpen}
-use Rattle.whole_paths.specs.WholeMappings.{NoneIsPartial}
+use Rattle.whole_paths.specs.WholeMappings.{HasRecord, NoneIsPartial}
 use Rattle.whole_paths.proofs.Acking.{piece_some}
 use Rattle.whole_paths.proofs.Came.{what_is_acknowledged_came}
 use Rattle.whole_paths.proofs.Exchanges.{all_at}
@@ -42,18 +44,13 @@ use Rattle.whole_paths.proofs.Passing.{what_is_in_order_is_passed}
 use Rattle.whole_paths.proofs.Reached.{EndsAreReached, each_is_reached, first_reached}
 use Rattle.whole_paths.proofs.WholeMappings.{first_has, mappings_are_whole}
 
-module _ (p : PathState Carried) (over : p.agenda ≡ []) (is_open : IsOpen p) (past : ComesFrom p.until p) (reached_p : EndsAreReached p) (came : HasCome p) (live : EndsAreLive p) (mapped : EndsGoByMappings p)
-    (passed : HasPassed p) (whole : NoneIsPartial p) (s : Side) (r : Record) (first : IsFirst r (end_at s p)) (data_is : r.kind ≡ Data) where
+module _ (p : PathState Carried) (over : p.agenda ≡ []) (is_open : IsOpen p) (past : ComesFrom p.until p) (live : EndsAreLive p) (mapped : EndsGoByMappings p)
+    (passed : HasPassed p) (whole : NoneIsPartial p) (s : Side) (r : Record) (is_one : HasRecord r (end_at s p)) (data_is : r.kind ≡ Data) (begins_before : r.pos ≤ (end_at (peer s) p).tcp.recv.edge) where
   abbrev t : Side
   t = peer s
 
   abbrev edge : ℕ
   edge = (end_at t p).tcp.recv.edge
-
-  -- SND.UNA isn't before the record, nor is the peer's RCV.NXT
-  begins_before : r.pos ≤ edge
-  begins_before =
-      let low = first_reached (end_at s p).tcp first.first first.others (reached_p s) first.records in let at = first.same.pos in let more = came.una s (is_open.living s) in omega (arith, low, at, more)
 
   none_to_keep : IsToKeep t p.agenda → ⊥
   none_to_keep h = subst (IsToKeep t) over h
@@ -86,7 +83,7 @@ module _ (p : PathState Carried) (over : p.agenda ≡ []) (is_open : IsOpen p) (
     not_behind : ⊥
     not_behind = ⊎_elim
         (λ fails. both_ways (is_some (failing_mapping p.profile (end_at t p))) (ap is_some (mapped t).right) fails)
-        (λ partial. whole s r (first_has r (end_at s p) first) data_is partial)
+        (λ partial. whole s r is_one data_is partial)
         hinders
 
   -- no copy of it is under way that was to come in this round
@@ -99,18 +96,38 @@ module _ (p : PathState Carried) (over : p.agenda ≡ []) (is_open : IsOpen p) (
   pub is_passed : (by : ℕ) → by < p.until → IsThereBy s r by p → end_of r ≤ edge
   is_passed by early h = ⊎_elim (λ behind. absurd (not_behind (all_there by early h) behind)) (λ low. low) (cases_lt edge (end_of r))
 
-pub first_records_are_passed : FirstRecordsArePassed
-first_records_are_passed start turns mild h over s r first data_is by early soon = is_passed h.path over h.is_open
-    (of_path (λ p. p.agenda ≡ [] → ComesFrom p.until p) ((nothing_is_overdue values start turns).over 2 crew there) over) (of_path EndsAreReached ((each_is_reached values start turns).each 2 crew there))
-    (of_path HasCome ((what_is_acknowledged_came start turns).each 2 crew there)) (of_path EndsAreLive (((what_is_told_is_known values).live start turns).each 2 crew there))
-    (of_path EndsGoByMappings ((mapping_is_kept start turns mild).each 2 crew there)) (of_path HasPassed ((what_is_in_order_is_passed values start turns).each 2 crew there))
-    (of_path NoneIsPartial (mappings_are_whole start turns mild crew there)) s r first data_is by early soon
+module _ (start : Start) (turns : List Turn) (h : IsOpenAfter start turns) where
+  abbrev crew : ActorCrew Carried
+  crew = h.here.crew
+
+  there : slice_get (reached values start turns).crew 2 ≡ Some crew
+  there = h.here.there
+
+  of_path : (P : PathState Carried → Type 0) → HoldsOfKind (λ app. Unit {0}) P crew.member → P h.path
+  of_path P held = subst (HoldsOfKind (λ app. Unit {0}) P) h.here.is held
+
+pub whole_records_are_passed : WholeRecordsArePassed
+whole_records_are_passed start turns mild h over s r is_one data_is begins by early soon = is_passed h.path over h.is_open
+    (at (λ p. p.agenda ≡ [] → ComesFrom p.until p) ((nothing_is_overdue values start turns).over 2 one is) over)
+    (at EndsAreLive (((what_is_told_is_known values).live start turns).each 2 one is)) (at EndsGoByMappings ((mapping_is_kept start turns mild).each 2 one is))
+    (at HasPassed ((what_is_in_order_is_passed values start turns).each 2 one is)) (at NoneIsPartial (mappings_are_whole start turns mild one is)) s r is_one data_is begins by early soon
   where
-    crew : ActorCrew Carried
-    crew = h.here.crew
+    one : ActorCrew Carried
+    one = crew start turns h
 
-    there : slice_get (reached values start turns).crew 2 ≡ Some crew
-    there = h.here.there
+    is : slice_get (reached values start turns).crew 2 ≡ Some one
+    is = there start turns h
 
-    of_path : (P : PathState Carried → Type 0) → HoldsOfKind (λ app. Unit {0}) P crew.member → P h.path
-    of_path P held = subst (HoldsOfKind (λ app. Unit {0}) P) h.here.is held
+    at : (P : PathState Carried → Type 0) → HoldsOfKind (λ app. Unit {0}) P one.member → P h.path
+    at = of_path start turns h
+
+-- SND.UNA isn't before the first record, nor is the peer's RCV.NXT
+pub first_records_are_passed : FirstRecordsArePassed
+first_records_are_passed start turns mild h over s r first data_is by early soon = whole_records_are_passed start turns mild h over s r (first_has r (end_at s h.path) first) data_is begins by early soon
+  where
+    begins : r.pos ≤ (end_at (peer s) h.path).tcp.recv.edge
+    begins =
+        let low = first_reached (end_at s h.path).tcp first.first first.others (of_path start turns h EndsAreReached ((each_is_reached values start turns).each 2 (crew start turns h) (there start turns h)) s) first.records in
+        let at = first.same.pos in
+        let more = (of_path start turns h HasCome ((what_is_acknowledged_came start turns).each 2 (crew start turns h) (there start turns h))).una s (h.is_open.living s) in
+        omega (arith, low, at, more)

@@ -1,4 +1,4 @@
--- A record that comes by a tick is there as the round is over in which that lies, and passed if it is the first one.
+-- A record that comes by a tick is there as the round is over in which that lies, and passed if no octet before it is missing.
 use Rattle.std.specs.Prelude.{ℕ, ◌≡◌, ◌<◌, ◌≤◌, ◌⊎◌, List, []}
 use Rattle.sides.specs.declared.side.Side.{Side}
 use Rattle.sides.specs.Side.{peer}
@@ -13,6 +13,14 @@ use Rattle.whole_paths.specs.Kept.{IsSameRecord}
 use Rattle.whole_paths.specs.Mending.{IsAllThereOf, IsOpenTurn, IsRecordOf, IsThereBy}
 use Rattle.whole_paths.specs.Mild.{IsMildStart}
 use Rattle.whole_paths.specs.OpenCourses.{IsOpenAfter}
+use Rattle.whole_paths.specs.WholeMappings.{HasRecord}
+
+-- On path 0 of a mild connection, whose ends are open and whose turn is over: a record of a side, which came to the peer or was to come by a tick of
+-- this round, and begins at the peer's RCV.NXT or before it, lies below it.
+abbrev pub WholeRecordsArePassed : Type 0
+WholeRecordsArePassed = (start : Start) (turns : List Turn) → IsMildStart start → (h : IsOpenAfter start turns) → h.path.agenda ≡ []
+    → (s : Side) (r : Record) → HasRecord r (end_at s h.path) → r.kind ≡ Data → r.pos ≤ (end_at (peer s) h.path).tcp.recv.edge
+    → (by : ℕ) → by < h.path.until → IsThereBy s r by h.path → end_of r ≤ (end_at (peer s) h.path).tcp.recv.edge
 
 -- On path 0 of a mild connection, whose ends are open and whose turn is over: the first record of a side, which came to the peer or was to come by a
 -- tick of this round, lies below the peer's RCV.NXT.

@@ -41,7 +41,7 @@ ghost use Rattle.whole_paths.specs.Pushed.{WhatHasRoomIsSent, WhatIsUnsentWaitsF
 ghost use Rattle.whole_paths.specs.Received.{HoldsOfOnlyPaths};
 ghost use Rattle.whole_paths.specs.RecordWaits.{NoRoundCounts, RecordsAreAwaitedAlways};
 ghost use Rattle.whole_paths.specs.SegmentRounds.{ASegmentIsRead, EachRoundReads, EachRoundWrites, FourRoundsBring, FourRoundsTell};
-ghost use Rattle.whole_paths.specs.RecordsPassed.{FirstRecordsArePassed, RecordsComeInTime};
+ghost use Rattle.whole_paths.specs.RecordsPassed.{FirstRecordsArePassed, RecordsComeInTime, WholeRecordsArePassed};
 ghost use Rattle.whole_paths.specs.SenderWaits.{SendersAreAwaited};
 ghost use Rattle.whole_paths.specs.SentInOrder.{EachIsSentInOrder};
 ghost use Rattle.whole_paths.specs.ShortWaits.{WhatIsNotOwedIsWell};
@@ -581,6 +581,13 @@ pub fn lost_records_are_mended()
 /// no such wait ends before the round does.
 pub fn lost_records_are_awaited()
     ensures { LostRecordsAreAwaited }
+{}
+
+/// A law: where a turn is over, a record that came whole, and begins at RCV.NXT or before it, lies below it (RFC 9293, section 3.10.7.4).
+///
+/// It is said of a record of data on path 0 of a mild connection between open ends, which came, or was to come by a tick of the round that ends.
+pub fn whole_records_are_passed()
+    ensures { WholeRecordsArePassed }
 {}
 
 /// A law: where a turn is over, the first record of a side that came whole lies below the peer's RCV.NXT (RFC 9293, section 3.10.7.4).

@@ -82,6 +82,7 @@ pub use delivery_laws::who_is_told_has_all;
 pub use delivery_laws::who_waits_for_nothing_goes_on;
 pub use delivery_laws::whole_paths_deliver;
 pub use delivery_laws::whole_paths_stay_whole;
+pub use delivery_laws::whole_records_are_passed;
 pub use delivery_laws::windows_are_awaited_always;
 pub use laws::a_copy_leaves_by_arriving;
 pub use laws::clear_ends_are_past;
