@@ -131,3 +131,4 @@ pub mod Rising
 pub mod FirstSigns
 pub mod SignWaits
 pub mod OpeningCourses
+pub mod UnaSaid
