@@ -72,7 +72,7 @@ use Rattle.path_core.specs.Profile.{Profile}
 use Rattle.path_core.specs.Standing.{answered_ack_out, after_ack_out}
 use Rattle.path_core.specs.Start.{waiting_path}
 use Rattle.path_core.specs.State.{PathState, at_tick, end_at, goes_on, with_agenda}
-use Rattle.path_core.specs.Steps.{settled, takes, begins_turn}
+use Rattle.path_core.specs.Steps.{settled, takes, begins_turn, next_round}
 use Rattle.path_core.specs.Timer.{after_firing, timer_fired}
 use Rattle.path_core.specs.Treated.{Treated}
 use Rattle.path_core.specs.Treating.{item_passed, answered_heard, answered_item, item_of}
@@ -97,6 +97,9 @@ use Rattle.world_laws.proofs.Worlds.Finding.{find_every, one_side}
 use Rattle.world_laws.proofs.Writes.Paths.{writes_no_more, passes_no_more}
 use Rattle.world_laws.proofs.Writes.Steps.{Lasts, unwritten, both_ends, settled_lasts}
 use Rattle.whole_paths.specs.AgendaSteps.{is_gone}
+use Rattle.whole_paths.specs.Copies.{IsUnderWay}
+use Rattle.whole_paths.specs.UnaSaid.{EachUnaIsSaid, UnaFrom, UnasAreSaid}
+use Rattle.whole_paths.specs.UnaSaid.{UnaFrom as una_from}
 use Rattle.whole_paths.specs.Came.{AcksUpTo, AcksWhatCame, HasCome, WhatIsAcknowledgedCame}
 use Rattle.whole_paths.specs.EndSteps.{PathStep}
 use Rattle.whole_paths.specs.Saying.{SaysWhatCame}
@@ -107,6 +110,7 @@ use Rattle.whole_paths.proofs.Duties.{passed_steps, answered_steps}
 use Rattle.whole_paths.proofs.Pieces.{is_event}
 use Rattle.whole_paths.proofs.Saying.{ToSend, AllSay, duty_so}
 use Rattle.whole_paths.proofs.Settling.{sides}
+use Rattle.whole_paths.proofs.Turns.{turn_by}
 use Rattle.whole_paths.proofs.Waiting.{Far, far_then, same_far, gone_stays, path_far}
 
 -- ---- copies
@@ -669,3 +673,138 @@ what_is_acknowledged_came start turns = record {
       (λ stamp c over h. member_begins c.member h) turns (opened_world start)
       (opened_lifted (λ c. CameMember c.member) start tt tt (λ number plan there. begins_came (waiting_path (path_begins start number plan) start.lines) (first_came number start plan)))).each actor c there);
 }
+
+-- ---- SND.UNA by a turn
+
+una_so : (s : Side) (p q : PathState Carried) → Rests (end_at s p) (end_at s q) → UnaFrom s p q
+una_so s p q rest = ⊎_elim (λ dead. una_from.gone dead) (λ same. una_from.stays same) rest.una
+
+una_then : (s : Side) (p q r : PathState Carried) → UnaFrom s p q → Both (end_at s q) (end_at s r) → UnaFrom s p r
+una_then s p q r (una_from.gone dead) more = una_from.gone (gone_stays (end_at s q) (end_at s r) more.far dead)
+una_then s p q r (una_from.stays same) more = ⊎_elim (λ dead. una_from.gone dead) (λ still. una_from.stays (still ∙ same)) more.rest.una
+una_then s p q r (una_from.comes copy there to rst acks) more =
+    ⊎_elim (λ dead. una_from.gone dead) (λ still. una_from.comes copy there to rst (acks ∙ ap (λ n. Some n) (sym still))) more.rest.una
+
+line_rest : (action : LineAction) (p : PathState Carried) → AllRest p (after_line action p)
+line_rest actions.Die p = record { a = died_rests p.a; b = died_rests p.b }
+line_rest (actions.Prio s backup) p = calm s (with_priority backup (end_at s p)) p _ refl refl refl refl
+line_rest (actions.Announce s id) p = stay p _ refl refl
+line_rest (actions.Withdraw s id) p = stay p _ refl refl
+
+-- a copy that arrives
+module _ (s : Side) (f : Flight Carried) (p : PathState Carried) where
+  abbrev arrived_at_end : HeardSegment
+  arrived_at_end = options_heard (end_at s p) (meant (as_arrived f.carried))
+
+  abbrev end_then : PathEnd
+  end_then = after_judged p.profile s p.clock arrived_at_end (judged_in (is_joined p.profile) s arrived_at_end (end_at s p)) (end_at s p)
+
+  una_heard : Unas (copy_of arrived_at_end) (end_at s p) end_then
+  una_heard = heard_una p.profile s p.clock arrived_at_end (end_at s p) (taken_as (judged_in (is_joined p.profile) s arrived_at_end (end_at s p)))
+      (judged_taken arrived_at_end.rst (items_of (is_joined p.profile) s arrived_at_end) (end_at s p) (λ n. Acks (copy_of arrived_at_end) n) tt (is_joined p.profile) (meaning_of (copy_of arrived_at_end) (end_at s p).tcp) (acks_of (copy_of arrived_at_end) (end_at s p).tcp _ refl))
+
+  abbrev path_then : PathState Carried
+  path_then = copy_heard s (Some (meant (as_arrived f.carried))) p
+
+  -- what the copy is taken to acknowledge it acknowledges
+  said_so : (n : ℕ) → (copy_of arrived_at_end).acknowledged ≡ Some n → f.carried.segment.acknowledged ≡ Some n
+  said_so n acks = by f.carried.segment.acknowledged acks
+    where
+      by : (o : Option ℕ) → acknowledged_in (option_map (λ n. At n) o) ≡ Some n → o ≡ Some n
+      by None is = cc
+      by (Some a) is = ap (λ n. Some n) (same_Some a n is)
+
+  copy_una : (q : PathState Carried) → IsUnderWay f q → f.to ≡ s → ((t : Side) → (end_at t p).tcp.send.una ≡ (end_at t q).tcp.send.una) → (t : Side) → UnaFrom t q path_then
+  copy_una q there to same t = by (sides t s)
+    where
+      other : (s t : Side) (a b g : PathEnd) → peer s ≡ t → pick t (pick s g a) (pick s b g) ≡ pick t a b
+      other A A a b g is = cc
+      other A B a b g is = refl
+      other B A a b g is = refl
+      other B B a b g is = cc
+
+      own : (end_at s path_then) ≡ end_then
+      own = own_end s end_then p.a p.b
+
+      of_own : Unas (copy_of arrived_at_end) (end_at s p) end_then → UnaFrom s q path_then
+      of_own (unmoved is) = una_from.stays (ap (λ (e : PathEnd). e.tcp.send.una) own ∙ is ∙ same s)
+      of_own (acked n acks rst is) = una_from.comes f there to rst (said_so n acks ∙ ap (λ n. Some n) (sym (ap (λ (e : PathEnd). e.tcp.send.una) own ∙ is)))
+      of_own (killed dead) = una_from.gone (ap is_gone own ∙ dead)
+
+      by : (s ≡ t) ⊎ (peer s ≡ t) → UnaFrom t q path_then
+      by (inl is) = subst (λ t. UnaFrom t q path_then) is (of_own una_heard)
+      by (inr away) = una_from.stays (ap (λ (e : PathEnd). e.tcp.send.una) (other s t p.a p.b end_then away) ∙ same t)
+
+event_una : (o : Option Event) (r : Reply) (p : PathState Carried) (s : Side) → UnaFrom s p (happens_if values o r p)
+event_una None r p s = una_so s p (happens_if values None r p) (at_end (stay p (happens_if values None r p) refl refl) s)
+event_una (Some (happenings.Joins tick)) r p s =
+    let begun = begun_rests r (leaves A) (emission A) (record (at_tick tick p) { joined_at = None }) in
+    una_so s p (happens_if values (Some (happenings.Joins tick)) r p) (by begun s)
+  where
+    by : AllRest (record (at_tick tick p) { joined_at = None }) (happens_if values (Some (happenings.Joins tick)) r p) → (s : Side) → Rests (end_at s p) (end_at s (happens_if values (Some (happenings.Joins tick)) r p))
+    by begun A = begun.a
+    by begun B = begun.b
+event_una (Some (happenings.Takes line)) r p s = una_so s p (happens_if values (Some (happenings.Takes line)) r p) (by (line_rest line.action (record (at_tick line.tick p) { lines = tail_of p.lines })) s)
+  where
+    by : AllRest (record (at_tick line.tick p) { lines = tail_of p.lines }) (happens_if values (Some (happenings.Takes line)) r p) → (s : Side) → Rests (end_at s p) (end_at s (happens_if values (Some (happenings.Takes line)) r p))
+    by rest A = rest.a
+    by rest B = rest.b
+event_una (Some (happenings.Arrives due)) r p s = by (arriving due p.link) refl
+  where
+    x : PathState Carried
+    x = record (at_tick due.tick p) { link = after_delivery due p.link }
+
+    same : (t : Side) → (end_at t x).tcp.send.una ≡ (end_at t p).tcp.send.una
+    same A = refl
+    same B = refl
+
+    each_there : Every (λ g. IsUnderWay g p) p.link.under_way
+    each_there = record { each = λ i g there. record { at = i; item = g; there = there; holds = refl } }
+
+    nothing : (t : Side) → UnaFrom t p (copy_heard due.to None x)
+    nothing A = una_so A p (copy_heard due.to None x) (stay x (copy_heard due.to None x) refl refl).a
+    nothing B = una_so B p (copy_heard due.to None x) (stay x (copy_heard due.to None x) refl refl).b
+
+    by : (o : Option (Flight Carried)) → arriving due p.link ≡ o → UnaFrom s p (copy_heard due.to (heard_in values due.to o p) x)
+    by None is = nothing s
+    by (Some f) is =
+        let found = find_every (λ g. IsUnderWay g p) (is_due due) p.link.under_way f each_there is in
+        let parts = and_parts (f.tick == due.tick) (same_side f.to due.to && f.number == due.copy) found.1 in
+        let to = one_side f.to due.to (and_parts (same_side f.to due.to) (f.number == due.copy) parts.1).0 in
+        copy_una due.to f x p found.0 to same s
+event_una (Some (happenings.Fires t tick)) r p s =
+    una_so s p (timer_fired t (at_tick tick p)) (at_end (side t (after_firing (at_tick tick p).clock (end_at t p)) p (timer_fired t (at_tick tick p)) (fired_rests (at_tick tick p).clock (end_at t p)) refl refl) s)
+
+duty_una : (d : Duty) (ds : List Duty) (r : Reply) (p : PathState Carried) (s : Side) → UnaFrom s (with_agenda (d ∷ ds) p) (answered values d r (with_agenda (d ∷ ds) p))
+duty_una (duties.Step step_duties.Events) ds r p s = let x : PathState Carried = with_agenda (duties.Step step_duties.Events ∷ ds) p in event_una (next_event x) r x s
+duty_una d ds r p s = let x : PathState Carried = with_agenda (d ∷ ds) p in una_so s x (answered values d r x) (at_end (answered_rest values d r x refl) s)
+
+takes_una : (r : Reply) (p : PathState Carried) (s : Side) → UnaFrom s p (takes values r p)
+takes_una r p s = by p.agenda
+  where
+    by : (ds : List Duty) → UnaFrom s (with_agenda ds p) (takes values r (with_agenda ds p))
+    by [] = una_from.stays refl
+    by (d ∷ ds) =
+        let x : PathState Carried = with_agenda (d ∷ ds) p in
+        let q : PathState Carried = answered values d r x in
+        una_then s x q (settled q.agenda q) (duty_una d ds r p s) (settled_lasts AllBoth both_last q.agenda q s)
+
+next_una : (p : PathState Carried) (s : Side) → UnaFrom s p (next_round p)
+next_una p s = let x : PathState Carried = with_agenda start_of_turn (record p { clock = p.until; until = p.until + 100 }) in
+    una_then s p x (settled start_of_turn x) (una_from.stays refl) (settled_lasts AllBoth both_last start_of_turn x s)
+
+member_una : (r : Reply) (m : Actor Carried) → UnasAreSaid m (member_takes values r m)
+member_una r (App a) = tt
+member_una r (Path p) = λ s. takes_una r p s
+
+member_una_next : (m : Actor Carried) → UnasAreSaid m (member_next m)
+member_una_next (App a) = tt
+member_una_next (Path p) = λ s. next_una p s
+
+member_una_stays : (m : Actor Carried) → UnasAreSaid m m
+member_una_stays (App a) = tt
+member_una_stays (Path p) = λ s. una_from.stays refl
+
+pub each_una_is_said : EachUnaIsSaid
+each_una_is_said w turn = turn_by values (λ books c d. UnasAreSaid c.member d.member) (λ books c. member_una_stays c.member)
+    (λ books ask c asks. member_una (answer_to books ask) c.member) (λ books stamp c over. member_una_next c.member) turn w

@@ -26,8 +26,9 @@ use Rattle.whole_paths.specs.EndRounds.{AnEndIsTold, EndIsKnown, FinIsSent, IsCl
 use Rattle.whole_paths.specs.Finish.{IsPathAt}
 use Rattle.whole_paths.specs.KnownEnds.{ClosedIsAcknowledged, EndIsAcknowledged, WaitsForNoEnd}
 use Rattle.whole_paths.specs.Mild.{EndsGoByMappings, GoesByMappings}
+use Rattle.whole_paths.specs.Mending.{IsMended}
 use Rattle.whole_paths.specs.OnePathScripts.{BeginsWithOnePath}
-use Rattle.whole_paths.specs.SegmentRounds.{IsRound, NothingIsToMend, Rounds, read_after}
+use Rattle.whole_paths.specs.SegmentRounds.{IsRound, Rounds, read_after}
 use Rattle.whole_paths.specs.Writers.{GoesOnWriting}
 use Rattle.whole_paths.proofs.DataLeft.{what_is_left_is_data}
 use Rattle.whole_paths.proofs.FinishedThere.{what_is_finished_is_there}
@@ -42,7 +43,7 @@ known_so : (o : Option ℕ) (n : ℕ) → o ≡ Some n → is_some o ≡ true
 known_so o n is = ap (λ x. is_some x) is
 
 module _ (start : Start) (plan : PathPlan) (x : BeginsWithOnePath start plan) (s : Side) (v a b u : List Turn)
-    (first : Rounds start 5 v a) (second : Rounds start 2 a b) (third : Rounds start 4 b u) (p : PathState Carried) (here : IsPathAt 0 (reached values start v) p) (mended : NothingIsToMend p)
+    (first : Rounds start 5 v a) (second : Rounds start 2 a b) (third : Rounds start 4 b u) (p : PathState Carried) (here : IsPathAt 0 (reached values start v) p) (mended : IsMended p)
     (all_read : length (pick s start.file_a start.file_b) ≤ read_after start s v) (all_acked : length (pick s start.file_a start.file_b) ≤ acked_len (written_by s (reached values start a)).marks)
     (comes : FinIsSent start s b → EndIsKnown start s u) where
   abbrev total : ℕ

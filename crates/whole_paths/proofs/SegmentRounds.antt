@@ -41,14 +41,14 @@ use Rattle.whole_paths.specs.Delivery.{FinishedIsThere, HasFinished, IsAllThere}
 use Rattle.whole_paths.specs.Finish.{IsPathAt}
 use Rattle.whole_paths.specs.Kept.{AreKept, EndsKeepWhatWaits, IsSameRecord, KeepsWhatWaits}
 use Rattle.whole_paths.specs.Mapped.{EndsAreLive, IsMapped, IsToLearn}
-use Rattle.whole_paths.specs.Mending.{IsAllThereOf, IsThereBy, IsToldBy, IsToldSoon, IsWell}
+use Rattle.whole_paths.specs.Mending.{IsAllThereOf, IsMended, IsThereBy, IsToldBy, IsToldSoon, IsWell}
 use Rattle.whole_paths.specs.Mending.{IsThereBy as there_by, IsToldBy as told_by, IsToldSoon as told_soon, IsWell as well_by}
 use Rattle.whole_paths.specs.Mild.{EndsGoByMappings}
 use Rattle.whole_paths.specs.OnePathScripts.{BeginsWithOnePath}
 use Rattle.whole_paths.specs.OpenCourses.{IsOpenAfter}
 use Rattle.whole_paths.specs.Passed.{HasPassed}
 use Rattle.whole_paths.specs.PositionCounts.{CountsBytes}
-use Rattle.whole_paths.specs.SegmentRounds.{FourRoundsBring, FourRoundsTell, NothingIsToMend, Rounds}
+use Rattle.whole_paths.specs.SegmentRounds.{FourRoundsBring, FourRoundsTell, Rounds}
 use Rattle.whole_paths.specs.SentInOrder.{sent_before, sent_up_to}
 use Rattle.whole_paths.specs.Straying.{IsOpen}
 use Rattle.whole_paths.specs.WholeMappings.{HasRecord, NoneIsPartial}
@@ -253,7 +253,7 @@ module _ (start : Start) (plan : PathPlan) (x : BeginsWithOnePath start plan) wh
             (λ on. inl (record { at = on.at; item = on.item; there = on.there; holds = same_then r item on.item has.holds on.holds }, there))
             (kept_one _ (end_at s p).tcp.send.records (end_at s q).tcp.send.records kept.records has.at item has.there)
 
-  module _ (v u : List Turn) (rounds : Rounds start 4 v u) (s : Side) (p q : PathState Carried) (here : IsPathAt 0 (at v) p) (there : IsPathAt 0 (at u) q) (mended : NothingIsToMend p) where
+  module _ (v u : List Turn) (rounds : Rounds start 4 v u) (s : Side) (p q : PathState Carried) (here : IsPathAt 0 (at v) p) (there : IsPathAt 0 (at u) q) (mended : IsMended p) where
     abbrev r : Side
     r = peer s
 

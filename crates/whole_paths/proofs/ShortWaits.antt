@@ -1,12 +1,6 @@
 -- Short waits: as a round begins in which nothing is to be mended one begins; where debts come meanwhile the wait becomes a long one.
-use Rattle.std.specs.List.{slice_get}
-use Rattle.std.proofs.Common.{◌≡◌, refl, sym, subst, ap, ◌∙◌, ◌⊎◌, inl, inr, ⊎_elim, ℕ, zero, suc, ◌+◌, ◌-◌, ◌*◌, Some, length, ◌<◌, ◌≤◌, arith, List, [], ◌∷◌, ◌++◌, le_refl}
+use Rattle.std.proofs.Common.{◌≡◌, refl, sym, subst, ap, ◌∙◌, ◌⊎◌, inl, inr, ⊎_elim, ℕ, zero, suc, ◌+◌, ◌-◌, ◌<◌, ◌≤◌, arith, List, [], ◌∷◌, ◌++◌, le_refl}
 use Rattle.std.proofs.lemmas.Bool.{cases_lt}
-use Rattle.sides.specs.declared.side.Side.{Side}
-use Rattle.sides.specs.declared.side.Side.TheVariants.{A, B}
-use Rattle.sides.specs.Side.{peer}
-use Rattle.stream_lanes.specs.Words.{Every}
-use Rattle.path_core.specs.State.{end_at}
 use Rattle.path_core.specs.Values.{values}
 use Rattle.world_laws.specs.Openings.{PathPlan, Start, opened_world}
 use Rattle.world_laws.specs.RoundDone.{reached}
@@ -18,13 +12,9 @@ use Rattle.whole_paths.specs.Debts.AwaitsEither.{short, long}
 use Rattle.whole_paths.specs.Debts.{AwaitsEvent as awaits}
 use Rattle.whole_paths.specs.Delivery.{AllIsThere}
 use Rattle.whole_paths.specs.GoingOn.{steps_of}
-use Rattle.whole_paths.specs.Mending.{IsToldSoon, IsWell}
 use Rattle.whole_paths.specs.OnePathScripts.{BeginsWithOnePath}
 use Rattle.whole_paths.specs.OpenCourses.{IsOpenAfter}
 use Rattle.whole_paths.specs.PaidRounds.{AWaitBegins}
-use Rattle.whole_paths.specs.SegmentRounds.{IsWellAfter}
-use Rattle.whole_paths.specs.Unmended.{AreWellBut, OwesBy}
-use Rattle.whole_paths.specs.Unmended as unmended
 use Rattle.whole_paths.specs.ShortWaits.{ExchangesGoOnSo, IsTimed, MakesUnits, UnitsAreAwaited, WaitsForAUnit, WhatIsNotOwedIsWell}
 use Rattle.whole_paths.specs.ShortWaits.{IsTimed as times}
 use Rattle.whole_paths.specs.SharpCourses.{most_units, price, top, units}
@@ -32,6 +22,7 @@ use Rattle.whole_paths.specs.UnitRounds.{WaitsGoOn, WaitsSince, WellRounds}
 use Rattle.whole_paths.proofs.Courses.{harmed_append, round_next, round_step}
 use Rattle.whole_paths.proofs.Debts.{sharp_by_debts}
 use Rattle.whole_paths.proofs.SegmentsRead.{units_up}
+use Rattle.whole_paths.proofs.Unmended.{none_owed}
 use Rattle.whole_paths.proofs.UnitRounds.{all_units_are_there, goes_on, unit_so}
 
 module _ (start : Start) (plan : PathPlan) (most : ℕ) (Owes : ℕ → List Turn → Type 0) (Mends : ℕ → ℕ → List Turn → Type 0) (x : BeginsWithOnePath start plan)
@@ -241,33 +232,5 @@ exchanges_go_on_so start plan most Owes Mends x debts well hears = sharp_by_debt
 
 -- ---- where nothing is owed
 
-nowhere : (i : ℕ) (x : ℕ) → slice_get [] i ≡ Some x → ⊥
-nowhere zero x is = cc
-nowhere (suc i) x is = cc
-
-none_owed : (start : Start) (turns : List Turn) (h : unmended.Owes start 0 turns) → ((s : Side) → 2 * h.path.profile.mss ≤ (end_at s h.path).tcp.congestion.reno.window) → (s : Side) → IsWellAfter start s turns
-none_owed start turns h wide s = record {
-  path = h.path;
-  here = h.here;
-  mended = record {
-    records = elim [ A ↦ records A h.owes.by_a h.owes.a (omega (arith, few)) | B ↦ records B h.owes.by_b h.owes.b (omega (arith, few)) ];
-    told = elim [ A ↦ told B h.owes.by_b h.owes.b (omega (arith, few)) | B ↦ told A h.owes.by_a h.owes.a (omega (arith, few)) ];
-  };
-  wide = wide s;
-}
-  where
-    few : h.owes.by_a + h.owes.by_b ≤ 0
-    few = h.owes.few
-
-    records : (t : Side) (n : ℕ) (o : OwesBy t n h.path) → n ≤ 0 → Every (IsWell t h.path) (end_at t h.path).tcp.send.records
-    records t n o low = by o.lost (let few = o.few in omega (arith, few, low)) o.well
-      where
-        by : (lost : List ℕ) → length lost ≤ 0 → AreWellBut t lost h.path → Every (IsWell t h.path) (end_at t h.path).tcp.send.records
-        by [] low well = record { each = λ i r at. ⊎_elim (λ is. is) (λ has. absurd (nowhere has.at has.item has.there)) (well r (record { at = i; item = r; there = at; holds = refl })) }
-        by (position ∷ lost) low well = absurd (omega (arith, low))
-
-    told : (t : Side) (n : ℕ) (o : OwesBy t n h.path) → n ≤ 0 → IsToldSoon (peer t) h.path
-    told t n o low = ⊎_elim (λ soon. soon) (λ one. absurd (let few = o.few in omega (arith, few, low, one))) o.told
-
 pub what_is_not_owed_is_well : WhatIsNotOwedIsWell
-what_is_not_owed_is_well start turns h wide s = none_owed start turns h wide s
+what_is_not_owed_is_well start turns h wide s = record { path = h.path; here = h.here; mended = none_owed h.path h.owes; wide = wide s }

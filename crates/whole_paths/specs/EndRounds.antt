@@ -12,8 +12,9 @@ use Rattle.world_laws.specs.Promises.{arrived_at, written_by}
 use Rattle.world_laws.specs.RoundDone.{reached}
 use Rattle.world_laws.specs.Worlds.{Turn}
 use Rattle.whole_paths.specs.Finish.{IsPathAt}
+use Rattle.whole_paths.specs.Mending.{IsMended}
 use Rattle.whole_paths.specs.OnePathScripts.{BeginsWithOnePath}
-use Rattle.whole_paths.specs.SegmentRounds.{NothingIsToMend, Rounds, read_after}
+use Rattle.whole_paths.specs.SegmentRounds.{Rounds, read_after}
 
 module _ (start : Start) (s : Side) where
   -- the stream of the side is closed after these turns
@@ -38,7 +39,7 @@ pub record AnEndComes (start : Start) (s : Side) (b u : List Turn) : Type 0 wher
 abbrev pub AnEndIsTold : Type 0
 AnEndIsTold = (start : Start) (plan : PathPlan) → BeginsWithOnePath start plan → (s : Side) (v a b u : List Turn)
     → Rounds start 5 v a → Rounds start 2 a b → Rounds start 4 b u
-    → (p : PathState Carried) → IsPathAt 0 (reached values start v) p → NothingIsToMend p
+    → (p : PathState Carried) → IsPathAt 0 (reached values start v) p → IsMended p
     → let file = length (pick s start.file_a start.file_b) in file ≤ read_after start s v
     → file ≤ acked_len (written_by s (reached values start a)).marks
     → (FinIsSent start s b → EndIsKnown start s u) → AnEndComes start s b u

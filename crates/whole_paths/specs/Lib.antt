@@ -133,3 +133,4 @@ pub mod Rising
 pub mod FirstSigns
 pub mod SignWaits
 pub mod OpeningCourses
+pub mod UnaSaid

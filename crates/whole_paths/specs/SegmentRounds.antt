@@ -3,7 +3,6 @@
 use Rattle.std.specs.Prelude.{ℕ, suc, zero, ◌+◌, ◌-◌, ◌*◌, ◌≡◌, ◌≤◌, ◌⊎◌, min, true, List, [], ◌∷◌, ◌++◌, length}
 use Rattle.sides.specs.declared.side.Side.{Side}
 use Rattle.sides.specs.Side.{peer}
-use Rattle.stream_lanes.specs.Words.{Every}
 use Rattle.send_book.specs.State.{acked_len}
 use Rattle.reassembly_book.specs.State.{received}
 use Rattle.actor_desk.specs.Words.{pick}
@@ -16,15 +15,10 @@ use Rattle.world_laws.specs.Worlds.{Turn, all_over}
 use Rattle.whole_paths.specs.Delivery.{IsAllThere}
 use Rattle.whole_paths.specs.Finish.{IsPathAt}
 use Rattle.whole_paths.specs.GoingOn.{steps_of}
-use Rattle.whole_paths.specs.Mending.{IsToldSoon, IsWell}
+use Rattle.whole_paths.specs.Mending.{IsMended, IsToldSoon}
 use Rattle.whole_paths.specs.OnePathScripts.{BeginsWithOnePath}
 use Rattle.whole_paths.specs.OpenCourses.{IsOpenAfter}
 use Rattle.whole_paths.specs.SentInOrder.{sent_up_to}
-
--- Nothing of a path is to be mended: each record of either end is to be sent, or comes soon, and each end is told soon how far its peer is.
-pub record NothingIsToMend (p : PathState Carried) : Type 0 where
-  pub records : (s : Side) → Every (IsWell s p) (end_at s p).tcp.send.records
-  pub told : (s : Side) → IsToldSoon s p
 
 module _ (start : Start) where
   -- path 0 is open after these turns, and after each of the others
@@ -58,7 +52,7 @@ module _ (start : Start) where
   pub record IsWellAfter (s : Side) (turns : List Turn) : Type 0 where
     pub path : PathState Carried
     pub here : IsPathAt 0 (reached values start turns) path
-    pub mended : NothingIsToMend path
+    pub mended : IsMended path
     pub wide : 2 * path.profile.mss ≤ (end_at s path).tcp.congestion.reno.window
 
   -- What the peer could tell of the stream after the first turns is heard after the others: all that its side had received is acknowledged, and
@@ -83,7 +77,7 @@ EachRoundReads = (start : Start) (plan : PathPlan) (v u : List Turn) → BeginsW
 -- In four rounds all comes that is sent, where nothing is to be mended; or all of the stream is there.
 abbrev pub FourRoundsBring : Type 0
 FourRoundsBring = (start : Start) (plan : PathPlan) (v u : List Turn) → BeginsWithOnePath start plan → Rounds start 4 v u → (s : Side)
-    → (p q : PathState Carried) → IsPathAt 0 (reached values start v) p → IsPathAt 0 (reached values start u) q → NothingIsToMend p
+    → (p q : PathState Carried) → IsPathAt 0 (reached values start v) p → IsPathAt 0 (reached values start u) q → IsMended p
     → IsAllThere s (reached values start u) ⊎ (sent_up_to (end_at s p).tcp.send ≤ (end_at (peer s) q).tcp.recv.edge)
 
 -- And the end hears how far the peer was, where it was to be told soon.

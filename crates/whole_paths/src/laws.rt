@@ -72,6 +72,7 @@ ghost use Rattle.whole_paths.specs.Shut.{WhatIsLeftIsPastTheEdge};
 ghost use Rattle.whole_paths.specs.SynAcks.{EachSynAckIsAnswered};
 ghost use Rattle.whole_paths.specs.Syns.{EachSynComes};
 ghost use Rattle.whole_paths.specs.Timers.{TimersRunOut};
+ghost use Rattle.whole_paths.specs.UnaSaid.{EachUnaIsSaid};
 ghost use Rattle.whole_paths.specs.Waits.{NoTimerIsPutOff};
 ghost use Rattle.whole_paths.specs.WholeMappings.{MappingsAreWhole};
 ghost use Rattle.whole_paths.specs.WindowsHeard.{EachWindowCounts};
@@ -789,4 +790,12 @@ pub fn each_first_piece_comes()
 /// that counts; or A sent its FIN, so that all of its stream is with the peer (`goes_on`, `what_is_finished_is_there`).
 pub fn each_syn_ack_is_answered()
     ensures { EachSynAckIsAnswered }
+{}
+
+/// A law: SND.UNA of each end rises by copies alone: what it becomes in a turn a copy acknowledged that was under way to the end (RFC 9293, section
+/// 3.10.7.4).
+///
+/// By each turn it stays as it was, or the end is dead, or such a copy was there, which is no reset. It is said of values.
+pub fn each_acknowledgement_is_said()
+    ensures { EachUnaIsSaid }
 {}

@@ -94,6 +94,7 @@ pub use laws::a_copy_leaves_by_arriving;
 pub use laws::clear_ends_are_past;
 pub use laws::copies_arrive_as_sent;
 pub use laws::each_acknowledgement_counts;
+pub use laws::each_acknowledgement_is_said;
 pub use laws::each_ask_is_answered;
 pub use laws::each_confirmation_counts;
 pub use laws::each_copy_is_answered_at_once;
