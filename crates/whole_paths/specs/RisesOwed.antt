@@ -14,7 +14,8 @@ use Rattle.whole_paths.specs.Mild.{IsMildStart}
 -- By each turn of a mild connection, at an end of path 0 that lives still: an acknowledgement is due once RCV.NXT is greater, or it is past the
 -- peer's FIN.
 abbrev pub WhatRisesIsOwed : Type 0
-WhatRisesIsOwed = (start : Start) (turns : List Turn) (turn : Turn) → IsMildStart start → let w = reached values start turns in (p q : PathState Carried)
+WhatRisesIsOwed = (start : Start) (turns : List Turn) (turn : Turn) → IsMildStart start
+    → let w = reached values start turns in (p q : PathState Carried)
     → IsPathAt 0 w p → IsPathAt 0 (after_turn values turn w) q → (s : Side) → is_dead (end_at s q).tcp.state ≡ false
     → (end_at s p).tcp.recv.edge < (end_at s q).tcp.recv.edge
     → ((end_at s q).tcp.due.ack ≡ true) ⊎ (is_fin_passed (end_at s q).tcp ≡ true)

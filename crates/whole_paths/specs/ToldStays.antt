@@ -18,7 +18,8 @@ pub record ToldStays (s : Side) (p q : PathState Carried) : Type 0 where
   -- what its peer owes is owed still, or goes in the turn, or was harmed, or the peer is past the side's FIN
   pub owed : (end_at (peer s) p).tcp.due.ack ≡ true
       → ((end_at (peer s) q).tcp.due.ack ≡ true)
-      ⊎ ((is_fin_passed (end_at (peer s) q).tcp ≡ true) ⊎ ((is_harmed (peer s) p q ≡ true) ⊎ IsToldBy s (end_at (peer s) q).tcp.recv.edge (p.clock + 400) q))
+      ⊎ ((is_fin_passed (end_at (peer s) q).tcp ≡ true)
+      ⊎ ((is_harmed (peer s) p q ≡ true) ⊎ IsToldBy s (end_at (peer s) q).tcp.recv.edge (p.clock + 400) q))
   -- where more came an acknowledgement is owed, or the FIN came
   pub more : (end_at (peer s) p).tcp.recv.edge < (end_at (peer s) q).tcp.recv.edge
       → ((end_at (peer s) q).tcp.due.ack ≡ true) ⊎ (is_fin_passed (end_at (peer s) q).tcp ≡ true)
