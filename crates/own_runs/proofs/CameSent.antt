@@ -151,16 +151,16 @@ paths_count start number (plan ∷ plans) = ap suc (paths_count start (suc numbe
 -- ---- a run
 
 module _ (start : Start) (plain : IsPlain start) (fit : NumbersFit start) (turns : List Turn) where
-  abbrev k : Known start plain fit turns
+  abbrev pub k : Known start plain fit turns
   k = always_known start plain fit turns
 
-  abbrev links : Links
+  abbrev pub links : Links
   links = (can start plain fit).links
 
-  abbrev d : Duo
+  abbrev pub d : Duo
   d = after_events k.events (first_duo links start)
 
-  abbrev w : WorldState Carried
+  abbrev pub w : WorldState Carried
   w = world_run values turns (opened_world start)
 
   lanes_many : (s : Side) → length (way s d).lanes ≡ length start.paths
@@ -176,7 +176,7 @@ module _ (start : Start) (plain : IsPlain start) (fit : NumbersFit start) (turns
       let x = in_map walking k.shows.cast.paths n found.0 found.1 in
       (found.0, ap (λ (v : WorldState Carried). slice_get v.crew (suc (suc n))) k.shows.is ∙ found.1, x.0.path, ap (λ (c : ActorCrew Carried). c.member) (sym x.2))
 
-  passed_of : (s : Side) → AllPassed (way s d).lanes (way s d).arrived
+  pub passed_of : (s : Side) → AllPassed (way s d).lanes (way s d).arrived
   passed_of A = (always_passed links.alters links.checked (length start.paths) start.buffer start.buffer k.events).ab
   passed_of B = (always_passed links.alters links.checked (length start.paths) start.buffer start.buffer k.events).ba
 
@@ -191,7 +191,7 @@ module _ (start : Start) (plain : IsPlain start) (fit : NumbersFit start) (turns
   was_passed s place (inl before) = (passed_of s).before place before
   was_passed s place (inr held) = let low = held.0 in (passed_of s).cells.each (place - (way s d).arrived.read) place held.1.0 (omega (arith, low)) held.1.1
 
-  was_sent : (s : Side) (place : ℕ) → WasPassed (way s d).lanes place → Has (CarriesPlace s (file_of start s) place) (trace_of turns (opened_world start))
+  pub was_sent : (s : Side) (place : ℕ) → WasPassed (way s d).lanes place → Has (CarriesPlace s (file_of start s) place) (trace_of turns (opened_world start))
   was_sent s place h =
       let many = lanes_many s in
       let inside = slice_get_within (way s d).lanes h.path h.lane h.there in

@@ -45,6 +45,8 @@ mod Pending
 mod Handed
 mod WasSent
 mod CameSent
+mod Acking
+mod ToldAcks
 mod Reached
 mod FineMoments
 mod MapKept
