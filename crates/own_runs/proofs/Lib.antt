@@ -47,6 +47,7 @@ mod OwnTrace
 mod Fitting
 mod TokenSegments
 mod TokenState
+mod OneConnection
 mod TokenPackets
 mod Kept
 mod MapPlaces
