@@ -40,6 +40,12 @@ mod MapPositions
 mod AckPositions
 mod SentGrows
 mod Passed
+mod Granted
+mod Begun
+mod Pending
+mod Handed
+mod WasSent
+mod CameSent
 mod Reached
 mod FineMoments
 mod MapKept

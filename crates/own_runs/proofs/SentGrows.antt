@@ -22,7 +22,7 @@ pub record Longer (l m : Lane) : Type 0 where
   pub edge : l.edge ≤ m.edge
 
 -- neither changes
-abbrev Same : Lane → Lane → Type 0
+abbrev pub Same : Lane → Lane → Type 0
 Same q p = (q.sent ≡ p.sent) × (q.edge ≡ p.edge)
 
 same_longer : (l m : Lane) → Same m l → Longer l m
@@ -39,7 +39,7 @@ either_same : (b : Bool) (q r p : Lane) → Same q p → Same r p → Same (if b
 either_same true q r p x y = x
 either_same false q r p x y = y
 
-moved_same : (f : Flags) (path : ℕ) (move : Move) (p : Lane) → Same (moved f path move p) p
+pub moved_same : (f : Flags) (path : ℕ) (move : Move) (p : Lane) → Same (moved f path move p) p
 moved_same f path Move.Open p = either_same _ _ p p (refl, refl) (refl, refl)
 moved_same f path Move.LookAtSender p = (refl, refl)
 moved_same f path Move.LookAtReceiver p = (refl, refl)
@@ -146,7 +146,7 @@ grant_longer : (reply : SendReply) (p : Lane) → Longer p (takes_grant reply p)
 grant_longer (Granted span piece) p = record { more = _; is = refl; edge = omega arith }
 grant_longer _ p = same_longer p _ (refl, refl)
 
-ack_same : (next : ℕ) (reply : SendReply) (p : Lane) → Same (takes_ack next reply p) p
+pub ack_same : (next : ℕ) (reply : SendReply) (p : Lane) → Same (takes_ack next reply p) p
 ack_same next (Acked bytes fin) p = (refl, refl)
 ack_same next _ p = (refl, refl)
 
@@ -154,11 +154,11 @@ placed_longer : (count : ℕ) (reply : ReassemblyReply) (p : Lane) → Longer p 
 placed_longer count (Placed new) p = record { more = []; is = sym (append-nil p.sent); edge = omega arith }
 placed_longer count _ p = same_longer p _ (refl, refl)
 
-fin_same : (reply : ReassemblyReply) (p : Lane) → Same (takes_fin reply p) p
+pub fin_same : (reply : ReassemblyReply) (p : Lane) → Same (takes_fin reply p) p
 fin_same FinSet p = (refl, refl)
 fin_same _ p = (refl, refl)
 
-out_same : (reply : ReassemblyReply) (p : Lane) → Same (takes_ack_out reply p) p
+pub out_same : (reply : ReassemblyReply) (p : Lane) → Same (takes_ack_out reply p) p
 out_same (Ack next window) p = (refl, refl)
 out_same _ p = (refl, refl)
 

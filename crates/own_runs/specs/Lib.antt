@@ -3,3 +3,4 @@ pub mod Segments
 pub mod Traces
 pub mod Fitting
 pub mod Runs
+pub mod Arrivals

@@ -4,12 +4,13 @@
 //! were given, for any reader of captures (`captures_are_their_packets`). What the receiver of a segment reads is found in the packet that
 //! carries it (`segments_are_found`). So the capture of a trace has the segments of the trace (`traces_are_their_segments`), and no side of a
 //! run of ours is told to have broken a rule of the judge's, as far as these are named (`own_runs_break_no_rule`,
-//! `whole_runs_break_no_rule`). And the streams that the judge finds are first parts of the files (`captures_show_the_files`).
+//! `whole_runs_break_no_rule`). And the streams that the judge finds are first parts of the files (`captures_show_the_files`). What came to a
+//! side is in the trace (`what_came_was_sent`).
 #![tactic(auto)]
 
 mod laws;
 
 pub use laws::{
     captures_are_their_packets, captures_show_the_files, own_runs_break_no_rule,
-    segments_are_found, traces_are_their_segments, whole_runs_break_no_rule,
+    segments_are_found, traces_are_their_segments, what_came_was_sent, whole_runs_break_no_rule,
 };
