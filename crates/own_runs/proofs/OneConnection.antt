@@ -1,9 +1,9 @@
 -- All flows of a connection of ours that belong to one belong to the first connection that is seen: none other is.
-use Rattle.std.proofs.Common.{◌≡◌, refl, sym, ap, ◌∙◌, subst, ℕ, zero, suc, ◌+◌, ◌||◌, ◌&&◌, ◌⊎◌, inl, inr, ⊎_elim, not, Bool, true, false, if◌then◌else◌, Option, Some, None, is_none, is_some, List, [], ◌∷◌, ◌++◌, length, arith}
+use Rattle.std.proofs.Common.{◌≡◌, refl, sym, ap, ◌∙◌, subst, ℕ, zero, suc, ◌||◌, ◌&&◌, ◌⊎◌, inl, inr, ⊎_elim, not, Bool, true, false, if◌then◌else◌, Option, Some, None, is_none, is_some, List, [], ◌∷◌, ◌++◌, length, arith}
 use Rattle.std.specs.Prelude.{IfSome}
 use Rattle.std.specs.List.{find, slice_get}
 use Rattle.std.proofs.Math.ListN.{set}
-use Rattle.std.proofs.lemmas.Bool.{and_parts, both_ways, false≢true}
+use Rattle.std.proofs.lemmas.Bool.{and_parts, false≢true}
 use Rattle.capture_reader.specs.Seen.{Seen}
 use Rattle.sides.specs.Side.{peer}
 use Rattle.sides.specs.declared.side.Side.TheVariants.{A, B}
