@@ -37,6 +37,7 @@ mod OwnPackets
 mod OwnUntold
 mod FinePositions
 mod MapPositions
+mod AckPositions
 mod SentGrows
 mod Passed
 mod Granted
@@ -54,6 +55,7 @@ mod OwnTrace
 mod Fitting
 mod TokenSegments
 mod TokenState
+mod OneConnection
 mod TokenPackets
 mod Kept
 mod MapPlaces

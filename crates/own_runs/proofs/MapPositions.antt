@@ -195,7 +195,7 @@ module _ (limit : ℕ) (few : limit < 2 ^ 31) (content : ℕ → ℕ) where
     natural_so n = le-ltb n 0 (omega arith)
 
     -- a mapping that sits there, or has no octets
-    abbrev Sits : Offer → ℤ → ℕ → Type 0
+    abbrev pub Sits : Offer → ℤ → ℕ → Type 0
     Sits offer position place = (mapped_octets offer ≡ 0) ⊎ ((p : ℕ) × (position ≡ pos p) × Sit where_at p place (mapped_octets offer))
 
     module _ (teller : Teller) (s : StreamValue) (l : LaneValue) (h : Fine s l) (offer : Offer) (place : ℕ) (ends : EndsAt limit offer.fin place offer.length) where
@@ -206,7 +206,7 @@ module _ (limit : ℕ) (few : limit < 2 ^ 31) (content : ℕ → ℕ) where
       ends_so true length is = omega (arith, is)
       ends_so false length is = omega (arith, is)
 
-      within : end ≤ limit
+      pub within : end ≤ limit
       within = ends_so offer.fin offer.length ends
 
       at_end : offer.fin ≡ true → end ≡ limit
@@ -255,7 +255,7 @@ module _ (limit : ℕ) (few : limit < 2 ^ 31) (content : ℕ → ℕ) where
               let upto = within in
               ap (λ (b : Bool). option_or (if b then Some (BeyondFin end told.place told.packet) else None) (is_too_early s.top end false)) (le-ltb told.place end (omega (arith, is, upto)))
 
-      fault_so : (position : ℤ) → Sits offer position place → finite_fault teller s l offer position place ≡ None
+      pub fault_so : (position : ℤ) → Sits offer position place → finite_fault teller s l offer position place ≡ None
       fault_so position sits =
           ap (λ (o : Option Finding). option_or (octets_fault teller s l offer position place) (by_rule rule.DataFin o)) fin_so
           ∙ ap (λ (o : Option Broke). option_or o None) (octets_so position sits)
@@ -312,7 +312,7 @@ module _ (limit : ℕ) (few : limit < 2 ^ 31) (content : ℕ → ℕ) where
             by true false is less = tt
             by false high is less = tt
 
-    abbrev Holds : Mapped → Type 0
+    abbrev pub Holds : Mapped → Type 0
     Holds x = Fine x.stream x.lane × All Summed x.learnt
 
     finite_by_so : (teller : Teller) (offer : Offer) (position : ℤ) (place : ℕ) (state : Mapped) → EndsAt limit offer.fin place offer.length → Sits offer position place
@@ -335,7 +335,7 @@ module _ (limit : ℕ) (few : limit < 2 ^ 31) (content : ℕ → ℕ) where
           All-append Summed state.learnt (told_mapping offer position place ∷ []) all.1 (All-cons Summed (told_mapping offer position place) [] summed (All-nil Summed)),
         )
 
-    one_so : (teller : Teller) (is : teller.first ≡ first) (offer : Offer) (position : ℕ) (state : Mapped) → OfferIs first limit content where_at position offer → Holds state
+    pub one_so : (teller : Teller) (is : teller.first ≡ first) (offer : Offer) (position : ℕ) (state : Mapped) → OfferIs first limit content where_at position offer → Holds state
         → Holds (mapped_at teller offer (mapping.position_near position offer.relative) state)
     one_so teller is offer near state o all =
         let position = mapping.position_near near offer.relative in
@@ -375,7 +375,7 @@ module _ (limit : ℕ) (few : limit < 2 ^ 31) (content : ℕ → ℕ) where
             (ap (λ (n : ℕ). place_near n state.stream.top offer.number) is ∙ near_so first state.stream.top o.place offer.number o.number (omega (arith, top, few)) (omega (arith, upto, few)))
             ∙ ap (λ (b : Bool). if b then Some o.place else None) (lt-ltb (o.place + mapped_octets offer) (2 ^ 62) (omega (arith, upto, few)))
 
-    offer_so : (teller : Teller) → teller.first ≡ first → (position : ℕ) (offer : Option Offer) (state : Mapped) → IfSome offer (OfferIs first limit content where_at position) → Holds state
+    pub offer_so : (teller : Teller) → teller.first ≡ first → (position : ℕ) (offer : Option Offer) (state : Mapped) → IfSome offer (OfferIs first limit content where_at position) → Holds state
         → Holds (mapped_one teller position offer state)
     offer_so teller is position None state o h = h
     offer_so teller is position (Some offer) state o h = one_so teller is offer position state o h
@@ -388,7 +388,7 @@ module _ (limit : ℕ) (few : limit < 2 ^ 31) (content : ℕ → ℕ) where
         (offer_so teller is position (offer_of teller.first option) state
         (subst (λ (n : ℕ). IfSome (offer_of n option) (OfferIs first limit content where_at position)) (sym is) (All-head (OffersWell first limit content where_at position) option options all)) h)
 
-    mapped_so : (facts : Facts) (known : Option ℕ) → IfSome known (λ n. n ≡ first) → (position : ℕ) (options : List OptionValue) (state : Mapped)
+    pub mapped_so : (facts : Facts) (known : Option ℕ) → IfSome known (λ n. n ≡ first) → (position : ℕ) (options : List OptionValue) (state : Mapped)
         → All (OffersWell first limit content where_at position) options → Holds state → Holds (mapped_with facts known position options state)
     mapped_so facts None is position options state all h = h
     mapped_so facts (Some known) is position options state all h = offers_so (told_in facts known) is position options state all h
@@ -492,7 +492,7 @@ module _ (limit : ℕ) (few : limit < 2 ^ 31) (content : ℕ → ℕ) where
         (place_so acknowledged packet p (comes p) (place p) s (come p) (sits p) h)
 
     -- the places of a lane
-    place_is : (l : LaneValue) → LaneFine l → (p : ℕ) → IfSome (place_of l p) (λ x. (x ≡ where_at p) × (x < limit))
+    pub place_is : (l : LaneValue) → LaneFine l → (p : ℕ) → IfSome (place_of l p) (λ x. (x ≡ where_at p) × (x < limit))
     place_is l h p =
         subst (λ (line : Option Line). IfSome (option_or (option_map (λ told. told.image) (l.placed p)) (line_place line p)) (λ x. (x ≡ where_at p) × (x < limit))) (sym h.line)
         (by (l.placed p) (h.placed p))
