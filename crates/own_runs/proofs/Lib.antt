@@ -48,6 +48,7 @@ mod WasSent
 mod CameSent
 mod Acking
 mod ToldAcks
+mod ShownAcks
 mod Reached
 mod FineMoments
 mod MapKept

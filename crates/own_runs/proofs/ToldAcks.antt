@@ -45,15 +45,20 @@ use Rattle.world_laws.specs.declared.member.Member.TheVariants.{App, Path}
 use Rattle.own_runs.specs.Arrivals.{AckIsCarried, EachAckIsCarried}
 use Rattle.own_runs.specs.Runs.{file_of}
 use Rattle.own_runs.proofs.Acking.{OptionAcks, SendsAcks, first_sent_acks}
-use Rattle.own_runs.proofs.CameSent.{d, k, links, passed_of, w, was_sent}
+use Rattle.own_runs.proofs.CameSent.{IsOnLane, d, has_map, links, on_lane_carries, passed_of, w, was_sent}
+use Rattle.own_runs.proofs.WasSent.{Known, always_known}
 use Rattle.own_runs.proofs.Granted.{way}
 use Rattle.own_runs.proofs.Moments.{IsSpoken, MemberAlso, PathAlso, WorldAlso, end_shown, first_same, turn_spoken, world_speaks}
 use Rattle.own_runs.proofs.Passed.{AllPassed, WasPassed}
 use Rattle.own_runs.proofs.Speaking.{ToSend}
 
 -- what holds of the segments that are sent next
-abbrev pub AckedBefore : Start → List Sent → ℕ → Side → PlainSegment → Type 0
-AckedBefore start before path s sg = Every (AckIsCarried start before s) sg.options
+abbrev pub AckShows : Start → (Side → ℕ → Sent → Type 0) → List Sent → Side → PlainOption → Type 0
+AckShows start P before s (Dss (Some next) mapping) = (place : ℕ) → place < next → place < length (file_of start (peer s)) → Has (P (peer s) place) before
+AckShows start P before s _ = Unit {0}
+
+abbrev pub AckedBefore : Start → (Side → ℕ → Sent → Type 0) → List Sent → ℕ → Side → PlainSegment → Type 0
+AckedBefore start P before path s sg = Every (AckShows start P before s) sg.options
 
 none_past : (closed : Bool) (written file : List ℕ) (count place : ℕ) → (closed ≡ true → written ≡ file) → count ≤ place → place < count + all_in closed written count → place < length file → ⊥
 none_past false written file count place whole low high within = omega (arith, low, high)
@@ -63,26 +68,34 @@ none_past true written file count place whole low high within = by (length writt
     by true is high = let long : length written ≡ length file = ap (λ (xs : List ℕ). length xs) (whole refl) in let same = eqb-true (length written) count is in omega (arith, low, high, same, long, within)
     by false is high = omega (arith, low, high)
 
-carried_so : (start : Start) (before : List Sent) (s : Side) (n : ℕ)
-    → ((place : ℕ) → place < n → place < length (file_of start (peer s)) → Has (CarriesPlace (peer s) (file_of start (peer s)) place) before)
-    → (o : PlainOption) → OptionAcks n o → AckIsCarried start before s o
-carried_so start before s n carried (Dss (Some next) mapping) is = λ place below within. carried place (omega (arith, below, is)) within
-carried_so start before s n carried (Dss None mapping) is = tt
-carried_so start before s n carried _ is = tt
+shown_so : (start : Start) (P : Side → ℕ → Sent → Type 0) (before : List Sent) (s : Side) (n : ℕ)
+    → ((place : ℕ) → place < n → place < length (file_of start (peer s)) → Has (P (peer s) place) before)
+    → (o : PlainOption) → OptionAcks n o → AckShows start P before s o
+shown_so start P before s n carried (Dss (Some next) mapping) is = λ place below within. carried place (omega (arith, below, is)) within
+shown_so start P before s n carried (Dss None mapping) is = tt
+shown_so start P before s n carried _ is = tt
 
-module _ (start : Start) (plain : IsPlain start) (fit : NumbersFit start) (turns : List Turn) where
+carried_so : (start : Start) (P : Side → ℕ → Sent → Type 0) (before : List Sent) (s : Side)
+    → ((place : ℕ) (x : Sent) → P (peer s) place x → CarriesPlace (peer s) (file_of start (peer s)) place x)
+    → (o : PlainOption) → AckShows start P before s o → AckIsCarried start before s o
+carried_so start P before s f (Dss (Some next) mapping) h = λ place below within. has_map before (f place) (h place below within)
+carried_so start P before s f (Dss None mapping) h = tt
+carried_so start P before s f _ h = tt
+
+module _ (start : Start) (plain : IsPlain start) (fit : NumbersFit start) (turns : List Turn) (k : Known start plain fit turns)
+    (P : Side → ℕ → Sent → Type 0) (shows : (s : Side) (place : ℕ) (x : Sent) → IsOnLane start (d start plain fit turns k) s place x → P s place x) where
   abbrev now : Duo
-  now = d start plain fit turns
+  now = d start plain fit turns k
 
   abbrev before : List Sent
   before = trace_of turns (opened_world start)
 
-  holds : Holds (d start plain fit turns)
-  holds = any_held (links start plain fit turns).alters (links start plain fit turns).checked (length start.paths) start.buffer start.buffer (k start plain fit turns).events
+  holds : Holds (d start plain fit turns k)
+  holds = any_held (links start plain fit turns k).alters (links start plain fit turns k).checked (length start.paths) start.buffer start.buffer k.events
 
-  send_is : (s : Side) → (way s now).send ≡ send_of s (books_in (w start plain fit turns).books)
-  send_is A = ap (λ (e : Duo). e.ab.send) (k start plain fit turns).shows.duo_is ∙ sym (ap (λ (v : WorldState Carried). (books_in v.books).send_a) (k start plain fit turns).shows.is)
-  send_is B = ap (λ (e : Duo). e.ba.send) (k start plain fit turns).shows.duo_is ∙ sym (ap (λ (v : WorldState Carried). (books_in v.books).send_b) (k start plain fit turns).shows.is)
+  send_is : (s : Side) → (way s now).send ≡ send_of s (books_in (w start plain fit turns k).books)
+  send_is A = ap (λ (e : Duo). e.ab.send) k.shows.duo_is ∙ sym (ap (λ (v : WorldState Carried). (books_in v.books).send_a) k.shows.is)
+  send_is B = ap (λ (e : Duo). e.ba.send) k.shows.duo_is ∙ sym (ap (λ (v : WorldState Carried). (books_in v.books).send_b) k.shows.is)
 
   -- where a stream is closed its file was written
   whole : (s : Side) → (way s now).send.closed ≡ true → (way s now).send.written ≡ file_of start s
@@ -94,7 +107,7 @@ module _ (start : Start) (plain : IsPlain start) (fit : NumbersFit start) (turns
   was_received s place below = ⊎_elim (λ read. all.before place read) (λ new. stands new) (cases_lt place (way s now).arrived.read)
     where
       all : AllPassed (way s now).lanes (way s now).arrived
-      all = passed_of start plain fit turns s
+      all = passed_of start plain fit turns k s
 
       stands : (way s now).arrived.read ≤ place → WasPassed (way s now).lanes place
       stands new =
@@ -103,45 +116,45 @@ module _ (start : Start) (plain : IsPlain start) (fit : NumbersFit start) (turns
           row.each (place - (way s now).arrived.read) place there.0 (omega (arith, new)) there.1
 
   covered : (s : Side) (n place : ℕ) → n ≤ received (way s now).arrived + all_in (way s now).send.closed (way s now).send.written (received (way s now).arrived)
-      → place < n → place < length (file_of start s) → Has (CarriesPlace s (file_of start s) place) before
+      → place < n → place < length (file_of start s) → Has (P s place) before
   covered s n place most below within =
       ⊎_elim
-      (λ came. was_sent start plain fit turns s place (was_received s place came))
+      (λ came. has_map before (shows s place) (was_sent start plain fit turns k s place (was_received s place came)))
       (λ past. absurd (none_past (way s now).send.closed (way s now).send.written (file_of start s) (received (way s now).arrived) place (whole s) past (omega (arith, below, most)) within))
       (cases_lt place (received (way s now).arrived))
 
   -- what an end was told
-  told_so : (n : ℕ) (x : Walker Carried) → slice_get (k start plain fit turns).shows.cast.paths n ≡ Some x → (s : Side)
+  told_so : (n : ℕ) (x : Walker Carried) → slice_get k.shows.cast.paths n ≡ Some x → (s : Side)
       → (end_at s x.path).receiving.next ≤ received (way (peer s) now).arrived + all_in (way (peer s) now).send.closed (way (peer s) now).send.written (received (way (peer s) now).arrived)
   told_so n x at s = by s
     where
-      path : PathThere start (k start plain fit turns).shows.lanes_ab (k start plain fit turns).shows.lanes_ba n x.path
-      path = (k start plain fit turns).shows.paths.each n n x (omega arith) at
+      path : PathThere start k.shows.lanes_ab k.shows.lanes_ba n x.path
+      path = k.shows.paths.each n n x (omega arith) at
 
       by : (s : Side) → (end_at s x.path).receiving.next ≤ received (way (peer s) now).arrived + all_in (way (peer s) now).send.closed (way (peer s) now).send.written (received (way (peer s) now).arrived)
       by A =
-          let hold : LaneHolds _ n path.ba = holds.ba.lanes.each n n path.ba (omega arith) (ap (λ (e : Duo). slice_get e.ba.lanes n) (k start plain fit turns).shows.duo_is ∙ path.ba_there) in
+          let hold : LaneHolds _ n path.ba = holds.ba.lanes.each n n path.ba (omega arith) (ap (λ (e : Duo). slice_get e.ba.lanes n) k.shows.duo_is ∙ path.ba_there) in
           let covers = hold.receiver.told.covers in
           let latest : path.ba.latest.next ≡ x.path.a.receiving.next = ap (λ t. t.next) path.shows.a.acks.latest in
           omega (arith, covers, latest)
       by B =
-          let hold : LaneHolds _ n path.ab = holds.ab.lanes.each n n path.ab (omega arith) (ap (λ (e : Duo). slice_get e.ab.lanes n) (k start plain fit turns).shows.duo_is ∙ path.ab_there) in
+          let hold : LaneHolds _ n path.ab = holds.ab.lanes.each n n path.ab (omega arith) (ap (λ (e : Duo). slice_get e.ab.lanes n) k.shows.duo_is ∙ path.ab_there) in
           let covers = hold.receiver.told.covers in
           let latest : path.ab.latest.next ≡ x.path.b.receiving.next = ap (λ t. t.next) path.shows.b.acks.latest in
           omega (arith, covers, latest)
 
-  path_acks : (n : ℕ) (x : Walker Carried) → slice_get (k start plain fit turns).shows.cast.paths n ≡ Some x → PathAlso (AckedBefore start (trace_of turns (opened_world start))) x.path
+  path_acks : (n : ℕ) (x : Walker Carried) → slice_get k.shows.cast.paths n ≡ Some x → PathAlso (AckedBefore start P (trace_of turns (opened_world start))) x.path
   path_acks n x at = by (first_sends x.path.agenda x.path) (first_sent_acks x.path x.path.agenda)
     where
-      by : (o : Option ToSend) → IfSome o (SendsAcks x.path) → IfSome o (λ t. AckedBefore start before (path_of x.path) t.from (segment_sent x.path t))
+      by : (o : Option ToSend) → IfSome o (SendsAcks x.path) → IfSome o (λ t. AckedBefore start P before (path_of x.path) t.from (segment_sent x.path t))
       by None acks = tt
-      by (Some t) acks = Every-map (λ o is. carried_so start before t.from (end_at t.from x.path).receiving.next (λ place below within. covered (peer t.from) (end_at t.from x.path).receiving.next place (told_so n x at t.from) below within) o is) acks
+      by (Some t) acks = Every-map (λ o is. shown_so start P before t.from (end_at t.from x.path).receiving.next (λ place below within. covered (peer t.from) (end_at t.from x.path).receiving.next place (told_so n x at t.from) below within) o is) acks
 
   abbrev Q : ℕ → Side → PlainSegment → Type 0
-  Q = AckedBefore start (trace_of turns (opened_world start))
+  Q = AckedBefore start P (trace_of turns (opened_world start))
 
-  valued : WorldAlso Q (w start plain fit turns)
-  valued = subst (λ (v : WorldState Carried). WorldAlso Q v) (sym (k start plain fit turns).shows.is) (each_actor (λ i c. MemberAlso Q c.member) (k start plain fit turns).shows.cast tt tt (λ n x at. path_acks n x at))
+  valued : WorldAlso Q (w start plain fit turns k)
+  valued = subst (λ (v : WorldState Carried). WorldAlso Q v) (sym k.shows.is) (each_actor (λ i c. MemberAlso Q c.member) k.shows.cast tt tt (λ n x at. path_acks n x at))
 
   -- ---- over octets
 
@@ -160,11 +173,11 @@ module _ (start : Start) (plain : IsPlain start) (fit : NumbersFit start) (turns
   member_also (Path p) s = path_also p s
 
   -- each segment that the next turn sends
-  pub also_acked : WorldAlso (AckedBefore start (trace_of turns (opened_world start))) (world_run octets turns (opened_world start))
+  pub also_acked : WorldAlso (AckedBefore start P (trace_of turns (opened_world start))) (world_run octets turns (opened_world start))
   also_acked =
       subst (λ (v : WorldState (List ℕ)). WorldAlso Q v) (sym (run_fresh start turns plain.size fit))
       (λ i c at.
-      let found = in_map shown_crew (w start plain fit turns).crew i c at in
+      let found = in_map shown_crew (w start plain fit turns k).crew i c at in
       subst (λ (y : ActorCrew (List ℕ)). MemberAlso Q y.member) found.2 (member_also found.0.member (valued i found.0 found.1)))
 
 -- ---- where a segment stands in a trace
@@ -219,13 +232,17 @@ sent_in (turn ∷ turns) v i x is = by (in_append now rest i x is) (λ j there. 
 pub each_is_carried : EachAckIsCarried
 each_is_carried start turns plain fit i x is =
     let m = sent_in turns (opened_world start) i x is in
-    let all : Every (IsSpoken (AckedBefore start (trace_of m.before (opened_world start))) start) (sent_at m.turn (world_run octets m.before (opened_world start))) =
-    turn_spoken (AckedBefore start (trace_of m.before (opened_world start))) start m.turn (world_run octets m.before (opened_world start)) (world_speaks start m.before plain.size fit)
-    (also_acked start plain fit m.before) in
+    let k : Known start plain fit m.before = always_known start plain fit m.before in
+    let P : Side → ℕ → Sent → Type 0 = IsOnLane start (d start plain fit m.before k) in
+    let so_far : List Sent = trace_of m.before (opened_world start) in
+    let all : Every (IsSpoken (AckedBefore start P so_far) start) (sent_at m.turn (world_run octets m.before (opened_world start))) =
+    turn_spoken (AckedBefore start P so_far) start m.turn (world_run octets m.before (opened_world start)) (world_speaks start m.before plain.size fit)
+    (also_acked start plain fit m.before k P (λ s place x h. h)) in
     let said = all.each 0 x m.sends in
     record {
       spelling = _;
       segment = said.segment;
       octets = said.octets;
-      acks = subst (λ (front : List Sent). Every (AckIsCarried start front x.from) said.segment.options) m.front said.also;
+      acks = subst (λ (front : List Sent). Every (AckIsCarried start front x.from) said.segment.options) m.front
+          (Every-map (λ o shown. carried_so start P so_far x.from (λ place y h. on_lane_carries start (d start plain fit m.before k) (peer x.from) place y h) o shown) said.also);
     }
