@@ -49,6 +49,7 @@ mod CameSent
 mod Acking
 mod ToldAcks
 mod ShownAcks
+mod Wanted
 mod Reached
 mod FineMoments
 mod MapKept

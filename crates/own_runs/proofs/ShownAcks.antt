@@ -30,7 +30,7 @@ use Rattle.own_runs.proofs.Moments.{MemberAlso, PathAlso, WorldAlso}
 use Rattle.own_runs.proofs.Reached.{AllGo, reaches, steps}
 use Rattle.own_runs.proofs.SentGrows.{Grows, LanesGrow, events_grow}
 use Rattle.own_runs.proofs.Speaking.{ToSend}
-use Rattle.own_runs.proofs.ToldAcks.{AckedBefore, also_acked}
+use Rattle.own_runs.proofs.ToldAcks.{AckedBefore, AtEnd, also_acked, known_at_end}
 use Rattle.own_runs.proofs.WasSent.{Known, next_known, opened_known}
 
 -- a segment has the octet of this place at a position that has it on the last lanes
@@ -64,7 +64,7 @@ shown_last start d last grows s place x h =
 
 -- what holds of the segments that are sent next
 abbrev pub OfferedAndAcked : Start → Duo → List Sent → ℕ → Side → PlainSegment → Type 0
-OfferedAndAcked start last before path s sg = Offered start last path s sg × AckedBefore start (IsShown start last) before path s sg
+OfferedAndAcked start last before path s sg = Offered start last path s sg × AckedBefore (IsShown start last) (AtEnd start) before path s sg
 
 both_path : {C : Type 0} (Q R : ℕ → Side → PlainSegment → Type 0) (p : PathState C) → PathAlso Q p → PathAlso R p → PathAlso (λ n s sg. Q n s sg × R n s sg) p
 both_path Q R p x y = by (first_sends p.agenda p) x y
@@ -118,6 +118,6 @@ whole_acks start turns plain whole fit =
     moment : (last : Duo) (more : List Turn) → (k : Known start plain fit more) × Grows (after_events k.events (first_duo (plainly start plain).links start)) last
         → WorldAlso (OfferedAndAcked start last (trace_of more (opened_world start))) (world_run octets more (opened_world start))
     moment last more r =
-        both_worlds (Offered start last) (AckedBefore start (IsShown start last) (trace_of more (opened_world start))) (world_run octets more (opened_world start))
+        both_worlds (Offered start last) (AckedBefore (IsShown start last) (AtEnd start) (trace_of more (opened_world start))) (world_run octets more (opened_world start))
         (offered_at start plain whole fit last more (record { events = r.0.events; shows = r.0.shows }, r.1))
-        (also_acked start plain fit more r.0 (IsShown start last) (λ s place x h. shown_last start _ last r.1 s place x h))
+        (also_acked start plain fit more r.0 (IsShown start last) (λ s place x h. shown_last start _ last r.1 s place x h) (AtEnd start) (known_at_end start plain fit more r.0))

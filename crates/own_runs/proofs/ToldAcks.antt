@@ -19,6 +19,7 @@ use Rattle.path_segments.specs.Options.{PlainOption}
 use Rattle.path_segments.specs.Spelled.{PlainSegment}
 use Rattle.path_segments.specs.declared.segment.PathOption.TheVariants.{Dss}
 use Rattle.reassembly_book.specs.State.{filled, received}
+use Rattle.reassembly_book.specs.Steps.{is_end, next_wanted}
 use Rattle.run_trace.specs.Trace.{sent_at, sent_next, trace_of}
 use Rattle.send_book.specs.State.{Sending}
 use Rattle.sides.specs.Side.{peer}
@@ -28,8 +29,8 @@ use Rattle.stream_lanes.proofs.Bytes.{From-filled}
 use Rattle.stream_lanes.proofs.Duos.{any_held}
 use Rattle.stream_lanes.proofs.Lists.{Every-map, in_append, in_map, item_at}
 use Rattle.stream_lanes.specs.Duo.{Duo}
-use Rattle.stream_lanes.specs.Holding.{Holds, LaneHolds}
-use Rattle.stream_lanes.specs.View.{all_in}
+use Rattle.stream_lanes.specs.Holding.{Holds}
+use Rattle.stream_lanes.specs.View.{end_of}
 use Rattle.stream_lanes.specs.Words.{Every, From, Has}
 use Rattle.trace_laws.specs.Sending.{CarriesPlace}
 use Rattle.world_laws.proofs.Lanes.OfAWorld.{PathThere}
@@ -46,6 +47,7 @@ use Rattle.own_runs.specs.Arrivals.{AckIsCarried, EachAckIsCarried}
 use Rattle.own_runs.specs.Runs.{file_of}
 use Rattle.own_runs.proofs.Acking.{OptionAcks, SendsAcks, first_sent_acks}
 use Rattle.own_runs.proofs.CameSent.{IsOnLane, d, has_map, links, on_lane_carries, passed_of, w, was_sent}
+use Rattle.own_runs.proofs.Wanted.{BothWanted, always_wanted}
 use Rattle.own_runs.proofs.WasSent.{Known, always_known}
 use Rattle.own_runs.proofs.Granted.{way}
 use Rattle.own_runs.proofs.Moments.{IsSpoken, MemberAlso, PathAlso, WorldAlso, end_shown, first_same, turn_spoken, world_speaks}
@@ -53,54 +55,78 @@ use Rattle.own_runs.proofs.Passed.{AllPassed, WasPassed}
 use Rattle.own_runs.proofs.Speaking.{ToSend}
 
 -- what holds of the segments that are sent next
-abbrev pub AckShows : Start → (Side → ℕ → Sent → Type 0) → List Sent → Side → PlainOption → Type 0
-AckShows start P before s (Dss (Some next) mapping) = (place : ℕ) → place < next → place < length (file_of start (peer s)) → Has (P (peer s) place) before
-AckShows start P before s _ = Unit {0}
+abbrev pub AckShows : (Side → ℕ → Sent → Type 0) → (Side → ℕ → Type 0) → List Sent → Side → PlainOption → Type 0
+AckShows P E before s (Dss (Some next) mapping) = (place : ℕ) → place < next → Has (P (peer s) place) before ⊎ E (peer s) place
+AckShows P E before s _ = Unit {0}
 
-abbrev pub AckedBefore : Start → (Side → ℕ → Sent → Type 0) → List Sent → ℕ → Side → PlainSegment → Type 0
-AckedBefore start P before path s sg = Every (AckShows start P before s) sg.options
+abbrev pub AckedBefore : (Side → ℕ → Sent → Type 0) → (Side → ℕ → Type 0) → List Sent → ℕ → Side → PlainSegment → Type 0
+AckedBefore P E before path s sg = Every (AckShows P E before s) sg.options
 
-none_past : (closed : Bool) (written file : List ℕ) (count place : ℕ) → (closed ≡ true → written ≡ file) → count ≤ place → place < count + all_in closed written count → place < length file → ⊥
-none_past false written file count place whole low high within = omega (arith, low, high)
-none_past true written file count place whole low high within = by (length written == count) refl high
+-- behind the last octet of the file
+abbrev pub AtEnd : Start → Side → ℕ → Type 0
+AtEnd start s place = place ≡ length (file_of start s)
+
+-- the end is known where a place behind what came is wanted no more
+end_there : (o : Option ℕ) (count place : ℕ) → count ≤ place → place < count + (if is_end o count then 1 else 0) → o ≡ Some place
+end_there None count place low high = absurd (omega (arith, low, high))
+end_there (Some e) count place low high = by (e == count) refl high
   where
-    by : (b : Bool) → (length written == count) ≡ b → place < count + (if b then 1 else 0) → ⊥
-    by true is high = let long : length written ≡ length file = ap (λ (xs : List ℕ). length xs) (whole refl) in let same = eqb-true (length written) count is in omega (arith, low, high, same, long, within)
-    by false is high = omega (arith, low, high)
+    by : (b : Bool) → (e == count) ≡ b → place < count + (if b then 1 else 0) → Some e ≡ Some place
+    by true is high = ap (λ (n : ℕ). Some n) (let same = eqb-true e count is in let at : e ≡ place = omega (arith, same, low, high) in at)
+    by false is high = absurd (omega (arith, low, high))
 
-shown_so : (start : Start) (P : Side → ℕ → Sent → Type 0) (before : List Sent) (s : Side) (n : ℕ)
-    → ((place : ℕ) → place < n → place < length (file_of start (peer s)) → Has (P (peer s) place) before)
-    → (o : PlainOption) → OptionAcks n o → AckShows start P before s o
-shown_so start P before s n carried (Dss (Some next) mapping) is = λ place below within. carried place (omega (arith, below, is)) within
-shown_so start P before s n carried (Dss None mapping) is = tt
-shown_so start P before s n carried _ is = tt
+-- where a stream is closed its file was written
+closed_end : (file : List ℕ) (b : Sending) → (b.closed ≡ true → b.written ≡ file) → (place : ℕ) → end_of b ≡ Some place → place ≡ length file
+closed_end file b whole place is = by b.closed whole is
+  where
+    by : (closed : Bool) → (closed ≡ true → b.written ≡ file) → (if closed then Some (length b.written) else None) ≡ Some place → place ≡ length file
+    by true whole is = let same : length b.written ≡ place = cc in sym same ∙ ap length (whole refl)
+    by false whole is = cc
+
+known_so : (o : Option ℕ) (R : ℕ → Type 0) (place : ℕ) → IfSome o R → o ≡ Some place → R place
+known_so o R place h is = subst (λ (x : Option ℕ). IfSome x R) is h
+
+shown_so : (P : Side → ℕ → Sent → Type 0) (E : Side → ℕ → Type 0) (before : List Sent) (s : Side) (n : ℕ)
+    → ((place : ℕ) → place < n → Has (P (peer s) place) before ⊎ E (peer s) place) → (o : PlainOption) → OptionAcks n o → AckShows P E before s o
+shown_so P E before s n carried (Dss (Some next) mapping) is = λ place below. carried place (omega (arith, below, is))
+shown_so P E before s n carried (Dss None mapping) is = tt
+shown_so P E before s n carried _ is = tt
 
 carried_so : (start : Start) (P : Side → ℕ → Sent → Type 0) (before : List Sent) (s : Side)
     → ((place : ℕ) (x : Sent) → P (peer s) place x → CarriesPlace (peer s) (file_of start (peer s)) place x)
-    → (o : PlainOption) → AckShows start P before s o → AckIsCarried start before s o
-carried_so start P before s f (Dss (Some next) mapping) h = λ place below within. has_map before (f place) (h place below within)
+    → (o : PlainOption) → AckShows P (AtEnd start) before s o → AckIsCarried start before s o
+carried_so start P before s f (Dss (Some next) mapping) h = λ place below. ⊎_elim (λ has. inl (has_map before (f place) has)) (λ end. inr end) (h place below)
 carried_so start P before s f (Dss None mapping) h = tt
 carried_so start P before s f _ h = tt
 
+module _ (start : Start) (plain : IsPlain start) (fit : NumbersFit start) (turns : List Turn) (k : Known start plain fit turns) where
+  holds : Holds (d start plain fit turns k)
+  holds = any_held (links start plain fit turns k).alters (links start plain fit turns k).checked (length start.paths) start.buffer start.buffer k.events
+
+  send_is : (s : Side) → (way s (d start plain fit turns k)).send ≡ send_of s (books_in (w start plain fit turns k).books)
+  send_is A = ap (λ (e : Duo). e.ab.send) k.shows.duo_is ∙ sym (ap (λ (v : WorldState Carried). (books_in v.books).send_a) k.shows.is)
+  send_is B = ap (λ (e : Duo). e.ba.send) k.shows.duo_is ∙ sym (ap (λ (v : WorldState Carried). (books_in v.books).send_b) k.shows.is)
+
+  -- where a stream is closed its file was written
+  whole : (s : Side) → (way s (d start plain fit turns k)).send.closed ≡ true → (way s (d start plain fit turns k)).send.written ≡ file_of start s
+  whole A = subst (λ (b : Sending). b.closed ≡ true → b.written ≡ start.file_a) (sym (send_is A)) (writes_the_files values start turns).a.whole
+  whole B = subst (λ (b : Sending). b.closed ≡ true → b.written ≡ start.file_b) (sym (send_is B)) (writes_the_files values start turns).b.whole
+
+  -- a known end is that of the file
+  pub known_at_end : (s : Side) (place : ℕ) → (way s (d start plain fit turns k)).arrived.known_end ≡ Some place → AtEnd start s place
+  known_at_end A place is = closed_end start.file_a (way A (d start plain fit turns k)).send (whole A) place
+      (known_so (way A (d start plain fit turns k)).arrived.known_end (λ e. end_of (way A (d start plain fit turns k)).send ≡ Some e) place holds.ab.arrived.end is)
+  known_at_end B place is = closed_end start.file_b (way B (d start plain fit turns k)).send (whole B) place
+      (known_so (way B (d start plain fit turns k)).arrived.known_end (λ e. end_of (way B (d start plain fit turns k)).send ≡ Some e) place holds.ba.arrived.end is)
+
 module _ (start : Start) (plain : IsPlain start) (fit : NumbersFit start) (turns : List Turn) (k : Known start plain fit turns)
-    (P : Side → ℕ → Sent → Type 0) (shows : (s : Side) (place : ℕ) (x : Sent) → IsOnLane start (d start plain fit turns k) s place x → P s place x) where
+    (P : Side → ℕ → Sent → Type 0) (shows : (s : Side) (place : ℕ) (x : Sent) → IsOnLane start (d start plain fit turns k) s place x → P s place x)
+    (E : Side → ℕ → Type 0) (ends : (s : Side) (place : ℕ) → (way s (d start plain fit turns k)).arrived.known_end ≡ Some place → E s place) where
   abbrev now : Duo
   now = d start plain fit turns k
 
   abbrev before : List Sent
   before = trace_of turns (opened_world start)
-
-  holds : Holds (d start plain fit turns k)
-  holds = any_held (links start plain fit turns k).alters (links start plain fit turns k).checked (length start.paths) start.buffer start.buffer k.events
-
-  send_is : (s : Side) → (way s now).send ≡ send_of s (books_in (w start plain fit turns k).books)
-  send_is A = ap (λ (e : Duo). e.ab.send) k.shows.duo_is ∙ sym (ap (λ (v : WorldState Carried). (books_in v.books).send_a) k.shows.is)
-  send_is B = ap (λ (e : Duo). e.ba.send) k.shows.duo_is ∙ sym (ap (λ (v : WorldState Carried). (books_in v.books).send_b) k.shows.is)
-
-  -- where a stream is closed its file was written
-  whole : (s : Side) → (way s now).send.closed ≡ true → (way s now).send.written ≡ file_of start s
-  whole A = subst (λ (b : Sending). b.closed ≡ true → b.written ≡ start.file_a) (sym (send_is A)) (writes_the_files values start turns).a.whole
-  whole B = subst (λ (b : Sending). b.closed ≡ true → b.written ≡ start.file_b) (sym (send_is B)) (writes_the_files values start turns).b.whole
 
   -- what came without a gap
   was_received : (s : Side) (place : ℕ) → place < received (way s now).arrived → WasPassed (way s now).lanes place
@@ -115,43 +141,42 @@ module _ (start : Start) (plain : IsPlain start) (fit : NumbersFit start) (turns
           let there = item_at (filled (way s now).arrived.places) (place - (way s now).arrived.read) (omega (arith, new, below)) in
           row.each (place - (way s now).arrived.read) place there.0 (omega (arith, new)) there.1
 
-  covered : (s : Side) (n place : ℕ) → n ≤ received (way s now).arrived + all_in (way s now).send.closed (way s now).send.written (received (way s now).arrived)
-      → place < n → place < length (file_of start s) → Has (P s place) before
-  covered s n place most below within =
+  covered : (s : Side) (n place : ℕ) → n ≤ next_wanted (way s now).arrived → place < n → Has (P s place) before ⊎ E s place
+  covered s n place most below =
       ⊎_elim
-      (λ came. has_map before (shows s place) (was_sent start plain fit turns k s place (was_received s place came)))
-      (λ past. absurd (none_past (way s now).send.closed (way s now).send.written (file_of start s) (received (way s now).arrived) place (whole s) past (omega (arith, below, most)) within))
+      (λ came. inl (has_map before (shows s place) (was_sent start plain fit turns k s place (was_received s place came))))
+      (λ past. inr (ends s place (end_there (way s now).arrived.known_end (received (way s now).arrived) place past (omega (arith, below, most)))))
       (cases_lt place (received (way s now).arrived))
 
+  wanted : BothWanted (d start plain fit turns k)
+  wanted = always_wanted (links start plain fit turns k).alters (links start plain fit turns k).checked (length start.paths) start.buffer start.buffer k.events
+
   -- what an end was told
-  told_so : (n : ℕ) (x : Walker Carried) → slice_get k.shows.cast.paths n ≡ Some x → (s : Side)
-      → (end_at s x.path).receiving.next ≤ received (way (peer s) now).arrived + all_in (way (peer s) now).send.closed (way (peer s) now).send.written (received (way (peer s) now).arrived)
+  told_so : (n : ℕ) (x : Walker Carried) → slice_get k.shows.cast.paths n ≡ Some x → (s : Side) → (end_at s x.path).receiving.next ≤ next_wanted (way (peer s) now).arrived
   told_so n x at s = by s
     where
       path : PathThere start k.shows.lanes_ab k.shows.lanes_ba n x.path
       path = k.shows.paths.each n n x (omega arith) at
 
-      by : (s : Side) → (end_at s x.path).receiving.next ≤ received (way (peer s) now).arrived + all_in (way (peer s) now).send.closed (way (peer s) now).send.written (received (way (peer s) now).arrived)
+      by : (s : Side) → (end_at s x.path).receiving.next ≤ next_wanted (way (peer s) now).arrived
       by A =
-          let hold : LaneHolds _ n path.ba = holds.ba.lanes.each n n path.ba (omega arith) (ap (λ (e : Duo). slice_get e.ba.lanes n) k.shows.duo_is ∙ path.ba_there) in
-          let covers = hold.receiver.told.covers in
+          let most = wanted.ba n path.ba (ap (λ (e : Duo). slice_get e.ba.lanes n) k.shows.duo_is ∙ path.ba_there) in
           let latest : path.ba.latest.next ≡ x.path.a.receiving.next = ap (λ t. t.next) path.shows.a.acks.latest in
-          omega (arith, covers, latest)
+          omega (arith, most, latest)
       by B =
-          let hold : LaneHolds _ n path.ab = holds.ab.lanes.each n n path.ab (omega arith) (ap (λ (e : Duo). slice_get e.ab.lanes n) k.shows.duo_is ∙ path.ab_there) in
-          let covers = hold.receiver.told.covers in
+          let most = wanted.ab n path.ab (ap (λ (e : Duo). slice_get e.ab.lanes n) k.shows.duo_is ∙ path.ab_there) in
           let latest : path.ab.latest.next ≡ x.path.b.receiving.next = ap (λ t. t.next) path.shows.b.acks.latest in
-          omega (arith, covers, latest)
+          omega (arith, most, latest)
 
-  path_acks : (n : ℕ) (x : Walker Carried) → slice_get k.shows.cast.paths n ≡ Some x → PathAlso (AckedBefore start P (trace_of turns (opened_world start))) x.path
+  path_acks : (n : ℕ) (x : Walker Carried) → slice_get k.shows.cast.paths n ≡ Some x → PathAlso (AckedBefore P E (trace_of turns (opened_world start))) x.path
   path_acks n x at = by (first_sends x.path.agenda x.path) (first_sent_acks x.path x.path.agenda)
     where
-      by : (o : Option ToSend) → IfSome o (SendsAcks x.path) → IfSome o (λ t. AckedBefore start P before (path_of x.path) t.from (segment_sent x.path t))
+      by : (o : Option ToSend) → IfSome o (SendsAcks x.path) → IfSome o (λ t. AckedBefore P E before (path_of x.path) t.from (segment_sent x.path t))
       by None acks = tt
-      by (Some t) acks = Every-map (λ o is. shown_so start P before t.from (end_at t.from x.path).receiving.next (λ place below within. covered (peer t.from) (end_at t.from x.path).receiving.next place (told_so n x at t.from) below within) o is) acks
+      by (Some t) acks = Every-map (λ o is. shown_so P E before t.from (end_at t.from x.path).receiving.next (λ place below. covered (peer t.from) (end_at t.from x.path).receiving.next place (told_so n x at t.from) below) o is) acks
 
   abbrev Q : ℕ → Side → PlainSegment → Type 0
-  Q = AckedBefore start P (trace_of turns (opened_world start))
+  Q = AckedBefore P E (trace_of turns (opened_world start))
 
   valued : WorldAlso Q (w start plain fit turns k)
   valued = subst (λ (v : WorldState Carried). WorldAlso Q v) (sym k.shows.is) (each_actor (λ i c. MemberAlso Q c.member) k.shows.cast tt tt (λ n x at. path_acks n x at))
@@ -173,7 +198,7 @@ module _ (start : Start) (plain : IsPlain start) (fit : NumbersFit start) (turns
   member_also (Path p) s = path_also p s
 
   -- each segment that the next turn sends
-  pub also_acked : WorldAlso (AckedBefore start P (trace_of turns (opened_world start))) (world_run octets turns (opened_world start))
+  pub also_acked : WorldAlso (AckedBefore P E (trace_of turns (opened_world start))) (world_run octets turns (opened_world start))
   also_acked =
       subst (λ (v : WorldState (List ℕ)). WorldAlso Q v) (sym (run_fresh start turns plain.size fit))
       (λ i c at.
@@ -235,9 +260,9 @@ each_is_carried start turns plain fit i x is =
     let k : Known start plain fit m.before = always_known start plain fit m.before in
     let P : Side → ℕ → Sent → Type 0 = IsOnLane start (d start plain fit m.before k) in
     let so_far : List Sent = trace_of m.before (opened_world start) in
-    let all : Every (IsSpoken (AckedBefore start P so_far) start) (sent_at m.turn (world_run octets m.before (opened_world start))) =
-    turn_spoken (AckedBefore start P so_far) start m.turn (world_run octets m.before (opened_world start)) (world_speaks start m.before plain.size fit)
-    (also_acked start plain fit m.before k P (λ s place x h. h)) in
+    let all : Every (IsSpoken (AckedBefore P (AtEnd start) so_far) start) (sent_at m.turn (world_run octets m.before (opened_world start))) =
+    turn_spoken (AckedBefore P (AtEnd start) so_far) start m.turn (world_run octets m.before (opened_world start)) (world_speaks start m.before plain.size fit)
+    (also_acked start plain fit m.before k P (λ s place x h. h) (AtEnd start) (known_at_end start plain fit m.before k)) in
     let said = all.each 0 x m.sends in
     record {
       spelling = _;

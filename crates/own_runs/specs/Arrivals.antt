@@ -32,10 +32,10 @@ WhatCameWasSent =
     → (s : Side) (place : ℕ) → HasCome place (reassembly_of (peer s) (books_in (world_run octets turns (opened_world start)).books))
     → Has (CarriesPlace s (file_of start s) place) (trace_of turns (opened_world start))
 
--- A Data ACK in it covers octets of the other side's file that were carried before. (It may cover the place of the DATA_FIN behind them.)
+-- A Data ACK in it covers octets of the other side's file that were carried before, and perhaps the place of the DATA_FIN behind the last one.
 abbrev pub AckIsCarried : Start → List Sent → Side → PlainOption → Type 0
 AckIsCarried start before s (Dss (Some next) mapping) =
-    (place : ℕ) → place < next → place < length (file_of start (peer s)) → Has (CarriesPlace (peer s) (file_of start (peer s)) place) before
+    (place : ℕ) → place < next → Has (CarriesPlace (peer s) (file_of start (peer s)) place) before ⊎ (place ≡ length (file_of start (peer s)))
 AckIsCarried start before s _ = Unit {0}
 
 -- The segment, as it was made.

@@ -76,8 +76,9 @@ pub fn captures_show_the_files()
 {}
 
 /// A law: each octet that came to a side, whether its reader has it or the book of the side holds it, was in a segment that the other side
-/// handed to a link, as a part of its file (`octets`). So each octet of a file that a Data ACK covers was in a segment before it (`acks`,
-/// RFC 8684, section 3.3.2). Both hold after every list of turns, lawful or not, of a connection whose script alters no payload.
+/// handed to a link, as a part of its file (`octets`). So a Data ACK covers octets of the file that were in segments before it, and nothing more
+/// than the place of the DATA_FIN behind them (`acks`, RFC 8684, section 3.3.2). Both hold after every list of turns, lawful or not, of a
+/// connection whose script alters no payload.
 pub fn what_came_was_sent()
     ensures octets { WhatCameWasSent }
     ensures acks { EachAckIsCarried }
