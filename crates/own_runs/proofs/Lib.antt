@@ -11,6 +11,7 @@ mod RecordsKept
 mod ShortPieces
 mod ShortOctets
 mod FateWords
+mod NextGrows
 mod Ticks
 mod Syns
 mod Speaking
