@@ -12,6 +12,7 @@ mod ShortPieces
 mod ShortOctets
 mod FateWords
 mod NextGrows
+mod NextRuns
 mod Ticks
 mod Syns
 mod Speaking

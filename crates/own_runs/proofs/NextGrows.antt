@@ -217,7 +217,7 @@ module _ (r : Reply) (p : PathState Carried) where
 -- ---- a path
 
 -- both ends acknowledge what they did
-abbrev Same : PathState Carried → PathState Carried → Type 0
+abbrev pub Same : PathState Carried → PathState Carried → Type 0
 Same p q = (q.a.receiving.next ≡ p.a.receiving.next) × (q.b.receiving.next ≡ p.b.receiving.next)
 
 ends : (s : Side) (e : PathEnd) (p : PathState Carried) → e.receiving.next ≡ (end_at s p).receiving.next → Same p (with_end s e p)
@@ -258,7 +258,7 @@ passed_same (Duty.Silent (SilentDuty.PassFin s)) p = quiet (Duty.Silent (SilentD
 passed_same (Duty.Send d) p = (refl, refl)
 passed_same Duty.End p = (refl, refl)
 
-same_lasts : Lasts Same
+pub same_lasts : Lasts Same
 same_lasts = record {
   agenda = λ ds p. (refl, refl);
   chains = λ p q r x y. (y.0 ∙ x.0, y.1 ∙ x.1);
