@@ -48,6 +48,9 @@ mod Pending
 mod Handed
 mod WasSent
 mod CameSent
+mod Acking
+mod ToldAcks
+mod ShownAcks
 mod Reached
 mod FineMoments
 mod MapKept
