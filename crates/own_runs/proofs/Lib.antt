@@ -11,6 +11,8 @@ mod RecordsKept
 mod ShortPieces
 mod ShortOctets
 mod FateWords
+mod NextGrows
+mod NextRuns
 mod Ticks
 mod Syns
 mod Speaking
