@@ -35,7 +35,7 @@ use Rattle.rule_book.specs.Facts.{Facts, first_of, payload_at}
 use Rattle.rule_book.specs.Stream.{acked_each, behind_acks, behind_payload, fin_taken, judged_at, mapped_each, mapped_one, mapped_with, summed, told_in, within_each}
 use Rattle.own_runs.proofs.FinePositions.{NumberIs, near_so}
 use Rattle.own_runs.proofs.OwnPositions.{same_position}
-use Rattle.own_runs.proofs.MapPositions.{Fine, Holds, LaneFine, OfferIs, OffersWell, Sit, Sits, Summed, fault_so, mapped_so, offer_so, within}
+use Rattle.own_runs.proofs.MapPositions.{Fine, StreamFine, Holds, LaneFine, OfferIs, OffersWell, Sit, Sits, Summed, fault_so, mapped_so, offer_so, within}
 use Rattle.first_runs.specs.declared.run.Run.{Run}
 use Rattle.seen_streams.specs.declared.told.Broke.{Broke}
 use Rattle.seen_streams.specs.Positions.{with_fin}
@@ -214,6 +214,15 @@ module _ (limit : ℕ) (few : limit < 2 ^ 31) (content : ℕ → ℕ) (first : �
   abbrev AllHold : Mapped → Type 0
   AllHold x = Holds limit few content first where_at x
 
+  -- all below a place was seen, and the DATA_FIN was told where the place is behind it
+  pub seen_so : (s : StreamValue) → StreamFine limit few content s → (place : ℕ) → ((q : ℕ) → q < place → q < limit → s.seen q ≡ true) → place ≤ limit + 1
+      → (limit < place → is_some s.fin ≡ true) → IsSeen limit place s
+  seen_so s h place each upto told = record { below = each; within = h.below; upto = upto; fin = λ behind. by s.fin refl (told behind) h.fin }
+    where
+      by : (o : Option ToldPlace) → s.fin ≡ o → is_some o ≡ true → IfSome o (λ t. t.place ≡ limit) → (t : ToldPlace) × (s.fin ≡ Some t) × (t.place ≡ limit)
+      by None e some is = absurd (false≢true some)
+      by (Some t) e some is = (t, e, is)
+
   -- an offer that is such is learnt
   mapped_is : (teller : Teller) → teller.first ≡ first → (offer : Offer) (near : ℕ) (state : Mapped) (o : OfferIs first limit content where_at near offer) → AllHold state
       → mapped_at teller offer (mapping.position_near near offer.relative) state
@@ -230,7 +239,7 @@ module _ (limit : ℕ) (few : limit < 2 ^ 31) (content : ℕ → ℕ) (first : �
       h = all.0
 
       fine : Fine limit few content first where_at (one_more state).stream state.lane
-      fine = (record { infinite = h.0.infinite; fin = h.0.fin; top = h.0.top; octets = h.0.octets; untold = h.0.untold }, h.1)
+      fine = (record { infinite = h.0.infinite; fin = h.0.fin; top = h.0.top; octets = h.0.octets; below = h.0.below; untold = h.0.untold }, h.1)
 
       sits : (mapped_octets offer ≡ 0) ⊎ ((offer.relative % 2 ^ 32 ≡ near % 2 ^ 32) × Sit where_at near o.place (mapped_octets offer))
           → Sits limit few content first where_at offer (mapping.position_near near offer.relative) o.place

@@ -21,7 +21,7 @@ use Rattle.sides.specs.declared.side.Side.TheVariants.{A, B}
 use Rattle.sides.specs.declared.side.Side.{Side}
 use Rattle.stream_lanes.proofs.Lists.{in_map, item_at}
 use Rattle.stream_lanes.specs.Duo.{Duo, Event, after_event, after_events, flags_ab, flags_ba}
-use Rattle.stream_lanes.specs.Lane.{Ask, Lane}
+use Rattle.stream_lanes.specs.Lane.{Ask, Cell, Lane}
 use Rattle.stream_lanes.specs.Moves.{Flags, moved}
 use Rattle.stream_lanes.specs.Streams.{Direction, StreamEvent, after, asks, asks_at, goes_infinite, moves}
 use Rattle.stream_lanes.specs.Words.{Has}
@@ -150,17 +150,24 @@ paths_count start number (plan ∷ plans) = ap suc (paths_count start (suc numbe
 
 -- ---- a run
 
-module _ (start : Start) (plain : IsPlain start) (fit : NumbersFit start) (turns : List Turn) where
-  abbrev k : Known start plain fit turns
-  k = always_known start plain fit turns
+-- a segment with the octet of this place has it at a position of a lane
+pub record IsOnLane (start : Start) (e : Duo) (s : Side) (place : ℕ) (x : Sent) : Type 0 where
+  pub position : ℕ
+  pub lane : Lane
+  pub there : slice_get (way s e).lanes x.path ≡ Some lane
+  pub cell : Cell
+  pub cell_there : slice_get lane.sent position ≡ Some cell
+  pub place_is : cell.place ≡ place
+  pub covers : Covers start x.path s position place x
 
-  abbrev links : Links
+module _ (start : Start) (plain : IsPlain start) (fit : NumbersFit start) (turns : List Turn) (k : Known start plain fit turns) where
+  abbrev pub links : Links
   links = (can start plain fit).links
 
-  abbrev d : Duo
+  abbrev pub d : Duo
   d = after_events k.events (first_duo links start)
 
-  abbrev w : WorldState Carried
+  abbrev pub w : WorldState Carried
   w = world_run values turns (opened_world start)
 
   lanes_many : (s : Side) → length (way s d).lanes ≡ length start.paths
@@ -176,7 +183,7 @@ module _ (start : Start) (plain : IsPlain start) (fit : NumbersFit start) (turns
       let x = in_map walking k.shows.cast.paths n found.0 found.1 in
       (found.0, ap (λ (v : WorldState Carried). slice_get v.crew (suc (suc n))) k.shows.is ∙ found.1, x.0.path, ap (λ (c : ActorCrew Carried). c.member) (sym x.2))
 
-  passed_of : (s : Side) → AllPassed (way s d).lanes (way s d).arrived
+  pub passed_of : (s : Side) → AllPassed (way s d).lanes (way s d).arrived
   passed_of A = (always_passed links.alters links.checked (length start.paths) start.buffer start.buffer k.events).ab
   passed_of B = (always_passed links.alters links.checked (length start.paths) start.buffer start.buffer k.events).ba
 
@@ -191,7 +198,7 @@ module _ (start : Start) (plain : IsPlain start) (fit : NumbersFit start) (turns
   was_passed s place (inl before) = (passed_of s).before place before
   was_passed s place (inr held) = let low = held.0 in (passed_of s).cells.each (place - (way s d).arrived.read) place held.1.0 (omega (arith, low)) held.1.1
 
-  was_sent : (s : Side) (place : ℕ) → WasPassed (way s d).lanes place → Has (CarriesPlace s (file_of start s) place) (trace_of turns (opened_world start))
+  pub was_sent : (s : Side) (place : ℕ) → WasPassed (way s d).lanes place → Has (IsOnLane start d s place) (trace_of turns (opened_world start))
   was_sent s place h =
       let many = lanes_many s in
       let inside = slice_get_within (way s d).lanes h.path h.lane h.there in
@@ -199,9 +206,31 @@ module _ (start : Start) (plain : IsPlain start) (fit : NumbersFit start) (turns
       let side = k.sent h.path actor.0 actor.1 actor.2 actor.3 s h.lane h.there in
       let edge = side.edge in let below = h.below in
       let has = side.told h.position h.cell (omega (arith, edge, below)) h.cell_there in
+      let path = has.holds.path in
       let cover : Covers start h.path s h.position place has.item = subst (λ (place : ℕ). Covers start h.path s h.position place has.item) h.place_is has.holds in
-      record { at = has.at; item = has.item; there = has.there; holds = carries start h.path s h.position place has.item cover }
+      record {
+        at = has.at;
+        item = has.item;
+        there = has.there;
+        holds = record {
+          position = h.position;
+          lane = h.lane;
+          there = ap (slice_get (way s d).lanes) path ∙ h.there;
+          cell = h.cell;
+          cell_there = h.cell_there;
+          place_is = h.place_is;
+          covers = subst (λ (n : ℕ). Covers start n s h.position place has.item) (sym path) cover;
+        };
+      }
+
+pub on_lane_carries : (start : Start) (e : Duo) (s : Side) (place : ℕ) (x : Sent) → IsOnLane start e s place x → CarriesPlace s (file_of start s) place x
+on_lane_carries start e s place x h = carries start x.path s h.position place x h.covers
+
+pub has_map : {X : Type 0} {P Q : X → Type 0} (xs : List X) → ((x : X) → P x → Q x) → Has P xs → Has Q xs
+has_map xs f h = record { at = h.at; item = h.item; there = h.there; holds = f h.item h.holds }
 
 pub came_was_sent : WhatCameWasSent
 came_was_sent start turns plain fit s place came =
-    was_sent start plain fit turns s place (was_passed start plain fit turns s place (subst (HasCome place) (book start plain fit turns s) came))
+    let k : Known start plain fit turns = always_known start plain fit turns in
+    has_map (trace_of turns (opened_world start)) (on_lane_carries start (d start plain fit turns k) s place)
+    (was_sent start plain fit turns k s place (was_passed start plain fit turns k s place (subst (HasCome place) (book start plain fit turns k s) came)))

@@ -353,20 +353,20 @@ module _ (start : Start) (last : Duo) where
   member_shown (App a) s = tt
   member_shown (Path p) s = path_shown p s
 
--- at each moment of a run, by its last lanes
+-- at a moment of a run, by its last lanes
+pub offered_at : (start : Start) (plain : IsPlain start) → IsWhole start → NumbersFit start → (last : Duo) (more : List Turn)
+    → (q : Reached (plainly start plain).links start (world_run values more (opened_world start))) × Grows (duo_at start (plainly start plain) (world_run values more (opened_world start)) q) last
+    → WorldAlso (Offered start last) (world_run octets more (opened_world start))
+offered_at start plain whole fit last more r =
+    subst (λ (w : WorldState (List ℕ)). WorldAlso (Offered start last) w) (sym (run_fresh start more plain.size fit))
+    (λ i c at.
+    let found = in_map shown_crew (world_run values more (opened_world start)).crew i c at in
+    subst (λ (y : ActorCrew (List ℕ)). MemberOffers start last y.member) found.2
+    (member_shown start last found.0.member (valued start more plain whole fit last r.0 r.1 i found.0 found.1)))
+
 pub whole_offers : (start : Start) (turns : List Turn) → IsPlain start → IsWhole start → NumbersFit start
     → (last : Duo) × ((more later : List Turn) → more ++ later ≡ turns → WorldAlso (Offered start last) (world_run octets more (opened_world start)))
 whole_offers start turns plain whole fit =
     let can = plainly start plain in
     let reached = run_reaches start can turns (free_run can.links (plainly_free start plain) turns (opened_world start)) in
-    (reached.0, λ more later is. moment reached.0 more (reached.1 more later is))
-  where
-    moment : (last : Duo) (more : List Turn)
-        → (q : Reached (plainly start plain).links start (world_run values more (opened_world start))) × Grows (duo_at start (plainly start plain) (world_run values more (opened_world start)) q) last
-        → WorldAlso (Offered start last) (world_run octets more (opened_world start))
-    moment last more r =
-        subst (λ (w : WorldState (List ℕ)). WorldAlso (Offered start last) w) (sym (run_fresh start more plain.size fit))
-        (λ i c at.
-        let found = in_map shown_crew (world_run values more (opened_world start)).crew i c at in
-        subst (λ (y : ActorCrew (List ℕ)). MemberOffers start last y.member) found.2
-        (member_shown start last found.0.member (valued start more plain whole fit last r.0 r.1 i found.0 found.1)))
+    (reached.0, λ more later is. offered_at start plain whole fit reached.0 more (reached.1 more later is))

@@ -2,6 +2,7 @@
 -- place, and each place one octet. Where a reset of a dead end stands far behind all others, with number 0 (RFC 9293, section 3.10.7.1), later
 -- numbers may be read as positions that are 2^32 too high: all is said modulo 2^32.
 use Rattle.std.proofs.Common.{◌≡◌, refl, sym, ap, ◌∙◌, subst, ℕ, ◌+◌, ◌%◌, ◌<◌, ◌≤◌, ◌^◌, Bool, true, false, if◌then◌else◌, Option, Some, None, List, [], map, arith}
+use Rattle.std.proofs.lemmas.Bool.{false≢true}
 use Rattle.std.specs.Prelude.{All, IfSome}
 use Rattle.std.specs.Option.{option_map}
 use Rattle.std.proofs.lemmas.List.Elements.{All-nil}
@@ -74,8 +75,8 @@ module _ (d : Drawn) (limit : Side → ℕ) (few : (s : Side) → limit s < 2 ^ 
     pub other : Laned path B lanes.other
 
   new_fine : BookFine empty_book
-  new_fine A = record { infinite = refl; fin = tt; top = omega arith; octets = λ q. tt; untold = λ r is. refl }
-  new_fine B = record { infinite = refl; fin = tt; top = omega arith; octets = λ q. tt; untold = λ r is. refl }
+  new_fine A = record { infinite = refl; fin = tt; top = omega arith; octets = λ q. tt; below = λ q is. absurd (false≢true is); untold = λ r is. refl }
+  new_fine B = record { infinite = refl; fin = tt; top = omega arith; octets = λ q. tt; below = λ q is. absurd (false≢true is); untold = λ r is. refl }
 
   with_fine : (s : Side) (stream : StreamValue) (book : BookValue) → StreamFine (limit s) (few s) (content s) stream → BookFine book → BookFine (with_stream s stream book)
   with_fine A stream book new h A = new
@@ -107,11 +108,12 @@ module _ (d : Drawn) (limit : Side → ℕ) (few : (s : Side) → limit s < 2 ^ 
     fin : IfSome stream.fin (λ told. told.place ≡ limit s)
     top : stream.top ≤ limit s
     octets : (q : ℕ) → IfSome (stream.octet q) (λ o. (q < limit s) × (o.octet ≡ content s q))
+    below : (q : ℕ) → stream.seen q ≡ true → q < limit s
 
   fields_keep : (s : Side) → TellingKeeps (Fields s)
   fields_keep s = record {
-    tells = λ r packet fault stream h. record { infinite = h.infinite; fin = h.fin; top = h.top; octets = h.octets };
-    counts = λ stream keys joins mappings sums data_acks h. record { infinite = h.infinite; fin = h.fin; top = h.top; octets = h.octets };
+    tells = λ r packet fault stream h. record { infinite = h.infinite; fin = h.fin; top = h.top; octets = h.octets; below = h.below };
+    counts = λ stream keys joins mappings sums data_acks h. record { infinite = h.infinite; fin = h.fin; top = h.top; octets = h.octets; below = h.below };
   }
 
   abbrev Leaves : ℕ → Told → Type 0
@@ -184,12 +186,12 @@ module _ (d : Drawn) (limit : Side → ℕ) (few : (s : Side) → limit s < 2 ^ 
           let made = options_so d is_mapping own.path facts it own.values first own.each
           (record { keys = k; untold = was.untold; each = All-nil (ValueIs d own.path own.from) }) in
           let all = judged_options facts (map Readable own.values) first in
-          let fields = fields_so (fields_keep own.from) facts (map Readable own.values) first (record { infinite = was.infinite; fin = was.fin; top = was.top; octets = was.octets }) in
+          let fields = fields_so (fields_keep own.from) facts (map Readable own.values) first (record { infinite = was.infinite; fin = was.fin; top = was.top; octets = was.octets; below = was.below }) in
           let wells : (q : ℕ) → q % 2 ^ 32 ≡ p.at % 2 ^ 32 → All (Well own.path own.from q) all.options =
           λ q same. kept_so (Well own.path own.from q) facts own.values first (p.offers q same) (All-nil (Well own.path own.from q)) in
           let calm = kept_so TellsNoFail facts own.values first p.calm (All-nil TellsNoFail) in
           let stream : StreamFine (limit own.from) (few own.from) (content own.from) all.stream =
-          record { infinite = fields.infinite; fin = fields.fin; top = fields.top; octets = fields.octets; untold = made.untold } in
+          record { infinite = fields.infinite; fin = fields.fin; top = fields.top; octets = fields.octets; below = fields.below; untold = made.untold } in
           let behind = positions_so facts all.options all.keys (record left { book = with_stream own.from all.stream left.book }) refl (opens_so d seen own flow f) p.at
           (seq_so opened e) made.keys p.bears wells calm
           (record { book = with_fine own.from all.stream left.book stream h.book; lanes = h.lanes }) in
@@ -240,6 +242,7 @@ module _ (d : Drawn) (limit : Side → ℕ) (few : (s : Side) → limit s < 2 ^ 
           fin = was.fin;
           top = was.top;
           octets = was.octets;
+          below = was.below;
           untold = others_keep is_mapping rule.Token wrong.packet (Found (Number32 wrong.expected wrong.was)) (stream_at s book).broken refl was.untold;
         }) h;
     flow = λ at packet seen p index flow f belongs is keys left k h lanes.

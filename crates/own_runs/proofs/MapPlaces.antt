@@ -22,7 +22,7 @@ use Rattle.world_laws.proofs.Lanes.Showing.{HasData, HasMapping}
 use Rattle.own_runs.proofs.MapPositions.{Bears, Sit, contents}
 use Rattle.own_runs.proofs.SentGrows.{Longer}
 
-abbrev place_in : Option Cell → ℕ
+abbrev pub place_in : Option Cell → ℕ
 place_in None = 0
 place_in (Some cell) = cell.place
 

@@ -6,7 +6,7 @@ use Rattle.std.specs.Prelude.{All, IfSome, int_lt, is_some, option_and_then, unw
 use Rattle.std.specs.List.{slice_get}
 use Rattle.std.specs.Int.{from_bool, int_rem_euclid}
 use Rattle.std.specs.Option.{option_or}
-use Rattle.std.proofs.lemmas.Bool.{and_parts, eq-eqb, le-ltb, leb-true, lt-ltb, ltb-true, ne_eqb}
+use Rattle.std.proofs.lemmas.Bool.{and_parts, eq-eqb, false≢true, le-ltb, leb-true, lt-ltb, ltb-true, ne_eqb}
 use Rattle.std.proofs.lemmas.Int.{int_rem_euclid_is, ints}
 use Rattle.std.proofs.lemmas.List.{get_or-drop, get_or-take, length-drop, length-take}
 use Rattle.std.proofs.lemmas.List.Elements.{All-append, All-cons, All-filter, All-head, All-nil, All-tail}
@@ -37,7 +37,7 @@ use Rattle.seen_streams.specs.declared.told.Infinite.{Infinite}
 use Rattle.seen_streams.specs.declared.told.Teller.{Teller}
 use Rattle.seen_streams.specs.declared.told.ToldMapping.{ToldMapping}
 use Rattle.seen_streams.specs.declared.told.Waiting.{Waiting}
-use Rattle.seen_streams.specs.State.{FaultValue, Found, LaneValue, StreamValue, counted, line_place, place_of, with_broken, with_found}
+use Rattle.seen_streams.specs.State.{FaultValue, Found, LaneValue, StreamValue, counted, is_of, line_place, place_of, with_broken, with_found}
 use Rattle.seen_streams.specs.Acks.{Acked, ack_counted, ack_facts, acked_by, ended_by_fin, fin_told as line_fin}
 use Rattle.seen_streams.specs.Content.{PayloadValue, as_part, at_place, comes, content_fault, is_mapped_by, octet_of, other_octet, shown_from, with_payload}
 use Rattle.seen_streams.specs.Mapped.{Mapped, against_infinite, by_rule, fin_after, finite, finite_at, finite_by, finite_fault, mapped_at, octets_fault, one_more, placed_fault, told_mapping}
@@ -126,23 +126,24 @@ contents_none at (suc n) p q none = absurd (omega (arith, none))
 
 -- `content` is the octet of each place
 module _ (limit : ℕ) (few : limit < 2 ^ 31) (content : ℕ → ℕ) where
-  -- no infinite mapping was told, nothing is mapped beyond the end, where the DATA_FIN stands, each place has its octet, and no such rule was
+  -- no infinite mapping was told, nothing is mapped or seen beyond the end, where the DATA_FIN stands, each place has its octet, and no such rule was
   -- broken
   pub record StreamFine (s : StreamValue) : Type 0 where
     pub infinite : s.infinite ≡ None
     pub fin : IfSome s.fin (λ told. told.place ≡ limit)
     pub top : s.top ≤ limit
     pub octets : (q : ℕ) → IfSome (s.octet q) (λ o. (q < limit) × (o.octet ≡ content q))
+    pub below : (q : ℕ) → s.seen q ≡ true → q < limit
     pub untold : Untold is_mapping s.broken
 
   tell_so : (r : Rule) (packet : ℕ) (fault : FaultValue) (s : StreamValue) → is_mapping r ≡ false → StreamFine s
       → StreamFine (record s { broken = with_broken (record { rule = r; packet = packet; fault = fault }) s.broken })
   tell_so r packet fault s other h =
-      record { infinite = h.infinite; fin = h.fin; top = h.top; octets = h.octets; untold = others_keep is_mapping r packet fault s.broken other h.untold }
+      record { infinite = h.infinite; fin = h.fin; top = h.top; octets = h.octets; below = h.below; untold = others_keep is_mapping r packet fault s.broken other h.untold }
 
   found_so : (r : Rule) (packet : ℕ) (finding : Option Finding) (s : StreamValue) → is_mapping r ≡ false → StreamFine s
       → StreamFine (record s { broken = with_found r packet finding s.broken })
-  found_so r packet None s other h = record { infinite = h.infinite; fin = h.fin; top = h.top; octets = h.octets; untold = h.untold }
+  found_so r packet None s other h = record { infinite = h.infinite; fin = h.fin; top = h.top; octets = h.octets; below = h.below; untold = h.untold }
   found_so r packet (Some finding) s other h = tell_so r packet (Found finding) s other h
 
   -- where the positions of a lane have these places, and place 0 this number: no infinite mapping was told on it, its positions have their
@@ -328,6 +329,7 @@ module _ (limit : ℕ) (few : limit < 2 ^ 31) (content : ℕ → ℕ) where
               fin = fin_learnt teller state.stream state.lane h offer place ends position teller.packet;
               top = top_learnt teller state.stream state.lane h offer place ends;
               octets = h.0.octets;
+              below = h.0.below;
               untold = h.0.untold;
             },
             places_so state.lane teller.packet (told_mapping offer position place) (within teller state.stream state.lane h offer place ends) sits h.1,
@@ -353,7 +355,7 @@ module _ (limit : ℕ) (few : limit < 2 ^ 31) (content : ℕ → ℕ) where
         sits (inr both) = inr (near, same_position near offer.relative both.0, both.1)
 
         fine : Holds (one_more state)
-        fine = ((record { infinite = h.0.infinite; fin = h.0.fin; top = h.0.top; octets = h.0.octets; untold = h.0.untold }, h.1), all.1)
+        fine = ((record { infinite = h.0.infinite; fin = h.0.fin; top = h.0.top; octets = h.0.octets; below = h.0.below; untold = h.0.untold }, h.1), all.1)
 
         octets_same : (mapped_octets offer ≡ 0) ⊎ ((offer.relative % 2 ^ 32 ≡ near % 2 ^ 32) × Sit where_at near o.place (mapped_octets offer))
             → contents at near (mapped_octets offer) ≡ contents at (natural (mapping.position_near near offer.relative)) (mapped_octets offer)
@@ -411,6 +413,7 @@ module _ (limit : ℕ) (few : limit < 2 ^ 31) (content : ℕ → ℕ) where
           (subst (λ (o : Option ToldPlace). IfSome o (λ t. t.place ≡ limit)) (sym (same_fin s.fin l.fin packet)) h.0.fin);
       top = h.0.top;
       octets = h.0.octets;
+      below = h.0.below;
       untold = h.0.untold;
     }
 
@@ -463,6 +466,17 @@ module _ (limit : ℕ) (few : limit < 2 ^ 31) (content : ℕ → ℕ) where
         by (Some was) has = has
         by None has = new octet is
 
+    shown_below : (place : ℕ) (s : StreamValue) → place < limit → StreamFine s → (q : ℕ) → s.seen q || is_of place 1 q ≡ true → q < limit
+    shown_below place s low h q is = by (s.seen q) refl (is_of place 1 q) refl is
+      where
+        by : (was : Bool) → s.seen q ≡ was → (now : Bool) → is_of place 1 q ≡ now → was || now ≡ true → q < limit
+        by true seen now new either = h.below q seen
+        by false seen true new either =
+            let both = and_parts (nat_le place q) (nat_lt q (place + 1)) new in
+            let from = leb-true place q both.0 in let to = ltb-true q (place + 1) both.1 in
+            omega (arith, from, to, low)
+        by false seen false new either = absurd (false≢true either)
+
     -- what comes to a position is its octet, and its place is that which it has
     abbrev Comes : ℕ → Option (Option ℕ) → Type 0
     Comes p come = IfSome come (λ octet. IfSome octet (λ x. x ≡ at p))
@@ -475,10 +489,10 @@ module _ (limit : ℕ) (few : limit < 2 ^ 31) (content : ℕ → ℕ) where
         let is = right octet come in
         let it : StreamFine (record s { broken = with_found rule.PlaceContent packet (content_fault acknowledged s.octet place (as_part octet)) s.broken }) =
         subst (λ (o : Option Finding). StreamFine (record s { broken = with_found rule.PlaceContent packet o s.broken })) (sym (content_none acknowledged place octet s h is)) (same s h) in
-        record { infinite = it.infinite; fin = it.fin; top = it.top; octets = shown_octet packet place octet s sits.1 h is; untold = it.untold }
+        record { infinite = it.infinite; fin = it.fin; top = it.top; octets = shown_octet packet place octet s sits.1 h is; below = shown_below place s sits.1 h; untold = it.untold }
       where
         same : (s : StreamValue) → StreamFine s → StreamFine (record s { broken = s.broken })
-        same s h = record { infinite = h.infinite; fin = h.fin; top = h.top; octets = h.octets; untold = h.untold }
+        same s h = record { infinite = h.infinite; fin = h.fin; top = h.top; octets = h.octets; below = h.below; untold = h.untold }
 
         right : (octet : Option ℕ) → IfSome octet (λ x. x ≡ at p) → IfSome octet (λ x. x ≡ content place)
         right None is = tt
@@ -529,7 +543,7 @@ module _ (limit : ℕ) (few : limit < 2 ^ 31) (content : ℕ → ℕ) where
         else Some (WrongSum m.place m.length waiting.packet (expected_sum first octet m) (unwrap_or m.checksum 0)))
         (eq-eqb (expected_sum first octet m) (unwrap_or m.checksum 0) expected) in
         subst (λ (o : Option Finding). StreamFine (record s { sums = counted s.sums; broken = with_found rule.DssSum packet o s.broken })) (sym none)
-        (record { infinite = h.infinite; fin = h.fin; top = h.top; octets = h.octets; untold = h.untold })
+        (record { infinite = h.infinite; fin = h.fin; top = h.top; octets = h.octets; below = h.below; untold = h.untold })
     tried_if_so false packet octet is waiting s whole waits h = h
 
     tried_so : (packet : ℕ) (octet : ℕ → Option Octet) → ((p : ℕ) → IfSome (octet p) (λ o. o.octet ≡ at p)) → (waiting : List Waiting) (s : StreamValue) → All Waits waiting → StreamFine s
@@ -597,7 +611,7 @@ module _ (limit : ℕ) (few : limit < 2 ^ 31) (content : ℕ → ℕ) where
     acked_by_so : (place : Result ℕ Finding) (packet : ℕ) (acked : Acked) → Fine acked.stream acked.lane → Fine (acked_by place packet acked).stream (acked_by place packet acked).lane
     acked_by_so (Err finding) packet acked h = (tell_so rule.DataAck packet (Found finding) acked.stream refl h.0, h.1)
     acked_by_so (Ok place) packet acked h = (
-      record { infinite = h.0.infinite; fin = h.0.fin; top = h.0.top; octets = h.0.octets; untold = h.0.untold },
+      record { infinite = h.0.infinite; fin = h.0.fin; top = h.0.top; octets = h.0.octets; below = h.0.below; untold = h.0.untold },
       record { line = h.1.line; placed = h.1.placed; octets = h.1.octets; waiting = h.1.waiting },
     )
 
@@ -605,7 +619,7 @@ module _ (limit : ℕ) (few : limit < 2 ^ 31) (content : ℕ → ℕ) where
         → Fine (acked_one facts known peers option acked).stream (acked_one facts known peers option acked).lane
     acked_one_so facts known peers (Dss (Some number) mapping fin) acked h =
         acked_by_so (ack_place (ack_facts facts.at_sender known peers acked.lane) number) facts.packet (ack_counted acked)
-        (record { infinite = h.0.infinite; fin = h.0.fin; top = h.0.top; octets = h.0.octets; untold = h.0.untold }, h.1)
+        (record { infinite = h.0.infinite; fin = h.0.fin; top = h.0.top; octets = h.0.octets; below = h.0.below; untold = h.0.untold }, h.1)
     acked_one_so facts known peers option acked h = h
 
     acked_so : (facts : Facts) (known : ℕ) (peers : StreamValue) (options : List OptionValue) (acked : Acked) → Fine acked.stream acked.lane

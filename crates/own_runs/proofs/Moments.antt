@@ -398,7 +398,7 @@ module _ (Q : ℕ → Side → PlainSegment → Type 0) where
     some_spoken None said = Every-nil (IsSpoken start)
     some_spoken (Some x) said = every_one x said
 
-    turn_spoken : (turn : Turn) (w : WorldState (List ℕ)) → WorldSpeaks start w → WorldAlso w → Every (IsSpoken start) (sent_at turn w)
+    pub turn_spoken : (turn : Turn) (w : WorldState (List ℕ)) → WorldSpeaks start w → WorldAlso w → Every (IsSpoken start) (sent_at turn w)
     turn_spoken (Turn.Step i) w s also = some_spoken (sent_next i w) (next_spoken i w s also)
     turn_spoken Turn.Round w s also = Every-nil (IsSpoken start)
 

@@ -30,7 +30,8 @@ use Rattle.own_runs.proofs.Moments.{IsSpoken}
 use Rattle.own_runs.proofs.Own.{Drawn, IsOwn}
 use Rattle.own_runs.proofs.OwnFlows.{Each, FlowOn, KeysOwn, each_end, each_set, place_so}
 use Rattle.own_runs.proofs.OwnTrace.{found, is_own, seen_of}
-use Rattle.own_runs.proofs.TokenSegments.{IsBehind, behind}
+use Rattle.own_runs.proofs.OneConnection.{OneHolds, key_one, nothing_one, taken_one}
+use Rattle.own_runs.proofs.TokenSegments.{Asked, IsBehind, IsCapable, asks_only, behind}
 use Rattle.own_runs.proofs.TokenState.{TokensHold, key_hold, nothing_holds, right_so, taken_hold}
 use Rattle.own_runs.proofs.Values.{drawn}
 
@@ -55,53 +56,60 @@ module _ (d : Drawn) (B : BookValue → Type 0) where
 
   record AllHold (U T : Type 0) (state : JudgedValue) : Type 0 where
     seen : TokensHold d U T state.seen
+    one : OneHolds d state.seen
     books : Each B state.books
 
   module _ (tell : SegmentsTell) (at : Option Side) (packet : ℕ) (seen : Seen) (own : IsOwn d seen) (U T : Type 0) where
-    known_so : (index : ℕ) (flow : Flow) → FlowOn d own.path flow → (belongs : Belongs) → belongs.opener ≡ A → (keys : Option Keys) (book : Option BookValue) (lanes : Option LanesValue)
+    known_so : (index : ℕ) (flow : Flow) → FlowOn d own.path flow → (belongs : Belongs) → belongs.opener ≡ A → belongs.connection ≡ 0 → (keys : Option Keys) (book : Option BookValue) (lanes : Option LanesValue)
         (state : JudgedValue) → slice_get state.seen.connections belongs.connection ≡ keys → slice_get state.books belongs.connection ≡ book → AllHold U T state
         → AllHold U T (judged_known at packet seen index flow belongs keys book lanes state)
-    known_so index flow f belongs is (Some keys) (Some book) (Some lanes) state has_keys has_book all =
+    known_so index flow f belongs is first (Some keys) (Some book) (Some lanes) state has_keys has_book all =
         let left : Left = record { book = book; lanes = lanes } in
         let told = judged_flow at packet seen index flow belongs keys left in
         let it = tell.flow at packet seen own index flow f belongs is keys left (all.seen.own.connections belongs.connection keys has_keys) (all.books belongs.connection book has_book) in
         record {
           seen = key_hold d U T belongs.connection keys.a told.keys.a state.seen it.keys.a all.seen;
+          one = key_one d belongs.connection keys.a told.keys.a state.seen first all.one;
           books = each_set B state.books belongs.connection told.left.book all.books it.book;
         }
-    known_so index flow f belongs is (Some keys) (Some book) None state has_keys has_book all = all
-    known_so index flow f belongs is (Some keys) None lanes state has_keys has_book all = all
-    known_so index flow f belongs is None book lanes state has_keys has_book all = all
+    known_so index flow f belongs is first (Some keys) (Some book) None state has_keys has_book all = all
+    known_so index flow f belongs is first (Some keys) None lanes state has_keys has_book all = all
+    known_so index flow f belongs is first None book lanes state has_keys has_book all = all
 
-    belonging_so : (index : ℕ) (flow : Flow) → FlowOn d own.path flow → (belongs : Option Belongs) → IfSome belongs (λ b. b.opener ≡ A) → (state : JudgedValue) → AllHold U T state
+    belonging_so : (index : ℕ) (flow : Flow) → FlowOn d own.path flow → (belongs : Option Belongs) → IfSome belongs (λ b. b.opener ≡ A) → IfSome belongs (λ b. b.connection ≡ 0) → (state : JudgedValue) → AllHold U T state
         → AllHold U T (judged_belonging at packet seen index flow belongs state)
-    belonging_so index flow f None is state all = all
-    belonging_so index flow f (Some belongs) is state all =
-        known_so index flow f belongs is (slice_get state.seen.connections belongs.connection) (slice_get state.books belongs.connection) (slice_get state.lanes index) state refl refl all
+    belonging_so index flow f None is first state all = all
+    belonging_so index flow f (Some belongs) is first state all =
+        known_so index flow f belongs is first (slice_get state.seen.connections belongs.connection) (slice_get state.books belongs.connection) (slice_get state.lanes index) state refl refl all
 
-    in_flow_so : (index : ℕ) (flow : Option Flow) → IfSome flow (FlowOn d own.path) → (state : JudgedValue) → AllHold U T state → AllHold U T (judged_in_flow at packet seen index flow state)
-    in_flow_so index None f state all = all
-    in_flow_so index (Some flow) f state all = belonging_so index flow f flow.belongs f.belongs state all
+    in_flow_so : (index : ℕ) (flow : Option Flow) → IfSome flow (FlowOn d own.path) → IfSome flow (λ f. IfSome f.belongs (λ b. b.connection ≡ 0)) → (state : JudgedValue) → AllHold U T state → AllHold U T (judged_in_flow at packet seen index flow state)
+    in_flow_so index None f first state all = all
+    in_flow_so index (Some flow) f first state all = belonging_so index flow f flow.belongs f.belongs first state all
 
     place_at : (place : Option Place) (state : JudgedValue) → IfSome place (λ p. p.wrong_token ≡ None)
         → IfSome place (λ p. (flow : Flow) → slice_get state.seen.flows p.flow ≡ Some flow → FlowOn d own.path flow) → AllHold U T state → AllHold U T (judged_place at packet seen place state)
     place_at None state right on all = all
     place_at (Some place) state right on all =
         subst (λ (w : Option WrongToken). let told = with_wrong_token w state in AllHold U T (judged_in_flow at packet seen place.flow (slice_get told.seen.flows place.flow) told)) (sym right)
-        (in_flow_so place.flow (slice_get state.seen.flows place.flow) (there (slice_get state.seen.flows place.flow) refl) state all)
+        (in_flow_so place.flow (slice_get state.seen.flows place.flow) (there (slice_get state.seen.flows place.flow) refl) (belongs (slice_get state.seen.flows place.flow) refl) state all)
       where
         there : (o : Option Flow) → slice_get state.seen.flows place.flow ≡ o → IfSome o (FlowOn d own.path)
         there None at = tt
         there (Some flow) at = on flow at
 
-  segment_so : (tell : SegmentsTell) (at : Option Side) (packet : ℕ) (seen : Seen) (own : IsOwn d seen) (U T V W : Type 0) → IsBehind U T V W d seen own → (state : JudgedValue) → AllHold U T state
+        belongs : (o : Option Flow) → slice_get state.seen.flows place.flow ≡ o → IfSome o (λ f. IfSome f.belongs (λ b. b.connection ≡ 0))
+        belongs None at = tt
+        belongs (Some flow) at = all.one.belongs place.flow flow at
+
+  segment_so : (tell : SegmentsTell) (at : Option Side) (packet : ℕ) (seen : Seen) (own : IsOwn d seen) (U T V W : Type 0) → IsBehind U T V W d seen own → (seen.segment.head.syn ≡ true → IfSome (Asked seen) (λ o. IsCapable o → own.path ≡ 0)) → (state : JudgedValue) → AllHold U T state
       → AllHold (U ⊎ V) (T ⊎ W) (judged at true state packet seen)
-  segment_so tell at packet seen own U T V W is state all =
+  segment_so tell at packet seen own U T V W is only state all =
       subst (λ (b : Bool). AllHold (U ⊎ V) (T ⊎ W) (judged_taken at packet seen (taken state.seen packet seen b) state)) (sym good)
       (place_at tell at packet seen own (U ⊎ V) (T ⊎ W) (taken state.seen packet seen true).place (grown now state) (right_so d U T V W state.seen packet seen own is all.seen)
       (place_so d state.seen packet seen own all.seen.own)
       (record {
         seen = taken_hold d U T V W state.seen packet seen own is all.seen;
+        one = taken_one d U T V W state.seen packet seen own is all.seen all.one only;
         books = grown_each B (length now.connections) empty_book state.books all.books tell.new_book;
       }))
     where
@@ -113,13 +121,13 @@ module _ (d : Drawn) (B : BookValue → Type 0) where
 
 module _ (start : Start) (B : BookValue → Type 0) (tell : SegmentsTell (drawn start) B) (at : Option Side) where
   packets_so : (trace : List Sent) (U T : Type 0) (state : JudgedValue) (n : ℕ) → AllBehind start U T trace → All FitsCapture trace → AllHold (drawn start) B U T state
-      → Each B (judged_packets at true state n (map packet_for trace)).books
-  packets_so [] U T state n come fit all = all.books
+      → Each B (judged_packets at true state n (map packet_for trace)).books × OneHolds (drawn start) (judged_packets at true state n (map packet_for trace)).seen
+  packets_so [] U T state n come fit all = (all.books, all.one)
   packets_so (x ∷ trace) U T state n come fit all =
       let s : IsSpoken (ComesBehind U T) start x = come.0 in
       let short = (All-head FitsCapture x trace fit).octets in
       let seen = seen_of (ComesBehind U T) start x s short in
-      let next = segment_so (drawn start) B tell at n seen (is_own (ComesBehind U T) start x s short) U T (Says start A IsAlone x s.segment) (Says start OfB IsAnswer x s.segment) (behind U T start x s short) state all in
+      let next = segment_so (drawn start) B tell at n seen (is_own (ComesBehind U T) start x s short) U T (Says start A IsAlone x s.segment) (Says start OfB IsAnswer x s.segment) (behind U T start x s short) (asks_only U T start x s short) state all in
       packets_so trace (U ⊎ Says start A IsAlone x s.segment) (T ⊎ Says start OfB IsAnswer x s.segment) (judged_if_seen at true state n (segment_in_packet (packet_for x))) (n + 1) come.1 (All-tail FitsCapture x trace fit)
       (subst (λ (o : Option Seen). AllHold (drawn start) B (U ⊎ Says start A IsAlone x s.segment) (T ⊎ Says start OfB IsAnswer x s.segment) (judged_if_seen at true state n o)) (sym (found (ComesBehind U T) start x s short)) next)
 
@@ -135,8 +143,16 @@ module _ (start : Start) (B : BookValue → Type 0) (tell : SegmentsTell (drawn 
       none i x e = cc
 
       each : Each B judged_all.books
-      each = packets_so trace ⊥ ⊥ nothing_judged 1 come fit (record { seen = nothing_holds (drawn start); books = λ i book at. absurd (none i book at) })
+      each = (packets_so trace ⊥ ⊥ nothing_judged 1 come fit (record { seen = nothing_holds (drawn start); one = nothing_one (drawn start); books = λ i book at. absurd (none i book at) })).0
 
       by : (book : Option BookValue) → slice_get judged_all.books connection ≡ book → option_map (stream_at s) book ≡ Some stream → (book : BookValue) × B book × (stream_at s book ≡ stream)
       by None e h = cc
       by (Some book) e h = (book, each connection book e, some_same (stream_at s book) stream h)
+
+  -- all belongs to one connection
+  pub one_connection : (trace : List Sent) → AllBehind start ⊥ ⊥ trace → All FitsCapture trace → OneHolds (drawn start) (judged_packets at true nothing_judged 1 (map packet_for trace)).seen
+  one_connection trace come fit =
+      (packets_so trace ⊥ ⊥ nothing_judged 1 come fit (record { seen = nothing_holds (drawn start); one = nothing_one (drawn start); books = λ i book there. absurd (none i there) })).1
+    where
+      none : {X : Type 0} {x : X} → (i : ℕ) → slice_get [] i ≡ Some x → ⊥
+      none i e = cc

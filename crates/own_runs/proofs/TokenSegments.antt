@@ -12,13 +12,16 @@ use Rattle.mptcp_options.proofs.OptionLaws.{read_again}
 use Rattle.mptcp_options.specs.Text.{Fits}
 use Rattle.mptcp_options.specs.declared.capable.CapableKeys.TheVariants.{NoKey, Sender}
 use Rattle.path_core.specs.End.{PathEnd}
-use Rattle.path_core.specs.MpJoin.{is_joined, join_options}
+use Rattle.path_core.specs.MpJoin.{is_joined, join_options, peer_key_of}
+use Rattle.key_material.specs.KeyDigest.{token_of}
+use Rattle.mptcp_options.specs.declared.join.JoinForm.TheVariants as form
+use Rattle.std.proofs.lemmas.Bool.{lt-ltb}
 use Rattle.path_core.specs.OptionsOut.{capable_options}
 use Rattle.path_core.specs.Profile.{Profile}
 use Rattle.path_segments.specs.Options.{PlainOption, said_option}
 use Rattle.path_segments.specs.Spelled.{PlainSegment}
 use Rattle.path_segments.specs.Spelling.{subflow_number}
-use Rattle.path_segments.specs.declared.segment.PathOption.TheVariants.{Capable}
+use Rattle.path_segments.specs.declared.segment.PathOption.TheVariants.{Capable, Join}
 use Rattle.seen_connections.specs.Asked.{answered_by, asked_by, first_answer, first_asked}
 use Rattle.seen_connections.specs.declared.flow.Opening.{Opening}
 use Rattle.seen_connections.specs.declared.flow.Opening.TheVariants as opening
@@ -166,6 +169,31 @@ module _ (U T : Type 0) (start : Start) (x : Sent) (s : IsSpoken (ComesBehind U 
 
   no_join : (used : Bool) (token nonce : ℕ) → (let one : Option Opening = Some (opening.Capable used) in one) ≡ Some (opening.Join token nonce) → ⊥
   no_join used token nonce is = cc
+
+  -- on another path A's SYN asks to join
+  join_asked : (side : Side) (e : PathEnd) (options : List PlainOption) → side ≡ A → options ≡ join_options c side e.modes → All (λ o. Fits (said_option c.spelling side o)) options
+      → IfSome (first_asked (texts c.spelling side options)) (λ o. IsCapable o → ⊥)
+  join_asked A e options of_a are fit =
+      let o : PlainOption = Join (form.Syn c.backup c.spelling.path (token_of (peer_key_of e.modes)) e.modes.own_nonce) in
+      let fit_o = All-head (λ o. Fits (said_option c.spelling A o)) o [] (subst (All (λ o. Fits (said_option c.spelling A o))) are fit) in
+      let asked : first_asked (texts c.spelling A options) ≡ Some (opening.Join (token_of (peer_key_of e.modes)) e.modes.own_nonce) =
+      ap (λ (xs : List PlainOption). first_asked (texts c.spelling A xs)) are
+      ∙ ap (λ (m : wire.Meaning). option_or (asked_by m) None) (read_again (said_option c.spelling A o) false tt fit_o) in
+      subst (λ (a : Option Opening). IfSome a (λ o. IsCapable o → ⊥)) (sym asked) (λ none. none)
+  join_asked B e options of_a are fit = cc
+
+  -- what asks for MP_CAPABLE is on path 0
+  pub asks_only : seen.segment.head.syn ≡ true → IfSome (Asked seen) (λ o. IsCapable o → own.path ≡ 0)
+  asks_only syn = each_asked (λ o. IsCapable o → own.path ≡ 0) (λ o is capable. by x.path refl o is capable)
+    where
+      joined : (n : ℕ) → x.path ≡ suc n → sg.options ≡ join_options c x.from s.end.modes
+      joined n at = s.spoken.syn (syn_so syn) ∙ ap (λ (b : Bool). if b then join_options c x.from s.end.modes else capable_options c x.from s.end) (ap (nat_lt 0) at ∙ lt-ltb 0 (suc n) (omega arith))
+
+      by : (n : ℕ) → x.path ≡ n → (o : Opening) → Asked seen ≡ Some o → IsCapable o → own.path ≡ 0
+      by zero at o is capable = path_is (ComesBehind U T) start x s short ∙ at
+      by (suc n) at o is capable =
+          absurd (subst (λ (a : Option Opening). IfSome a (λ o. IsCapable o → ⊥)) (sym asked_so ∙ is)
+          (join_asked x.from s.end sg.options (asker syn o is) (joined n at) (fits (ComesBehind U T) start x s short)) capable)
 
   pub behind : IsBehind U T (Says start A IsAlone x sg) (Says start B IsAnswer x sg) d seen own
   behind = record {

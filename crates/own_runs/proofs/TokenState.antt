@@ -75,7 +75,7 @@ last_some test n (first ∷ flows) (suc k) flow there passes = by (last_that tes
     by None is = absurd (false≢true is)
 
 -- it is between the ends, and there
-found_there : (flows : List Flow) (ends : Ends) (found : Found) → flow_between ends flows ≡ Some found → (slice_get flows found.index ≡ Some found.flow) × (is_between ends found.flow ≡ true)
+pub found_there : (flows : List Flow) (ends : Ends) (found : Found) → flow_between ends flows ≡ Some found → (slice_get flows found.index ≡ Some found.flow) × (is_between ends found.flow ≡ true)
 found_there flows ends found e = by (last_that (is_between ends) 0 flows) refl e
   where
     over : (i : ℕ) (flow : Flow) (b : Bool) → slice_get flows i ≡ Some flow → is_between ends flow ≡ true → (if b then None else Some (record { index = i; flow = flow })) ≡ Some found
@@ -99,7 +99,7 @@ found_there flows ends found e = by (last_that (is_between ends) 0 flows) refl e
         at i (slice_get flows i) refl (subst (λ (o : Option Flow). IfSome o (λ f. is_between ends f ≡ true)) (sym there) it.passes) e
 
 -- where one is, and none is over, one is found
-some_found : (flows : List Flow) (ends : Ends) (k : ℕ) (flow : Flow) → Each (λ f. f.is_over ≡ false) flows → slice_get flows k ≡ Some flow → is_between ends flow ≡ true
+pub some_found : (flows : List Flow) (ends : Ends) (k : ℕ) (flow : Flow) → Each (λ f. f.is_over ≡ false) flows → slice_get flows k ≡ Some flow → is_between ends flow ≡ true
     → (found : Found) × (flow_between ends flows ≡ Some found)
 some_found flows ends k flow going there passes = by (last_that (is_between ends) 0 flows) refl (last_some (is_between ends) 0 flows k flow there passes)
   where
@@ -166,7 +166,7 @@ module _ (d : Drawn) where
             (told_same flow.opener seen.destination path own.path A (peer own.from) f.opener own.destination (and_parts (same_end flow.opener seen.destination) _ or).0).0
 
     -- a segment that begins a flow found none
-    begins_none : begins seen found ≡ true → found ≡ None
+    pub begins_none : begins seen found ≡ true → found ≡ None
     begins_none begin = by found refl
       where
         syn : is_syn seen ≡ true

@@ -528,7 +528,8 @@ module _ (start : Start) (plain : IsPlain start) (fit : NumbersFit start) where
     pub shows : WorldShows can.links start (after_events events (first_duo can.links start)) (world turns)
     pub sent : AllSent start (trace_of turns (opened_world start)) (after_events events (first_duo can.links start)) (world turns)
 
-  next_known : (before : List Turn) (turn : Turn) → Known before → Known (before ++ turn ∷ [])
+  pub next_known : (before : List Turn) (turn : Turn) (k : Known before)
+      → (next : Known (before ++ turn ∷ [])) × (events : List Event) × (after_events next.events (first_duo can.links start) ≡ after_events events (after_events k.events (first_duo can.links start)))
   next_known before turn k =
       let d : Duo = after_events k.events (first_duo can.links start) in
       let w = world before in
@@ -546,19 +547,22 @@ module _ (start : Start) (plain : IsPlain start) (fit : NumbersFit start) where
       let fresh : sent_at turn (world_run octets before (opened_world start)) ≡ sent_at turn (shown_world w) = ap (λ (v : WorldState (List ℕ)). sent_at turn v) (run_fresh start before plain.size fit) in
       let trace : trace_of (before ++ turn ∷ []) (opened_world start) ≡ trace_of before (opened_world start) ++ sent_at turn (shown_world w) =
       trace_append before (turn ∷ []) (opened_world start)
-      ∙ ap (λ (t : List Sent). trace_of before (opened_world start) ++ t) (append-nil (sent_at turn (world_run octets before (opened_world start))) ∙ fresh) in
-      record {
-        events = k.events ++ turn_events x.turn_shows;
-        shows = at_last;
-        sent = subst (λ (t : List Sent). AllSent start t e (world (before ++ turn ∷ []))) (sym trace)
-            (subst (λ (v : WorldState Carried). AllSent start (trace_of before (opened_world start) ++ sent_at turn (shown_world w)) e v) (sym run) sent);
-      }
+      ∙ ap (λ (t : List Sent). trace_of before (opened_world start) ++ t) (append-nil (sent_at turn (world_run octets before (opened_world start))) ∙ fresh) in (
+        record {
+          events = k.events ++ turn_events x.turn_shows;
+          shows = at_last;
+          sent = subst (λ (t : List Sent). AllSent start t e (world (before ++ turn ∷ []))) (sym trace)
+              (subst (λ (v : WorldState Carried). AllSent start (trace_of before (opened_world start) ++ sent_at turn (shown_world w)) e v) (sym run) sent);
+        },
+        turn_events x.turn_shows,
+        appended,
+      )
 
   run_known : (before turns : List Turn) → Known before → Known (before ++ turns)
   run_known before [] k = subst Known (sym (append-nil before)) k
-  run_known before (turn ∷ turns) k = subst Known (append_assoc before (turn ∷ []) turns) (run_known (before ++ turn ∷ []) turns (next_known before turn k))
+  run_known before (turn ∷ turns) k = subst Known (append_assoc before (turn ∷ []) turns) (run_known (before ++ turn ∷ []) turns (next_known before turn k).0)
 
-  opened_known : Known []
+  pub opened_known : Known []
   opened_known = by (opened_reached start can)
     where
       by : Reached can.links start (opened_world start) → Known []

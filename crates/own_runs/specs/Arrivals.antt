@@ -1,15 +1,19 @@
 -- What arrived of a side's stream was sent.
-use Rattle.std.specs.Prelude.{◌≡◌, ℕ, ◌-◌, ◌<◌, ◌≤◌, Some, List}
-use Rattle.std.specs.Prelude.{◌⊎◌}
+use Rattle.std.specs.Prelude.{◌≡◌, ℕ, ◌-◌, ◌<◌, ◌≤◌, ◌⊎◌, Some, List, length, take}
 use Rattle.std.specs.List.{slice_get}
 use Rattle.sides.specs.Side.{peer}
 use Rattle.sides.specs.declared.side.Side.{Side}
 use Rattle.actor_desk.specs.Books.{books_in}
 use Rattle.actor_desk.specs.Desk.{reassembly_of}
-use Rattle.path_core.specs.Octets.{octets}
+use Rattle.link_trace.specs.declared.sent.Sent.{Sent}
+use Rattle.path_core.specs.Octets.{made, octets}
+use Rattle.path_segments.specs.Options.{PlainOption}
+use Rattle.path_segments.specs.Spelled.{PlainSegment}
+use Rattle.path_segments.specs.declared.segment.PathOption.TheVariants.{Dss}
+use Rattle.path_segments.specs.declared.spelling.Spelling.{Spelling}
 use Rattle.reassembly_book.specs.State.{Arriving}
 use Rattle.run_trace.specs.Trace.{trace_of}
-use Rattle.stream_lanes.specs.Words.{Has}
+use Rattle.stream_lanes.specs.Words.{Every, Has}
 use Rattle.own_runs.specs.Sending.{CarriesPlace}
 use Rattle.world_laws.specs.Openings.{Start, opened_world}
 use Rattle.world_laws.specs.Promises.{IsPlain, NumbersFit}
@@ -27,3 +31,22 @@ WhatCameWasSent =
     (start : Start) (turns : List Turn) → IsPlain start → NumbersFit start
     → (s : Side) (place : ℕ) → HasCome place (reassembly_of (peer s) (books_in (world_run octets turns (opened_world start)).books))
     → Has (CarriesPlace s (file_of start s) place) (trace_of turns (opened_world start))
+
+-- A Data ACK in it covers octets of the other side's file that were carried before, and perhaps the place of the DATA_FIN behind the last one.
+abbrev pub AckIsCarried : Start → List Sent → Side → PlainOption → Type 0
+AckIsCarried start before s (Dss (Some next) mapping) =
+    (place : ℕ) → place < next → Has (CarriesPlace (peer s) (file_of start (peer s)) place) before ⊎ (place ≡ length (file_of start (peer s)))
+AckIsCarried start before s _ = Unit {0}
+
+-- The segment, as it was made.
+pub record AcksAreCarried (start : Start) (before : List Sent) (x : Sent) : Type 0 where
+  pub spelling : Spelling
+  pub segment : PlainSegment
+  pub octets : x.octets ≡ made spelling x.from segment
+  pub acks : Every (AckIsCarried start before x.from) segment.options
+
+-- So it is with each segment of a trace, and those before it.
+abbrev pub EachAckIsCarried : Type 0
+EachAckIsCarried =
+    (start : Start) (turns : List Turn) → IsPlain start → NumbersFit start
+    → (i : ℕ) (x : Sent) → slice_get (trace_of turns (opened_world start)) i ≡ Some x → AcksAreCarried start (take i (trace_of turns (opened_world start))) x

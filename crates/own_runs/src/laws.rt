@@ -1,6 +1,6 @@
 //! What is read in a capture of ours, as clauses of functions that do nothing.
 ghost use Rattle.judge_rules.specs.declared.finding.Rule.TheVariants.{AddressHmac, DataFin, DssSum, Fail, FastCloseKey, Form, Infinite, JoinHmac, Keys, Mapping, PlaceContent, Token, Within};
-ghost use Rattle.own_runs.specs.Arrivals.{WhatCameWasSent};
+ghost use Rattle.own_runs.specs.Arrivals.{EachAckIsCarried, WhatCameWasSent};
 ghost use Rattle.own_runs.specs.Fitting.{TracesFit};
 ghost use Rattle.own_runs.specs.Packets.{CapturesAreTheirPackets};
 ghost use Rattle.own_runs.specs.Runs.{DataFinsEndTheFiles, NoRunBreaks, NoWholeRunBreaks, StreamsBeginTheFiles, WholeStreamsAreTheFiles};
@@ -76,7 +76,10 @@ pub fn captures_show_the_files()
 {}
 
 /// A law: each octet that came to a side, whether its reader has it or the book of the side holds it, was in a segment that the other side
-/// handed to a link, as a part of its file. It holds after every list of turns, lawful or not, of a connection whose script alters no payload.
+/// handed to a link, as a part of its file (`octets`). So a Data ACK covers octets of the file that were in segments before it, and nothing more
+/// than the place of the DATA_FIN behind them (`acks`, RFC 8684, section 3.3.2). Both hold after every list of turns, lawful or not, of a
+/// connection whose script alters no payload.
 pub fn what_came_was_sent()
-    ensures { WhatCameWasSent }
+    ensures octets { WhatCameWasSent }
+    ensures acks { EachAckIsCarried }
 {}
