@@ -78,8 +78,7 @@ ghost use Rattle.whole_paths.specs.WholeMappings.{MappingsAreWhole};
 ghost use Rattle.whole_paths.specs.WindowsHeard.{EachWindowCounts};
 ghost use Rattle.whole_paths.specs.Writers.{WritersGoOn};
 
-/// A law: by whatever turns, lawful or not, nothing that an end, a side or an actor has reached goes back, whatever is lost, late,
-/// repeated or altered.
+/// A law: by whatever turns, lawful or not, nothing that an end, a side or an actor has reached goes back, whatever is lost, late, repeated or altered.
 ///
 /// At both ends of a path that is SND.UNA, SND.NXT and RCV.NXT, the states that were passed, how much the heard Data ACKs
 /// acknowledge, that a DATA_FIN was sent, came or was acknowledged, and that a DSS may be sent (RFC 9293, section 3.3; RFC 8684, section
@@ -291,8 +290,7 @@ pub fn what_wants_an_answer_is_owed_one()
     ensures values { WhatWantsAnAnswerIsOwedOne values }
 {}
 
-/// A law: an acknowledgement that an end owes comes to the peer within the longest time that a segment is under way, unless the script harms
-/// it.
+/// A law: an acknowledgement that an end owes comes to the peer within the longest time that a segment is under way, unless the script harms it.
 ///
 /// By each turn the end owes it still and the tick stays by which it comes, or its link took a segment of the end, which acknowledges all
 /// that came to the end, and a copy of that is under way; or the copy was what arrives next; or the script has a line less by which a segment
@@ -303,8 +301,7 @@ pub fn what_is_owed_comes()
     ensures values { WhatIsOwedComes values }
 {}
 
-/// A law: each segment that an end sends acknowledges RCV.NXT (RFC 9293, section 3.10.7.4), but for the SYN of an end that opens and for
-/// resets.
+/// A law: each segment that an end sends acknowledges RCV.NXT (RFC 9293, section 3.10.7.4), but for the SYN of an end that opens and for resets.
 ///
 /// By any turn in which a path sends, its link takes the segment that was to be sent next, which so acknowledges all that came in order: an
 /// acknowledgement, a record for the first time or again, a window update, a DATA_FIN and what an expiry sends without a record.
