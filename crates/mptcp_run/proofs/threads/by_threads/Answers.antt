@@ -17,8 +17,8 @@ from_parts_since-requires-clause-heard g c =
     c.woven_round-books.new.crew.items c.into_parts-books.result.0 c.has_order-failed.ensures c.into_parts-books.ensures.parts
     c.heard-heard.ensures.heard c.heard-heard.ensures.steps_a c.heard-heard.ensures.steps_b c.woven_round-books.ensures.turned
 
-pub returns : goal.returns
-returns g c =
+pub returns-clause-woven : goal.returns-clause-woven
+returns-clause-woven g c =
     found_woven (λ order. order.items) c.woven_round-books.result.1 c.has_order-failed.result c.has_order-failed.ensures
     c.into_parts-books.result.1.items c.woven_round-books.new.crew.items c.into_parts-books.result.0 c.woven_round-books.result.0 c.woven_round-books.ensures.order
     c.args.world c.from_parts_since.result c.into_parts-books.ensures.parts c.from_parts_since.ensures
