@@ -83,7 +83,7 @@ module _ {W : Type 0} where
         let made = steps kept.word kept.home place.0 place.3 place.4 in
         let found : kept.word ≡ slice_index s.words 0 = sym (ap (λ ws. slice_index ws 0) kept.words) in
         let views : set s.views seat made.0 ≡ made.0 ∷ place.0 ∷ []
-            = ap (λ vs. set vs seat made.0) place.2 ∙ ap (λ k. set (me.0 ∷ place.0 ∷ []) k made.0) place.1 in (
+        = ap (λ vs. set vs seat made.0) place.2 ∙ ap (λ k. set (me.0 ∷ place.0 ∷ []) k made.0) place.1 in (
           made.0,
           made.1,
           subst (λ hs. Valid hs me.1 made.1) (sym kept.homes) made.4,
@@ -106,7 +106,7 @@ module _ {W : Type 0} where
         let made = steps kept.word kept.home place.0 place.3 place.4 in
         let found : kept.word ≡ slice_index s.words 0 = sym (ap (λ ws. slice_index ws 0) kept.words) in
         let views : set s.views seat made.0 ≡ place.0 ∷ made.0 ∷ []
-            = ap (λ vs. set vs seat made.0) place.2 ∙ ap (λ k. set (place.0 ∷ me.0 ∷ []) k made.0) place.1 in (
+        = ap (λ vs. set vs seat made.0) place.2 ∙ ap (λ k. set (place.0 ∷ me.0 ∷ []) k made.0) place.1 in (
           made.0,
           made.1,
           subst (λ hs. Valid hs me.1 made.1) (sym kept.homes) made.4,

@@ -1,8 +1,8 @@
 //! The two ends of a berth: who gives jobs, and the worker.
 ghost use Rattle.std.specs.Prelude.{◌≡◌, None, Some, IfOk, IfErr, IfSome, OnOk};
 
-use crate::table::{Berth, BerthSeat, NOBODY};
 use crate::rule::{Deed, Ends};
+use crate::table::{Berth, BerthSeat, NOBODY};
 use atomic_table::Table;
 use std::alloc::{AllocError, Global};
 use std::marker::Model;

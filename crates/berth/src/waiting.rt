@@ -3,8 +3,8 @@ ghost use Rattle.std.specs.Prelude.{◌≡◌, ◌∷◌, [], true, None, Some, 
 ghost use Rattle.berth.specs.Rule.{HasDone, worker};
 ghost use Rattle.berth.specs.declared.rule.View.TheVariants.{Awaits, Free};
 
-use crate::table::{Berth, BerthSeat};
 use crate::rule::Deed;
+use crate::table::{Berth, BerthSeat};
 use std::hint;
 use std::sync::Wait;
 

@@ -210,7 +210,9 @@ pub fn make_threaded_rounds<O: Outside, G: Gate + Sync, R: Threads + Wait + Sync
     let mut waits = Some(run);
     let (_served, made) = join_mut(
         rt,
-        &mut || serve_all(rt, alloc, &mut workers, gate),
+        &mut ||
+            requires { All (λ worker. worker ≡ None) workers.items }
+        { serve_all(rt, alloc, &mut workers, gate) },
         &mut || -> (Run, Result<(), Status>)
             requires { Waits waits × All (λ giver. giver ≡ None) givers.items }
             ensures { IfSome waits.entry (λ run. AreMade most run (O.told outside.entry.now) (O.told outside.exit.now) result) }

@@ -90,12 +90,7 @@ pub fn dismiss_all<A: Actor + Drop>(givers: &mut Vec<TurnGiver<A>>)
 }
 
 // The errand with its turn made.
-fn run<A: Actor, G: Gate, R: Wait>(
-    rt: &R,
-    alloc: Global,
-    errand: Errand<A>,
-    gate: &G,
-) -> Errand<A>
+fn run<A: Actor, G: Gate, R: Wait>(rt: &R, alloc: Global, errand: Errand<A>, gate: &G) -> Errand<A>
     requires { HasPass (arc_value errand.desk) errand.rider }
     ensures { Rode A.asks A.takes (arc_value errand.desk) errand.rider result.rider }
 {

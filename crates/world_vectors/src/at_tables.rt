@@ -62,7 +62,9 @@ fn beside_workers<'a, R: Threads + Wait + Sync>(
     let mut waits = Some(books);
     let (_served, books) = join_mut(
         rt,
-        &mut || serve_all(rt, alloc, &mut workers, &OpenGate),
+        &mut ||
+            requires { All (λ worker. worker ≡ None) workers.items }
+        { serve_all(rt, alloc, &mut workers, &OpenGate) },
         &mut || -> Books
             requires { IsSome waits × All (λ giver. giver ≡ None) givers.items }
         { after_rounds(rt, case, rounds, known, &mut waits, &mut givers) },
@@ -107,8 +109,9 @@ fn after_round<R: Wait>(
 {
     match crew_of(case, known) {
         Ok(mut crew) => {
-            let (ended, books) =
-                round_at_tables(rt, case.alloc, &mut crew, books, &OpenGate, givers);
+            let (ended, books) = round_at_tables(
+                rt, case.alloc, &mut crew, books, &OpenGate, givers,
+            );
             case.put(end_word(ended));
             *known = [stamp_of(&crew, 0), stamp_of(&crew, 1), stamp_of(&crew, 2)];
             books

@@ -52,11 +52,11 @@ pub returns-in-Err-clause-made : goal.returns-in-Err-clause-made
 returns-in-Err-clause-made g c = record {
   ok = tt;
   cut = (let inv = c.loop-round.invariant in
-    woven_cut c.args.run.opening c.args.most c.args.run.world.state _ _ c.in-Err.status
-    (inv.cut _ c.in-Err.status
-    (cut_now WovenTo AreWovenRounds woven_kind c.loop-round.run.opening (c.args.most - c.loop-round._round) (c.args.most - (c.loop-round._round + 1)) c.loop-round._round c.loop-round.run.rounds
-    (omega (arith, c.loop-round-test.true)) inv.rounds
-    c.loop-round.run.world.state _ _ c.in-Err.status (when_err _ c.make_round-next.result.1 c.in-Err.status c.in-Err.is c.make_round-next.ensures.stops))));
+      woven_cut c.args.run.opening c.args.most c.args.run.world.state _ _ c.in-Err.status
+      (inv.cut _ c.in-Err.status
+      (cut_now WovenTo AreWovenRounds woven_kind c.loop-round.run.opening (c.args.most - c.loop-round._round) (c.args.most - (c.loop-round._round + 1)) c.loop-round._round c.loop-round.run.rounds
+      (omega (arith, c.loop-round-test.true)) inv.rounds
+      c.loop-round.run.world.state _ _ c.in-Err.status (when_err _ c.make_round-next.result.1 c.in-Err.status c.in-Err.is c.make_round-next.ensures.stops))));
   fault = (fault_after _ _ _ c.in-Err.status c.loop-round.invariant.only.counted (when_err _ c.make_round-next.result.1 c.in-Err.status c.in-Err.is c.make_round-next.ensures.fault));
   only = (only_then _ _ _ c.loop-round.invariant.only c.make_round-next.ensures.only);
 }
@@ -64,13 +64,13 @@ returns-in-Err-clause-made g c = record {
 pub returns-then-not-goes_on-clause-made : goal.returns-then-not-goes_on-clause-made
 returns-then-not-goes_on-clause-made g c = record {
   ok = (let inv = c.loop-round.invariant in
-    woven_made c.args.run.opening c.args.most c.args.run.world.state _ _ c.make_round-next.result.0.rounds c.make_round-next.result.0.world.state
-    (inv.put _ _ _
-    (put_last WovenTo AreWovenRounds woven_kind c.loop-round.run.opening (c.args.most - c.loop-round._round) (c.args.most - (c.loop-round._round + 1)) c.loop-round._round c.loop-round.run.rounds
-    (omega (arith, c.loop-round-test.true)) inv.rounds
-    c.make_round-next.result.0.rounds c.loop-round.run.world.state c.make_round-next.result.0.world.state _ _ (sym c.goes_on.ensures ∙ c.if-not-goes_on.true)
-    (when_ok c.make_round-next.result.1 c.in-Ok.field-0 c.in-Ok.is c.make_round-next.ensures.made)
-    (when_ok c.make_round-next.result.1 c.in-Ok.field-0 c.in-Ok.is c.make_round-next.ensures.rounds ∙ ap (λ n. n + 1) inv.rounds))));
+      woven_made c.args.run.opening c.args.most c.args.run.world.state _ _ c.make_round-next.result.0.rounds c.make_round-next.result.0.world.state
+      (inv.put _ _ _
+      (put_last WovenTo AreWovenRounds woven_kind c.loop-round.run.opening (c.args.most - c.loop-round._round) (c.args.most - (c.loop-round._round + 1)) c.loop-round._round c.loop-round.run.rounds
+      (omega (arith, c.loop-round-test.true)) inv.rounds
+      c.make_round-next.result.0.rounds c.loop-round.run.world.state c.make_round-next.result.0.world.state _ _ (sym c.goes_on.ensures ∙ c.if-not-goes_on.true)
+      (when_ok c.make_round-next.result.1 c.in-Ok.field-0 c.in-Ok.is c.make_round-next.ensures.made)
+      (when_ok c.make_round-next.result.1 c.in-Ok.field-0 c.in-Ok.is c.make_round-next.ensures.rounds ∙ ap (λ n. n + 1) inv.rounds))));
   cut = tt;
   fault = tt;
   only = (only_then _ _ _ c.loop-round.invariant.only c.make_round-next.ensures.only);
@@ -79,10 +79,10 @@ returns-then-not-goes_on-clause-made g c = record {
 pub returns-clause-made : goal.returns-clause-made
 returns-clause-made g c = record {
   ok = (let inv = c.loop-round.invariant in
-    woven_made c.args.run.opening c.args.most c.args.run.world.state _ _ c.loop-round.run.rounds c.loop-round.run.world.state
-    (inv.put _ _ _
-    (rounds_over WovenTo AreWovenRounds woven_kind c.loop-round.run.opening (c.args.most - c.loop-round._round) c.loop-round._round
-    c.loop-round.run.rounds c.loop-round.run.world.state _ (omega (arith, c.loop-round-test.false)) inv.rounds)));
+      woven_made c.args.run.opening c.args.most c.args.run.world.state _ _ c.loop-round.run.rounds c.loop-round.run.world.state
+      (inv.put _ _ _
+      (rounds_over WovenTo AreWovenRounds woven_kind c.loop-round.run.opening (c.args.most - c.loop-round._round) c.loop-round._round
+      c.loop-round.run.rounds c.loop-round.run.world.state _ (omega (arith, c.loop-round-test.false)) inv.rounds)));
   cut = tt;
   fault = tt;
   only = (c.loop-round.invariant.only);
