@@ -5,17 +5,6 @@ use Rattle.berth.proofs.Words.{◌≡◌, refl, sym, ◌∙◌, ap, subst, ℕ, 
 use Rattle.berth.proofs.Words.{slice_index, some, none, some-injective, some-ne-none, get_elem?, either, State, Me, Act, keeps, takes, gives, Allows, Valid, homes_after, carried_after, opening, Splits, exchanged, rest, given, HasDone, HasJob}
 use Rattle.berth.proofs.Words.{View, Both, Rests, Opened, Awaits, Free, Works, Mine, Home, OpenedWhere, IsOpened, IsGiven, FetchedWhere, IsFetched, AtRest, IsSame, TakenWhere, IsTaken, IsFree, IsGivers, IsWorkers, IsWork, IsDone, Stands, AreSeated, IsBerthed}
 
--- numbers that aren't one another
-pub other_than : (n m : ℕ) → eqb n m ≡ false → n ≢ m
-other_than n m test same = absurd (differ (sym (ap (λ k. eqb k m) same) ∙ test) (equal m))
-  where
-    equal : (m : ℕ) → eqb m m ≡ true
-    equal zero = refl
-    equal (suc m) = equal m
-
-    differ : {b : Bool} → b ≡ false → b ≡ true → ⊥
-    differ is isnt = cc
-
 module _ {W : Type 0} where
   giver_cases : (P : View W → Type 0) → P Rests → P Opened → ((job : W) → P (Awaits job)) → (v : View W) → IsGivers v → P v
   giver_cases P rests opened awaits Both own = absurd own
@@ -126,9 +115,9 @@ module _ {W : Type 0} where
     opens_where : (word : ℕ) (home : Home W) (b : Bool) → eqb word 0 ≡ b → Stands may does word home Rests Free
         → GiverStep (Rests, []) (λ n. n) (IsOpened (Rests, [])) word home Free
     opens_where word home true test stands =
-        (Opened, takes 0 None, none, tt, ap (λ h. get_elem? (h ∷ []) 0) stands.0, refl, (refl, stands.1), subst (λ b. OpenedWhere b (Rests, []) (Opened, (0, None) ∷ [])) (sym test) refl)
+        (Opened, takes 0 None, none, tt, ap (λ h. get_elem? (h ∷ []) 0) stands.0, refl, (refl, stands.1), subst (λ b. OpenedWhere {W = W} b (Rests, []) (Opened, (0, None) ∷ [])) (sym test) refl)
     opens_where word home false test stands =
-        (Rests, keeps, home, tt, tt, refl, stands, subst (λ b. OpenedWhere b (Rests, []) (Rests, [])) (sym test) refl)
+        (Rests, keeps, home, tt, tt, refl, stands, subst (λ b. OpenedWhere {W = W} b (Rests, []) (Rests, [])) (sym test) refl)
 
     -- it is looked whether the worker is at rest
     pub opens : (slots seat : ℕ) (me : Mine W) → me ≡ (Rests, []) → Allows (IsBerthed may does) slots seat me 0 (λ n. n) (IsOpened me)
@@ -148,7 +137,7 @@ module _ {W : Type 0} where
     fetches_where : (job : W) (word : ℕ) (home : Home W) → IsWork may does word home job ⊎ IsDone may does word home job
         → GiverStep (Awaits job, []) (λ n. n) (IsFetched does (Awaits job, [])) word home Free
     fetches_where job word home (inl work) =
-        (Awaits job, keeps, home, tt, tt, refl, inl work, subst (λ b. FetchedWhere does b (Awaits job, []) (Awaits job, [])) (sym (ap (λ n. eqb n 2) work.one)) refl)
+        (Awaits job, keeps, home, tt, tt, refl, inl work, subst (λ b. FetchedWhere {W = W} does b (Awaits job, []) (Awaits job, [])) (sym (ap (λ n. eqb n 2) work.one)) refl)
     fetches_where job word home (inr is) = (
       Opened,
       takes 0 (Some is.done),
@@ -157,7 +146,7 @@ module _ {W : Type 0} where
       ap (λ h. get_elem? (h ∷ []) 0) is.slot,
       refl,
       (refl, λ one. omega (arith, is.two, one)),
-      subst (λ b. FetchedWhere does b (Awaits job, []) (Opened, (0, Some is.done) ∷ [])) (sym (ap (λ n. eqb n 2) is.two)) (is.done, is.made, refl),
+      subst (λ b. FetchedWhere {W = W} does b (Awaits job, []) (Opened, (0, Some is.done) ∷ [])) (sym (ap (λ n. eqb n 2) is.two)) (is.done, is.made, refl),
     )
 
     -- it is looked whether the job is done
@@ -166,7 +155,7 @@ module _ {W : Type 0} where
         (givers_step slots seat (Awaits job, []) (λ n. n) (IsFetched does (Awaits job, [])) tt (λ word home w own. worker_cases
         (λ w. Stands may does word home (Awaits job) w → GiverStep (Awaits job, []) (λ n. n) (IsFetched does (Awaits job, [])) word home w)
         (λ stands. fetches_where job word home stands)
-        (λ same stands. (Awaits job, keeps, home, tt, tt, refl, stands, subst (λ b. FetchedWhere does b (Awaits job, []) (Awaits job, [])) (sym (ap (λ n. eqb n 2) stands.1)) refl))
+        (λ same stands. (Awaits job, keeps, home, tt, tt, refl, stands, subst (λ b. FetchedWhere {W = W} does b (Awaits job, []) (Awaits job, [])) (sym (ap (λ n. eqb n 2) stands.1)) refl))
         w own))
 
     -- the empty slot is given back
@@ -174,21 +163,21 @@ module _ {W : Type 0} where
     rests slots seat me is = subst (λ m. Allows (IsBerthed may does) slots seat m 0 (λ _. 0) (λ _. AtRest)) (sym is)
         (givers_step slots seat (Opened, (0, None) ∷ []) (λ _. 0) (λ _. AtRest) tt (λ word home w own. worker_cases
         (λ w. Stands may does word home Opened w → GiverStep (Opened, (0, None) ∷ []) (λ _. 0) (λ _. AtRest) word home w)
-        (λ stands. (Rests, gives, some None, tt, tt, refl, (refl, other_than 0 1 refl, other_than 0 2 refl), refl)) (λ other stands. absurd stands) w own))
+        (λ stands. (Rests, gives, some None, tt, tt, refl, (refl, (λ e. omega (arith, e)), (λ e. omega (arith, e))), refl)) (λ other stands. absurd stands) w own))
 
     -- no more work comes
     pub ends : (slots seat : ℕ) (me : Mine W) → me ≡ (Rests, []) → Allows (IsBerthed may does) slots seat me 0 (λ _. 3) (λ _. IsSame me)
     ends slots seat me is = subst (λ m. Allows (IsBerthed may does) slots seat m 0 (λ _. 3) (λ _. IsSame m)) (sym is)
         (givers_step slots seat (Rests, []) (λ _. 3) (λ _. IsSame (Rests, [])) tt (λ word home w own. worker_cases
         (λ w. Stands may does word home Rests w → GiverStep (Rests, []) (λ _. 3) (λ _. IsSame (Rests, [])) word home w)
-        (λ stands. (Rests, keeps, home, tt, tt, refl, (stands.0, other_than 3 1 refl, other_than 3 2 refl), refl)) (λ other stands. absurd stands) w own))
+        (λ stands. (Rests, keeps, home, tt, tt, refl, (stands.0, (λ e. omega (arith, e)), (λ e. omega (arith, e))), refl)) (λ other stands. absurd stands) w own))
 
     -- ---- the worker's steps
 
     came : (word : ℕ) (home : Home W) (u : View W) → IsGivers u → word ≡ 4 → Stands may does word home u Free → Stands may does 0 home u Free
     came word home u own four = giver_cases (λ u. Stands may does word home u Free → Stands may does 0 home u Free)
-        (λ stands. (stands.0, other_than 0 1 refl, other_than 0 2 refl))
-        (λ stands. (stands.0, other_than 0 1 refl))
+        (λ stands. (stands.0, (λ e. omega (arith, e)), (λ e. omega (arith, e))))
+        (λ stands. (stands.0, (λ e. omega (arith, e))))
         (λ job stands. absurd (never job stands))
         u own
       where
@@ -220,18 +209,18 @@ module _ {W : Type 0} where
       ap (λ h. get_elem? (h ∷ []) 0) work.slot,
       refl,
       (refl, work.one, refl),
-      subst (λ b. TakenWhere may b (Free, []) (Works job, (0, Some job) ∷ [])) (sym (ap (λ n. eqb n 1) work.one)) (job, work.can, refl),
+      subst (λ b. TakenWhere {W = W} may b (Free, []) (Works job, (0, Some job) ∷ [])) (sym (ap (λ n. eqb n 1) work.one)) (job, work.can, refl),
     )
     takes_where job word home (inr is) =
-        (Free, keeps, home, tt, tt, refl, inr is, subst (λ b. TakenWhere may b (Free, []) (Free, [])) (sym (ap (λ n. eqb n 1) is.two)) refl)
+        (Free, keeps, home, tt, tt, refl, inr is, subst (λ b. TakenWhere {W = W} may b (Free, []) (Free, [])) (sym (ap (λ n. eqb n 1) is.two)) refl)
 
     -- it is looked whether there is work
     pub takes_work : (slots seat : ℕ) (me : Mine W) → me ≡ (Free, []) → Allows (IsBerthed may does) slots seat me 0 (λ n. n) (IsTaken may me)
     takes_work slots seat me is = subst (λ m. Allows (IsBerthed may does) slots seat m 0 (λ n. n) (IsTaken may m)) (sym is)
         (workers_step slots seat (Free, []) (λ n. n) (IsTaken may (Free, [])) tt (λ word home u own. giver_cases
         (λ u. Stands may does word home u Free → WorkerStep (Free, []) (λ n. n) (IsTaken may (Free, [])) word home u)
-        (λ stands. (Free, keeps, home, tt, tt, refl, stands, subst (λ b. TakenWhere may b (Free, []) (Free, [])) (sym (ne_eqb word 1 stands.1)) refl))
-        (λ stands. (Free, keeps, home, tt, tt, refl, stands, subst (λ b. TakenWhere may b (Free, []) (Free, [])) (sym (ne_eqb word 1 stands.1)) refl))
+        (λ stands. (Free, keeps, home, tt, tt, refl, stands, subst (λ b. TakenWhere {W = W} may b (Free, []) (Free, [])) (sym (ne_eqb word 1 stands.1)) refl))
+        (λ stands. (Free, keeps, home, tt, tt, refl, stands, subst (λ b. TakenWhere {W = W} may b (Free, []) (Free, [])) (sym (ne_eqb word 1 stands.1)) refl))
         (λ job stands. takes_where job word home stands)
         u own))
 
@@ -249,7 +238,7 @@ module _ {W : Type 0} where
     -- ---- how it begins
 
     pub begins : IsBerthed may does (opening (4 ∷ []) (None ∷ []) Both)
-    begins = record { word = 4; home = some None; words = refl; homes = refl; seats = (refl, refl, other_than 4 1 refl, other_than 4 2 refl) }
+    begins = record { word = 4; home = some None; words = refl; homes = refl; seats = (refl, refl, (λ e. omega (arith, e)), (λ e. omega (arith, e))) }
 
     both_place : (word : ℕ) (home : Home W) (views : List (View W)) (seat : ℕ) → AreSeated may does word home views → get_elem? views seat ≡ some Both
         → (seat ≡ 0) × (views ≡ Both ∷ []) × (home ≡ some None) × (word ≢ 1) × (word ≢ 2)
@@ -271,7 +260,7 @@ module _ {W : Type 0} where
           words = kept.words;
           homes = kept.homes;
           seats = subst (λ vs. AreSeated may does kept.word kept.home (vs ++ Free ∷ []))
-              (sym (ap (λ vs. set vs seat Rests) place.1 ∙ ap (λ k. set (Both ∷ []) k Rests) place.0)) (tt, tt, place.2, place.3, place.4);
+              (sym (ap (λ vs. set vs seat Rests) place.1 ∙ ap (λ k. set (Both ∷ []) k Rests) place.0)) (tt, tt, (place.2, place.3, place.4));
         }
 
 -- ---- what the steps told
@@ -301,37 +290,37 @@ module _ {W : Type 0} where
       slot_of (z ∷ zs) = z.1
 
   pub not_none : (me : Mine W) (view : View W) (job : W) (found : Option W) → me ≡ (view, (0, Some job) ∷ []) → me.1 ≡ (0, found) ∷ rest me.1 → found ≡ None → ⊥
-  not_none me view job found is there none = let some : found ≡ Some job = found_in me view (Some job) found is there in cc
+  not_none me view job found is there nothing = let same : found ≡ Some job = found_in me view (Some job) found is there in cc
 
   same_job : (me : Mine W) (view : View W) (old : W) (found : Option W) (job : W) → me ≡ (view, (0, Some old) ∷ []) → me.1 ≡ (0, found) ∷ rest me.1 → found ≡ Some job → old ≡ job
-  same_job me view old found job is there some = let same : found ≡ Some old = found_in me view (Some old) found is there in cc
+  same_job me view old found job is there seen = let same : found ≡ Some old = found_in me view (Some old) found is there in cc
 
   pub was_in_slot : (me : Mine W) (view : View W) (old : W) (found : Option W) (job : W) → me ≡ (view, (0, Some old) ∷ []) → me.1 ≡ (0, found) ∷ rest me.1 → found ≡ Some job
       → me ≡ (view, (0, Some job) ∷ [])
-  was_in_slot me view old found job is there some = is ∙ ap (λ (w : W). (view, (0, Some w) ∷ [])) (same_job me view old found job is there some)
+  was_in_slot me view old found job is there seen = is ∙ ap (λ (w : W). (view, (0, Some w) ∷ [])) (same_job me view old found job is there seen)
 
   pub may_job : (may : W → Type 0) (me : Mine W) (found : Option W) (job : W) → HasJob may me → me.1 ≡ (0, found) ∷ rest me.1 → found ≡ Some job → may job
-  may_job may me found job has there some = subst may (same_job me (Works has.0) has.0 found job has.2 there some) has.1
+  may_job may me found job has there seen = subst may (same_job me (Works has.0) has.0 found job has.2 there seen) has.1
 
   pub works_job : (may : W → Type 0) (me after : Mine W) (found : Option W) (job : W) → HasJob may me → me.1 ≡ (0, found) ∷ rest me.1 → found ≡ Some job
       → after ≡ (me.0, (0, None) ∷ rest me.1) → after ≡ (Works job, (0, None) ∷ [])
-  works_job may me after found job has there some swaps = swapped me after (Works has.0) (Some has.0) None has.2 swaps
-      ∙ ap (λ (w : W). (Works w, (0, None) ∷ [])) (same_job me (Works has.0) has.0 found job has.2 there some)
+  works_job may me after found job has there seen swaps = swapped me after (Works has.0) (Some has.0) None has.2 swaps
+      ∙ ap (λ (w : W). (Works w, (0, None) ∷ [])) (same_job me (Works has.0) has.0 found job has.2 there seen)
 
   pub looked_opened : (found : ℕ) (me after : Mine W) → eqb found 0 ≡ true → IsOpened me found after → after ≡ (Opened, (0, None) ∷ [])
-  looked_opened found me after is told = subst (λ b. OpenedWhere b me after) is told
+  looked_opened found me after is told = subst (λ b. OpenedWhere {W = W} b me after) is told
 
   pub looked_at_rest : (found : ℕ) (me after : Mine W) → me ≡ (Rests, []) → eqb found 0 ≡ false → IsOpened me found after → after ≡ (Rests, [])
-  looked_at_rest found me after was is told = subst (λ b. OpenedWhere b me after) is told ∙ was
+  looked_at_rest found me after was is told = subst (λ b. OpenedWhere {W = W} b me after) is told ∙ was
 
   pub looked_done : (does : W → W → Type 0) (found : ℕ) (me after : Mine W) → eqb found 2 ≡ true → IsFetched does me found after → HasDone does me.0 after
-  looked_done does found me after is told = subst (λ b. FetchedWhere does b me after) is told
+  looked_done does found me after is told = subst (λ b. FetchedWhere {W = W} does b me after) is told
 
   pub looked_same : (does : W → W → Type 0) (found : ℕ) (me after : Mine W) → eqb found 2 ≡ false → IsFetched does me found after → after ≡ me
-  looked_same does found me after is told = subst (λ b. FetchedWhere does b me after) is told
+  looked_same does found me after is told = subst (λ b. FetchedWhere {W = W} does b me after) is told
 
   pub looked_work : (may : W → Type 0) (found : ℕ) (me after : Mine W) → eqb found 1 ≡ true → IsTaken may me found after → HasJob may after
-  looked_work may found me after is told = subst (λ b. TakenWhere may b me after) is told
+  looked_work may found me after is told = subst (λ b. TakenWhere {W = W} may b me after) is told
 
   pub looked_none : (may : W → Type 0) (found : ℕ) (me after : Mine W) → eqb found 1 ≡ false → IsTaken may me found after → after ≡ me
-  looked_none may found me after is told = subst (λ b. TakenWhere may b me after) is told
+  looked_none may found me after is told = subst (λ b. TakenWhere {W = W} may b me after) is told

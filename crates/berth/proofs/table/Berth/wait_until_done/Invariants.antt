@@ -1,5 +1,5 @@
 use Rattle.std.proofs.Common.{◌≡◌}
-use Rattle.berth.proofs.waiting.Berth.wait_for_work.Given as goal
+use Rattle.berth.proofs.table.Berth.wait_until_done.Given as goal
 
 -- nothing has changed yet
 abbrev pub invariant-loop : goal.invariant-loop
