@@ -283,7 +283,6 @@ pub(crate) fn ride_out<A: Actor + Drop, G: Gate, R: Wait>(
     requires rest { All (λ giver. giver ≡ None) givers.old }
     ensures same { result ≡ desk }
     ensures rode { AllRode A.asks A.takes desk riders.old.items riders.new.items }
-    ensures room { vec_capacity riders.old ≤ vec_capacity riders.new }
     ensures rest { All (λ giver. giver ≡ None) givers.new }
 {
     match Arc::new(alloc, desk) {

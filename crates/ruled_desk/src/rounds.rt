@@ -310,7 +310,6 @@ pub fn ruled_round<A: Actor + Drop, G: Gate, R: Wait>(
     ensures used_up { result.0 ≡ Err Stamps → OneIsUsedUp riders.new.items }
     ensures desk { result.1 ≡ desk }
     ensures rest { All (λ giver. giver ≡ None) givers.new }
-    ensures room { vec_capacity riders.old ≤ vec_capacity riders.new }
 {
     let desk = ride_out(rt, alloc, givers, riders, desk, gate);
     (outcome_of(riders.as_slice()), desk)

@@ -1,8 +1,8 @@
 use Rattle.ruled_desk.proofs.Words.{sym, subst, HasPass, Rode}
 use Rattle.ruled_desk.proofs.errands.run.Goals as goal
 
-pub ride-requires-after_bounds : goal.ride-requires-after_bounds
-ride-requires-after_bounds g c κs within = subst (λ d. HasPass d c.args.errand.rider) (sym c.deref.ensures) c.requires
+pub ride-requires : goal.ride-requires
+ride-requires g c = subst (λ d. HasPass d c.args.errand.rider) (sym c.deref.ensures) c.requires
 
 pub returns : goal.returns
 returns g c = subst (λ d. Rode g.A.Actor.asks g.A.Actor.takes d c.args.errand.rider c.ride.new.rider) c.deref.ensures c.ride.ensures
