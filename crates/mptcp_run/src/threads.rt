@@ -172,7 +172,9 @@ fn make_all<O: Outside, G: Gate, R: Wait>(
 ) -> (Run, Result<(), Status>)
     requires waits { Waits waits.old }
     requires rest { All (λ giver. giver ≡ None) givers.old.items }
-    ensures { IfSome waits.old (λ run. AreMade most run (O.told outside.old) (O.told outside.new) result) }
+    ensures gone { waits.new ≡ None }
+    ensures made { IfSome waits.old (λ run.
+        AreMade most run (O.told outside.old) (O.told outside.new) result) }
 {
     match waits.take() {
         Some(run) => {
@@ -215,8 +217,10 @@ pub fn make_threaded_rounds<O: Outside, G: Gate + Sync, R: Threads + Wait + Sync
         { serve_all(rt, alloc, &mut workers, gate) },
         &mut || -> (Run, Result<(), Status>)
             requires { Waits waits × All (λ giver. giver ≡ None) givers.items }
-            ensures { IfSome waits.entry (λ run. AreMade most run (O.told outside.entry.now) (O.told outside.exit.now) result) }
+            ensures { (waits.exit ≡ None) × IfSome waits.entry (λ run.
+                AreMade most run (O.told outside.entry.now) (O.told outside.exit.now) result) }
         { make_all(rt, alloc, outside, &mut waits, most, gate, &mut givers) },
     );
+    let None = waits else { unreachable!() };
     made
 }

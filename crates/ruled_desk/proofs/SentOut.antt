@@ -2,6 +2,7 @@
 use Rattle.ruled_desk.proofs.Words.{◌≡◌, refl, sym, ◌∙◌, ap, subst, ℕ, zero, suc, ◌<◌, List, [], ◌∷◌, ◌++◌, length, Option, Some, None, arith, All, slice_index_or}
 use Rattle.ruled_desk.proofs.Words.{Ask, Reply, Rider, HasPass, Rode, SixLocked, AllHave, AllRode, IsSent}
 use Rattle.std.specs.Arc.{arc_value}
+use Rattle.std.specs.Prelude.{IfSome}
 use Rattle.ruled_desk.specs.declared.errands.Errand.{Errand}
 
 module _ {A : Type 0} where
@@ -73,3 +74,14 @@ module _ {A : Type 0} where
       none_some e = cc
   not_sent desk rider same None (Some other) is sent = let e : same ≡ other = cc in (refl, e ∙ sent)
   not_sent desk rider same (Some errand) (Some other) is sent = absurd sent
+
+  -- what comes back of a rider that was out
+  pub fetched : (asks : A → Option Ask) (takes : Reply → A → A) (desk : SixLocked) (rider : Rider A) (out : Option (Errand A)) (kept : Option (Rider A)) (back : Rider A)
+      → kept ≡ None → IsSent desk rider kept out → IfSome out (λ errand. Rode asks takes (arc_value errand.desk) errand.rider back) → Rode asks takes desk rider back
+  fetched asks takes desk rider None None back is sent done = absurd sent
+  fetched asks takes desk rider (Some errand) None back is sent done =
+      subst (λ d. Rode asks takes d rider back) sent.1 (subst (λ r. Rode asks takes (arc_value errand.desk) r back) sent.0 done)
+  fetched asks takes desk rider out (Some same) back is sent done = absurd (some_none is)
+    where
+      some_none : Some same ≡ None → ⊥
+      some_none e = cc

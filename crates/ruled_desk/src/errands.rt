@@ -99,7 +99,26 @@ fn run<A: Actor, G: Gate, R: Wait>(rt: &R, alloc: Global, errand: Errand<A>, gat
     Errand { rider, desk }
 }
 
-// Makes the turns that are given, one after the other, until no more come. It waits for each.
+// Makes the next turn that is given, which it waits for: whether there was one.
+fn serve_next<A: Actor + Drop, G: Gate, R: Wait>(
+    rt: &R,
+    alloc: Global,
+    worker: &mut TurnWorker<A>,
+    gate: &G,
+) -> bool
+    requires { worker.old ≡ None }
+    ensures { worker.new ≡ None }
+{
+    match worker.next(rt) {
+        Some(errand) => {
+            worker.finish(run(rt, alloc, errand, gate));
+            true
+        }
+        None => false,
+    }
+}
+
+// Makes the turns that are given, one after the other, until no more come.
 fn serve<A: Actor + Drop, G: Gate, R: Wait>(
     rt: &R,
     alloc: Global,
@@ -110,9 +129,8 @@ fn serve<A: Actor + Drop, G: Gate, R: Wait>(
 {
     worker.arrive();
     for _ in rt.forever() {
-        match worker.next(rt) {
-            Some(errand) => worker.finish(run(rt, alloc, errand, gate)),
-            None => return,
+        if !serve_next(rt, alloc, worker, gate) {
+            return;
         }
     }
 }

@@ -67,8 +67,10 @@ fn beside_workers<'a, R: Threads + Wait + Sync>(
         { serve_all(rt, alloc, &mut workers, &OpenGate) },
         &mut || -> Books
             requires { IsSome waits × All (λ giver. giver ≡ None) givers.items }
+            ensures { waits.exit ≡ None }
         { after_rounds(rt, case, rounds, known, &mut waits, &mut givers) },
     );
+    let None = waits else { unreachable!() };
     books
 }
 
@@ -83,6 +85,7 @@ fn after_rounds<'a, R: Wait>(
 ) -> Books
     requires waits { IsSome waits.old }
     requires rest { All (λ giver. giver ≡ None) givers.old.items }
+    ensures { waits.new ≡ None }
 {
     let Some(mut books) = waits.take() else {
         unreachable!()

@@ -3,4 +3,4 @@ use Rattle.ruled_desk.proofs.errands.unshared.Given as goal
 
 -- it is still the one that was given
 abbrev pub invariant-loop : goal.invariant-loop
-invariant-loop l = l.shared ≡ l.initial.shared
+invariant-loop g l = l.shared ≡ l.initial.shared

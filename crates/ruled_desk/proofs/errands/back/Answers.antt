@@ -1,0 +1,17 @@
+use Rattle.ruled_desk.proofs.Words.{subst, Rode}
+use Rattle.ruled_desk.proofs.SentOut.{fetched, not_sent, sent_out}
+use Rattle.ruled_desk.proofs.errands.back.Goals as goal
+
+pub fetch-rider-requires : goal.fetch-rider-requires
+fetch-rider-requires g c =
+    let out = sent_out c.args.desk.now c.requires.0 c.args.giver.now c.args.kept c.in-None.is c.requires.1 in
+    (out.0, out.1)
+
+pub returns-in-Some-clause-rode : goal.returns-in-Some-clause-rode
+returns-in-Some-clause-rode g c rider sent has =
+    subst (λ r. Rode g.A.Actor.asks g.A.Actor.takes c.args.desk.now r c.ride.new.rider)
+    (not_sent c.args.desk.now rider c.in-Some.rider c.args.giver.now c.args.kept c.in-Some.is sent).1 c.ride.ensures
+
+pub returns-in-None-clause-rode : goal.returns-in-None-clause-rode
+returns-in-None-clause-rode g c rider sent has =
+    fetched g.A.Actor.asks g.A.Actor.takes c.args.desk.now rider c.args.giver.now c.args.kept c.fetch-rider.result.rider c.in-None.is sent c.fetch-rider.ensures.done
