@@ -85,3 +85,10 @@ module _ {A : Type 0} where
     where
       some_none : Some same ≡ None → ⊥
       some_none e = cc
+
+-- of givers of which no turn is out, the first and the others
+pub first_rests : {X : Type 0} (all : List (Option X)) (first : Option X) (others : List (Option X)) → all ≡ first ∷ others → All (λ x. x ≡ None) all
+    → (first ≡ None) × All (λ x. x ≡ None) others
+first_rests all first others is rest =
+    let each = subst (λ l. All (λ x. x ≡ None) l) is rest in
+    (each 0 first (omega arith), λ k d within. each (suc k) d (omega (arith, within)))
