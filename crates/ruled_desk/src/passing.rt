@@ -32,13 +32,13 @@ impl RuledDesk {
     }
 
     /// A pass for each rider. The riders are the actors from 0 on, and no pass is out.
-    pub fn split_all<A>(&self, root: &mut RootPass, riders: &mut Vec<Rider<A>>)
+    pub fn split_all<A>(&self, root: &mut RootPass, riders: &mut [Rider<A>])
         requires root { AreOf self.now root.old.books }
         requires home { (actor : ℕ) → is_out root.old.out actor ≡ false }
-        requires numbered { AreNumbered 0 riders.old.items }
-        ensures riders { riders.new.items ≡ map (given_pass self.now) riders.old.items }
+        requires numbered { AreNumbered 0 riders.old }
+        ensures riders { riders.new ≡ map (given_pass self.now) riders.old }
         ensures books { root.new.books ≡ root.old.books }
-        ensures others { (actor : ℕ) → length riders.old.items ≤ actor →
+        ensures others { (actor : ℕ) → length riders.old ≤ actor →
             is_out root.new.out actor ≡ false }
     {
         for rider in riders.iter_mut() {
@@ -47,14 +47,14 @@ impl RuledDesk {
     }
 
     /// The pass of each rider comes back. The riders are the actors from 0 on, and no other pass is out.
-    pub fn join_all<A>(&self, root: &mut RootPass, riders: &mut Vec<Rider<A>>)
+    pub fn join_all<A>(&self, root: &mut RootPass, riders: &mut [Rider<A>])
         requires root { AreOf self.now root.old.books }
-        requires passes { All (HasPass self.now) riders.old.items }
-        requires numbered { AreNumbered 0 riders.old.items }
-        requires others { (actor : ℕ) → length riders.old.items ≤ actor →
+        requires passes { All (HasPass self.now) riders.old }
+        requires numbered { AreNumbered 0 riders.old }
+        requires others { (actor : ℕ) → length riders.old ≤ actor →
             is_out root.old.out actor ≡ false }
-        ensures riders { riders.new.items ≡ map pass_taken riders.old.items }
-        ensures books { root.new.books ≡ all_joined root.old.books riders.old.items }
+        ensures riders { riders.new ≡ map pass_taken riders.old }
+        ensures books { root.new.books ≡ all_joined root.old.books riders.old }
         ensures root { AreOf self.now root.new.books }
         ensures home { (actor : ℕ) → is_out root.new.out actor ≡ false }
     {

@@ -1,5 +1,5 @@
 //! Seats at a ruled desk, and rounds by threads: the calls that may wait.
-ghost use Rattle.std.specs.Prelude.{◌≡◌, ◌+◌, ◌-◌, ◌^◌, ◌<◌, ◌≤◌, ◌↔◌, ◌⊎◌, ◌++◌, ◌∷◌, ℕ, true, false, None, Some, [], All, length, IfOk, OnOk, OnErr};
+ghost use Rattle.std.specs.Prelude.{◌≡◌, ◌+◌, ◌-◌, ◌^◌, ◌<◌, ◌≤◌, ◌↔◌, ◌⊎◌, ◌++◌, ◌∷◌, ℕ, true, false, None, Some, [], All, length, map, IfOk, OnOk, OnErr};
 ghost use Rattle.std.specs.List.{list_any, slice_index_or};
 ghost use Rattle.stamped_book.specs.declared.stamped.Refusal.TheVariants as refusals;
 ghost use Rattle.actor_desk.specs.Noted.{Rises};
@@ -13,8 +13,8 @@ ghost use Rattle.actor_desk.specs.Bounds.{IsSmallControl, IsSmallReassembly, IsS
 ghost use Rattle.actor_desk.specs.Kinds.{IsControlKind, IsReassemblyKind, IsSendKind};
 ghost use Rattle.actor_desk.specs.Noted.{note_of, with_note};
 ghost use Rattle.ruled_desk.specs.declared.rider.Rider.{Rider};
-ghost use Rattle.ruled_desk.specs.Riding.{AreNumbered, HasPass, OneIsUsedUp, Rode, is_rider_refused};
-ghost use Rattle.ruled_desk.specs.SixSeats.{AreOf, given_to, nobody_out, nothing_known, notes_by, notes_full};
+ghost use Rattle.ruled_desk.specs.Riding.{AreNumbered, HasPass, OneIsUsedUp, Rode, all_joined, given_pass, is_rider_refused, pass_taken};
+ghost use Rattle.ruled_desk.specs.SixSeats.{AreOf, given_to, is_out, nobody_out, nothing_known, notes_by, notes_full};
 ghost use Rattle.ruled_desk.specs.WholeRounds.{AreActors, EndsAsTurns, IsWholeRound, NoTurnMade, OneIsFull, OneKnowsLast, crew_of};
 ghost use Rattle.actor_turn.specs.Extending.{BooksExtend};
 
@@ -315,6 +315,34 @@ pub fn ruled_round<A: Actor + Drop, G: Gate, R: Wait>(
     (outcome_of(riders.as_slice()), desk)
 }
 
+// A pass for each rider. The riders are the actors from 0 on, and no pass is out.
+fn give_passes<A>(desk: &RuledDesk, root: &mut RootPass, riders: &mut Vec<Rider<A>>)
+    requires root { AreOf desk.now root.old.books }
+    requires home { (actor : ℕ) → is_out root.old.out actor ≡ false }
+    requires numbered { AreNumbered 0 riders.old.items }
+    ensures riders { riders.new.items ≡ map (given_pass desk.now) riders.old.items }
+    ensures books { root.new.books ≡ root.old.books }
+    ensures others { (actor : ℕ) → length riders.old.items ≤ actor →
+        is_out root.new.out actor ≡ false }
+{
+    desk.split_all(root, riders.as_mut_slice());
+}
+
+// The pass of each rider comes back. The riders are the actors from 0 on, and no other pass is out.
+fn take_passes<A>(desk: &RuledDesk, root: &mut RootPass, riders: &mut Vec<Rider<A>>)
+    requires root { AreOf desk.now root.old.books }
+    requires passes { All (HasPass desk.now) riders.old.items }
+    requires numbered { AreNumbered 0 riders.old.items }
+    requires others { (actor : ℕ) → length riders.old.items ≤ actor →
+        is_out root.old.out actor ≡ false }
+    ensures riders { riders.new.items ≡ map pass_taken riders.old.items }
+    ensures books { root.new.books ≡ all_joined root.old.books riders.old.items }
+    ensures root { AreOf desk.now root.new.books }
+    ensures home { (actor : ℕ) → is_out root.new.out actor ≡ false }
+{
+    desk.join_all(root, riders.as_mut_slice());
+}
+
 // A round of riders at a desk that was just opened: a pass for each, the round, the passes back, and the books out of their
 // tables.
 fn ride_at<A: Actor + Drop, G: Gate, R: Wait>(
@@ -341,9 +369,9 @@ fn ride_at<A: Actor + Drop, G: Gate, R: Wait>(
     ensures rest { All (λ giver. giver ≡ None) givers.new }
 {
     let mut root = root;
-    desk.split_all(&mut root, riders);
+    give_passes(&desk, &mut root, riders);
     let (told, desk) = ruled_round(rt, alloc, riders, desk, gate, givers);
-    desk.join_all(&mut root, riders);
+    take_passes(&desk, &mut root, riders);
     (told, desk.close(root))
 }
 

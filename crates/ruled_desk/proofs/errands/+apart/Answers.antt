@@ -33,7 +33,9 @@ ride_beside-push_reserved-requires g t c =
 
 pub ride_beside-returns-clause-rode : goal.ride_beside-returns-clause-rode
 ride_beside-returns-clause-rode g t c =
-    let needs = ride_beside-back-requires g t c in
     rode_last g.A.Actor.asks g.A.Actor.takes (arc_value c.args.desk.now) c.args.riders.now.items c.pop.new.self.items c.ride_apart.new.riders.items c.push_reserved.new.self.items c.in-Some.rider c.back.result
     c.in-Some.ensures.items c.push_reserved.ensures.items c.ride_apart.ensures.rode
-    (subst (λ d. Rode g.A.Actor.asks g.A.Actor.takes d c.in-Some.rider c.back.result) c.deref.ensures (c.back.ensures.rode c.in-Some.rider needs.1 needs.2))
+    (subst (λ d. Rode g.A.Actor.asks g.A.Actor.takes d c.in-Some.rider c.back.result) c.deref.ensures
+    (c.back.ensures.rode c.in-Some.rider (subst (λ d. IsSent d c.in-Some.rider c.send-kept.result c.send-kept.new.giver) (sym c.deref.ensures) c.send-kept.ensures)
+    (subst (λ d. HasPass d c.in-Some.rider) (sym c.deref.ensures)
+    (last_has (arc_value c.args.desk.now) c.args.riders.now.items c.pop.new.self.items c.in-Some.rider c.in-Some.ensures.items c.requires.passes))))

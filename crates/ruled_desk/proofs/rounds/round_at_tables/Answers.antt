@@ -5,7 +5,7 @@ use Rattle.ruled_desk.proofs.WholeRounds.{crew_again, numbered_riders, same_exte
 use Rattle.ruled_desk.proofs.rounds.round_at_tables.Goals as goal
 
 pub ride_all-told-requires-clause-numbered : goal.ride_all-told-requires-clause-numbered
-ride_all-told-requires-clause-numbered g c κs within =
+ride_all-told-requires-clause-numbered g c =
     subst (λ l. AreNumbered 0 l) (sym c.in-Ok.ensures.riders) (numbered_riders 0 c.args.crew.now.items c.requires.numbered)
 
 pub returns-clause-ok : goal.returns-clause-ok

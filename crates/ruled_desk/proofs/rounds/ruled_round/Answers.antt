@@ -4,7 +4,7 @@ use Rattle.ruled_desk.proofs.SentOut.{have_all, rode_each, rode_many}
 use Rattle.ruled_desk.proofs.rounds.ruled_round.Goals as goal
 
 pub ride_out-desk-requires-clause-passes : goal.ride_out-desk-requires-clause-passes
-ride_out-desk-requires-clause-passes g c κs within = have_all c.args.desk c.args.riders.now.items c.requires.passes
+ride_out-desk-requires-clause-passes g c = have_all c.args.desk c.args.riders.now.items c.requires.passes
 
 pub returns-clause-many : goal.returns-clause-many
 returns-clause-many g c = rode_many g.A.Actor.asks g.A.Actor.takes c.args.desk c.args.riders.now.items c.ride_out-desk.new.riders.items c.ride_out-desk.ensures.rode
