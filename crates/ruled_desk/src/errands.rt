@@ -1,6 +1,7 @@
 //! Turns as jobs of workers that stay from round to round.
 ghost use Rattle.std.specs.Prelude.{◌≡◌, ◌≤◌, ◌<◌, ◌++◌, ◌∷◌, [], None, All, vec_len, vec_capacity};
 ghost use Rattle.std.specs.Arc.{arc_value};
+ghost use Rattle.std.specs.Box.{box_value};
 ghost use Rattle.ruled_desk.specs.declared.rider.Rider.{Rider};
 ghost use Rattle.ruled_desk.specs.Errands.{AllHave, AllRode, IsSent};
 ghost use Rattle.ruled_desk.specs.Riding.{HasPass, Rode};
@@ -29,21 +30,23 @@ pub struct Riding<A> {
     actor: PhantomData<A>,
 }
 
-impl<A: Actor> Deed<Errand<A>> for Riding<A> {
+impl<A: Actor> Deed<Box<Errand<A>>> for Riding<A> {
     ghost use Rattle.std.specs.Arc.{arc_value};
+    ghost use Rattle.std.specs.Box.{box_value};
     ghost use Rattle.ruled_desk.specs.Riding.{HasPass, Rode};
 
-    ghost may = { λ errand. HasPass (arc_value errand.desk) errand.rider };
+    ghost may = { λ errand. HasPass (arc_value (box_value errand).desk) (box_value errand).rider };
 
-    ghost does = { λ errand done.
-        Rode A.asks A.takes (arc_value errand.desk) errand.rider done.rider };
+    ghost does = { λ errand done. Rode A.asks A.takes
+        (arc_value (box_value errand).desk)
+        (box_value errand).rider (box_value done).rider };
 }
 
 /// Who gives turns to a worker.
-pub type TurnGiver<A> = Giver<Errand<A>, Riding<A>>;
+pub type TurnGiver<A> = Giver<Box<Errand<A>>, Riding<A>>;
 
 /// Who makes turns for a giver.
-pub type TurnWorker<A> = Worker<Errand<A>, Riding<A>>;
+pub type TurnWorker<A> = Worker<Box<Errand<A>>, Riding<A>>;
 
 // One berth more, where there is memory.
 fn add_berth<A: Actor + Drop>(
@@ -89,14 +92,12 @@ pub fn dismiss_all<A: Actor + Drop>(givers: &mut Vec<TurnGiver<A>>)
     }
 }
 
-// The errand with its turn made.
-fn run<A: Actor, G: Gate, R: Wait>(rt: &R, alloc: Global, errand: Errand<A>, gate: &G) -> Errand<A>
-    requires { HasPass (arc_value errand.desk) errand.rider }
-    ensures { Rode A.asks A.takes (arc_value errand.desk) errand.rider result.rider }
+// The turn of an errand is made.
+fn run<A: Actor, G: Gate, R: Wait>(rt: &R, alloc: Global, errand: &mut Errand<A>, gate: &G)
+    requires { HasPass (arc_value errand.old.desk) errand.old.rider }
+    ensures { Rode A.asks A.takes (arc_value errand.old.desk) errand.old.rider errand.new.rider }
 {
-    let Errand { mut rider, desk } = errand;
-    ride(rt, alloc, &mut rider, &*desk, gate);
-    Errand { rider, desk }
+    ride(rt, alloc, &mut errand.rider, &*errand.desk, gate);
 }
 
 // Makes the next turn that is given, which it waits for: whether there was one.
@@ -110,8 +111,9 @@ fn serve_next<A: Actor + Drop, G: Gate, R: Wait>(
     ensures { worker.new ≡ None }
 {
     match worker.next(rt) {
-        Some(errand) => {
-            worker.finish(run(rt, alloc, errand, gate));
+        Some(mut errand) => {
+            run(rt, alloc, &mut *errand, gate);
+            worker.finish(errand);
             true
         }
         None => false,
@@ -155,8 +157,32 @@ pub fn serve_all<A: Actor + Drop + Send, G: Gate + Sync, R: Threads + Wait + Syn
     );
 }
 
-// Sends a rider out, unless the worker has not come or the desk has too many owners.
+impl<A> Errand<A> {
+    // The rider, without the desk.
+    fn into_rider(self) -> Rider<A>
+        ensures { result ≡ self.rider }
+    {
+        let Errand { rider, desk: _ } = self;
+        rider
+    }
+}
+
+// Offers an errand: its rider, where the worker has not come.
+fn offer<A: Actor + Drop>(giver: &mut TurnGiver<A>, errand: Box<Errand<A>>) -> Option<Rider<A>>
+    requires rests { giver.old ≡ None }
+    requires pass { HasPass (arc_value (box_value errand).desk) (box_value errand).rider }
+    ensures { IsSent (arc_value (box_value errand).desk) (box_value errand).rider result
+        giver.new }
+{
+    match giver.offer(errand) {
+        Ok(()) => None,
+        Err(errand) => Some(Box::into_inner(errand).into_rider()),
+    }
+}
+
+// Sends a rider out, unless there is no memory, the worker has not come or the desk has too many owners.
 fn send<A: Actor + Drop>(
+    alloc: Global,
     giver: &mut TurnGiver<A>,
     rider: Rider<A>,
     desk: &Arc<RuledDesk, Global>,
@@ -165,15 +191,12 @@ fn send<A: Actor + Drop>(
     requires pass { HasPass (arc_value desk.now) rider }
     ensures { IsSent (arc_value desk.now) rider result giver.new }
 {
-    let Ok(theirs) = Arc::try_clone(desk) else {
+    let Ok(desk) = Arc::try_clone(desk) else {
         return Some(rider);
     };
-    match giver.offer(Errand {
-        rider,
-        desk: theirs,
-    }) {
-        Ok(()) => None,
-        Err(Errand { rider, desk: _ }) => Some(rider),
+    match Box::new(alloc, Errand { rider, desk }) {
+        Ok(errand) => offer(giver, errand),
+        Err(AllocFailed { value }) => Some(value.into_rider()),
     }
 }
 
@@ -196,10 +219,7 @@ fn back<A: Actor + Drop, G: Gate, R: Wait>(
             ride(rt, alloc, &mut rider, desk, gate);
             rider
         }
-        None => {
-            let Errand { rider, desk: _ } = giver.fetch(rt);
-            rider
-        }
+        None => Box::into_inner(giver.fetch(rt)).into_rider(),
     }
 }
 
@@ -268,7 +288,7 @@ fn ride_beside<A: Actor + Drop, G: Gate, R: Wait>(
     let Some(rider) = riders.pop() else {
         return;
     };
-    let kept = send(giver, rider, desk);
+    let kept = send(alloc, giver, rider, desk);
     ride_apart(rt, alloc, others, riders, desk, gate);
     riders.push_reserved(back(rt, alloc, giver, kept, &**desk, gate));
 }

@@ -1,9 +1,10 @@
-use Rattle.ruled_desk.proofs.Words.{subst, Rode}
+use Rattle.ruled_desk.proofs.Words.{sym, ◌∙◌, ap, subst, Rode}
+use Rattle.std.specs.Box.{box_value}
 use Rattle.ruled_desk.proofs.SentOut.{fetched, not_sent, sent_out}
 use Rattle.ruled_desk.proofs.errands.back.Goals as goal
 
-pub fetch-rider-requires : goal.fetch-rider-requires
-fetch-rider-requires g c =
+pub fetch-requires : goal.fetch-requires
+fetch-requires g c =
     let out = sent_out c.args.desk.now c.requires.0 c.args.giver.now c.args.kept c.in-None.is c.requires.1 in
     (out.0, out.1)
 
@@ -14,4 +15,5 @@ returns-in-Some-clause-rode g c rider sent has =
 
 pub returns-in-None-clause-rode : goal.returns-in-None-clause-rode
 returns-in-None-clause-rode g c rider sent has =
-    fetched g.A.Actor.asks g.A.Actor.takes c.args.desk.now rider c.args.giver.now c.args.kept c.fetch-rider.result.rider c.in-None.is sent c.fetch-rider.ensures.done
+    subst (λ back. Rode g.A.Actor.asks g.A.Actor.takes c.args.desk.now rider back) (sym (c.into_rider.ensures ∙ ap (λ errand. errand.rider) c.into_inner.ensures))
+    (fetched g.A.Actor.asks g.A.Actor.takes c.args.desk.now rider c.args.giver.now c.args.kept (box_value c.fetch.result).rider c.in-None.is sent c.fetch.ensures.done)
