@@ -2,7 +2,7 @@ use Rattle.mptcp_run.proofs.ThreadsMade.{parts_begin, found_heard, found_sound, 
 use Rattle.mptcp_run.proofs.threads.by_threads.Goals as goal
 
 pub woven_round-books-requires-clause-begins : goal.woven_round-books-requires-clause-begins
-woven_round-books-requires-clause-begins g c κs lives =
+woven_round-books-requires-clause-begins g c =
     parts_begin c.args.world c.into_parts-books.result.1.items c.into_parts-books.result.0 c.into_parts-books.ensures.parts c.requires.begins
 
 pub from_parts_since-requires-clause-sound : goal.from_parts_since-requires-clause-sound
