@@ -1,6 +1,6 @@
 //! Rounds in which each actor takes its turn in a thread of its own, and their steps in one order.
 
-ghost use Rattle.std.specs.Prelude.{◌≡◌, ◌⊎◌, Err, length, IfOk, IfErr, OnOk};
+ghost use Rattle.std.specs.Prelude.{◌≡◌, ◌⊎◌, Err, None, All, length, IfOk, IfErr, OnOk};
 ghost use Rattle.std.specs.List.{slice_get};
 ghost use Rattle.stamped_book.specs.declared.stamped.Refusal.TheVariants.{Memory, Stamps};
 ghost use Rattle.actor_desk.specs.Journals.{ArePaired, order_of};
@@ -16,11 +16,10 @@ use crate::weaving::weave;
 use actor_desk::{Books, Crew};
 use actor_turn::Gate;
 use path_core::Path;
-use ruled_desk::{gaining_alike_stays_paired, round_at_tables};
+use ruled_desk::{TurnGiver, gaining_alike_stays_paired, round_at_tables};
 use stamped_book::Refusal;
 use std::alloc::Global;
 use std::sync::Wait;
-use std::thread::Threads;
 use stream_apps::App;
 use world_laws::Member;
 
@@ -50,8 +49,8 @@ fn put_in_order<A>(
 }
 
 /// A round by threads, up to its end, over these books: the books after it, and the actors of its steps, by stamp, then
-/// actor. Each actor takes its turn in a thread of its own, or they do one after the other where no thread can be made. The books
-/// lie in tables for as long as the round takes, so each call that an actor notes stands in the called book's journal.
+/// actor. Each actor takes its turn at a worker, as far as there are workers that have come; the others do one after the other. The
+/// books lie in tables for as long as the round takes, so each call that an actor notes stands in the called book's journal.
 ///
 /// After an error actors and books are of no use, but they are as many.
 ///
@@ -59,13 +58,15 @@ fn put_in_order<A>(
 ///
 /// `Stamps` only where stamps were used up: where an actor knows the stamp 2^62 - 1, or an entry of a journal has it. `Memory`
 /// where there is none.
-pub fn woven_round<G: Gate + Sync, R: Threads + Wait + Sync>(
+pub fn woven_round<G: Gate, R: Wait>(
     rt: &R,
     alloc: Global,
     crew: &mut Vec<Crew<Member<App, Path>>>,
     books: Books,
     gate: &G,
+    givers: &mut [TurnGiver<Member<App, Path>>],
 ) -> (Books, Result<Vec<u8>, Refusal>)
+    requires rest { All (λ giver. giver ≡ None) givers.old }
     requires begins { Begins (greatest 0 crew.old.items)
         (record { crew = crew.old.items; books = books }) }
     ensures many { length crew.new.items ≡ length crew.old.items }
@@ -74,9 +75,10 @@ pub fn woven_round<G: Gate + Sync, R: Threads + Wait + Sync>(
         (record { crew = crew.old.items; books = books })
         (record { crew = crew.new.items; books = result.0 }) order.items) }
     ensures used_up { result.1 ≡ Err Stamps → OneKnowsLast crew.new.items ⊎ OneIsFull result.0 }
+    ensures rest { All (λ giver. giver ≡ None) givers.new }
 {
     let stamp = known_stamp(crew);
-    let (told, books) = round_at_tables(rt, alloc, crew, books, gate);
+    let (told, books) = round_at_tables(rt, alloc, crew, books, gate, givers);
     // For the proof: the journals are those of their books, and stay paired.
     are_journals(&books);
     gaining_alike_stays_paired();

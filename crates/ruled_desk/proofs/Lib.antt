@@ -1,5 +1,6 @@
 mod Outs
 mod Ridden
+mod SentOut
 mod PassesGiven
 mod Gaining
 pub mod Pairing

@@ -5,7 +5,6 @@ use Rattle.ruled_desk.proofs.Words.{All, slice_index_or, list_any, Journaled, En
 use Rattle.ruled_desk.proofs.Words.{control_note, Crew, is_refused, Turned, HasLastStamp, GainsJust, Rider, AreNumbered, HasPass, NotesFull, OneIsUsedUp, Rode}
 use Rattle.ruled_desk.proofs.Words.{all_joined, given_pass, is_rider_refused, known_with, pass_taken, SixLocked, SixKnown, Passed, nothing_known, AllGainJust}
 use Rattle.ruled_desk.proofs.Words.{all_known, notes_full, AreActors, EndsAsTurns, IsWholeRound, OneIsFull, OneKnowsLast, crew_of, without_pass}
-use Rattle.std.proofs.Math.Seq.{take-append_seam}
 use Rattle.sides.specs.declared.side.Side.{Side}
 use Rattle.actor_desk.specs.Books.{StampedBooks}
 use Rattle.actor_turn.specs.Extending.{Extends, BooksExtend}
@@ -27,12 +26,6 @@ module _ {A : Type 0} where
   all_given desk (rider ∷ riders) zero d within =
       (refl, record { send_a = refl; send_b = refl; reassembly_a = refl; reassembly_b = refl; control_a = refl; control_b = refl })
   all_given desk (rider ∷ riders) (suc k) d within = all_given desk riders k d (omega (arith, within))
-
-  -- of the vector of riders that lent its slice to the round
-  pub lent_riders : (P : List (Crew A) → Type 0) (n : ℕ) (new old : List (Rider A)) (crew : List (Crew A)) → n ≡ length new
-      → crew ≡ crew_of (take n (new ++ drop (length new) old)) → P (crew_of new) → P crew
-  lent_riders P n new old crew many is holds =
-      subst P (sym (is ∙ ap (λ l. crew_of l) (ap (λ k. take k (new ++ drop (length new) old)) many ∙ take-append_seam new (drop (length new) old)))) holds
 
   pub numbered_given : (desk : SixLocked) (first : ℕ) (riders : List (Rider A)) → AreNumbered first riders → AreNumbered first (map (given_pass desk) riders)
   numbered_given desk first [] are = tt

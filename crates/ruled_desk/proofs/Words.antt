@@ -26,8 +26,9 @@ pub use Rattle.ruled_desk.specs.Growing.{HasLastStamp, grown, entry_by}
 pub use Rattle.ruled_desk.specs.Rule.{HasTurn, HasOneMore, IsDone, IsDrawn, IsWaiting, IsAtRest, HasTaken, IsOut, view, takes_turn, waits, IsRuled, homed, Fits, IsAdded, IsServed, adds, serves, first_view, IsLooked, IsBack, without_part, newcomer, joined, spent}
 pub use Rattle.ruled_desk.specs.Seats.{GainsJust, Locked, Seated, locked, seated}
 pub use Rattle.ruled_desk.specs.declared.rider.Rider.{Rider}
+pub use Rattle.ruled_desk.specs.Errands.{AllHave, AllRode, IsSent}
 pub use Rattle.ruled_desk.specs.Riding.{AreNumbered, HasPass, NotesFull, OneIsUsedUp, Rode, all_joined, given_pass, is_rider_refused, known_with, pass_taken, notes_held, IsUsedUp}
-pub use Rattle.ruled_desk.specs.SixSeats.{SixLocked, SixKnown, AreOf, how_many, is_out, nobody_out, numbers_of, names_of, Passed, nothing_known, AllGainJust, all_known, notes_by, notes_full}
+pub use Rattle.ruled_desk.specs.SixSeats.{SixLocked, SixKnown, AreOf, how_many, is_out, nobody_out, numbers_of, names_of, Passed, nothing_known, AllGainJust, given_to, all_known, notes_by, notes_full}
 pub use Rattle.ruled_desk.specs.Weighing.{weigh, span, bit}
 pub use Rattle.ruled_desk.specs.Parts.{AreLeft, EachHas, both_seats, one_part_less}
 pub use Rattle.ruled_desk.specs.WholeRounds.{AllTurned, AreActors, EndsAsTurns, IsWholeRound, OneIsFull, OneKnowsLast, crew_of, without_pass, NoTurnMade}

@@ -8,3 +8,4 @@ pub mod Weighing
 pub mod Rule
 pub mod Called
 pub mod Seats
+pub mod Errands

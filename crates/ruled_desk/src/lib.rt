@@ -1,5 +1,5 @@
 //! The six books of a connection, each in a table of its own behind a ticket lock: what the actors' passes note of their calls
-//! is what the journals gained. A round by threads gives each actor a pass and a thread.
+//! is what the journals gained. A round by threads gives each actor a pass, and its turn to a worker that stays from round to round.
 //!
 //! One book in a table of its own behind a ticket lock: the entries that the seats at the table note of their calls are, as often
 //! and no others, those that the book's journal gained.
@@ -11,6 +11,7 @@
 
 mod answering;
 mod desk;
+mod errands;
 mod held;
 mod laws;
 mod lock;
@@ -24,6 +25,7 @@ mod seats;
 mod waiting;
 
 pub use desk::{OpenFault, RootPass, RuledDesk, RuledPass};
+pub use errands::{Errand, Riding, TurnGiver, TurnWorker, dismiss_all, open_turns, serve_all};
 pub use laws::gaining_alike_stays_paired;
 pub use rider::Rider;
 pub use rounds::{RuledSeat, round_at_tables, ruled_round};

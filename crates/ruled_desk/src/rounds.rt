@@ -1,5 +1,5 @@
 //! Seats at a ruled desk, and rounds by threads: the calls that may wait.
-ghost use Rattle.std.specs.Prelude.{◌≡◌, ◌+◌, ◌-◌, ◌^◌, ◌<◌, ◌≤◌, ◌↔◌, ◌⊎◌, ◌++◌, ◌∷◌, ℕ, true, false, None, Some, [], All, length, IfOk, OnOk, OnErr};
+ghost use Rattle.std.specs.Prelude.{◌≡◌, ◌+◌, ◌-◌, ◌^◌, ◌<◌, ◌≤◌, ◌↔◌, ◌⊎◌, ◌++◌, ◌∷◌, ℕ, true, false, None, Some, [], All, length, map, IfOk, OnOk, OnErr};
 ghost use Rattle.std.specs.List.{list_any, slice_index_or};
 ghost use Rattle.stamped_book.specs.declared.stamped.Refusal.TheVariants as refusals;
 ghost use Rattle.actor_desk.specs.Noted.{Rises};
@@ -13,12 +13,13 @@ ghost use Rattle.actor_desk.specs.Bounds.{IsSmallControl, IsSmallReassembly, IsS
 ghost use Rattle.actor_desk.specs.Kinds.{IsControlKind, IsReassemblyKind, IsSendKind};
 ghost use Rattle.actor_desk.specs.Noted.{note_of, with_note};
 ghost use Rattle.ruled_desk.specs.declared.rider.Rider.{Rider};
-ghost use Rattle.ruled_desk.specs.Riding.{AreNumbered, HasPass, OneIsUsedUp, Rode, is_rider_refused};
-ghost use Rattle.ruled_desk.specs.SixSeats.{AreOf, given_to, nobody_out, nothing_known, notes_by, notes_full};
+ghost use Rattle.ruled_desk.specs.Riding.{AreNumbered, HasPass, OneIsUsedUp, Rode, all_joined, given_pass, is_rider_refused, pass_taken};
+ghost use Rattle.ruled_desk.specs.SixSeats.{AreOf, given_to, is_out, nobody_out, nothing_known, notes_by, notes_full};
 ghost use Rattle.ruled_desk.specs.WholeRounds.{AreActors, EndsAsTurns, IsWholeRound, NoTurnMade, OneIsFull, OneKnowsLast, crew_of};
 ghost use Rattle.actor_turn.specs.Extending.{BooksExtend};
 
 use crate::desk::{OpenFault, RootPass, RuledDesk, RuledPass};
+use crate::errands::{TurnGiver, ride_out};
 use crate::mounting::{dismount, mount};
 use crate::refusing::outcome_of;
 use crate::rider::Rider;
@@ -31,8 +32,6 @@ use sides::{Object, Side};
 use stamped_book::{Pass, Refusal};
 use std::alloc::Global;
 use std::sync::Wait;
-use std::thread;
-use std::thread::Threads;
 
 /// A seat at a desk of tables: it waits for its turn at one book for one call, and tells the gate while it has the book.
 #[derive(Drop)]
@@ -261,8 +260,8 @@ fn turn_with<A: Actor, G: Gate, R: Wait>(
     seat.into_pass()
 }
 
-// The turn of one rider.
-fn ride<A: Actor, G: Gate, R: Wait>(
+/// The turn of one rider.
+pub(crate) fn ride<A: Actor, G: Gate, R: Wait>(
     rt: &R,
     alloc: Global,
     rider: &mut Rider<A>,
@@ -280,95 +279,127 @@ fn ride<A: Actor, G: Gate, R: Wait>(
     }
 }
 
-/// A round: the turns of all riders, each in a thread of its own at a seat of its pass, or one after the other where no thread
-/// can be made. The steps that were made so far stand, whatever the answer, and each rider has its pass again.
+/// A round: the turns of all riders, each at a worker with a seat of its pass, as far as there are workers that have come, or else
+/// one after the other here, where the last one always is. The steps that were made so far stand, whatever the answer, each rider
+/// has its pass again, no rider is out, and the desk comes back as it was.
 ///
 /// # Errors
 ///
 /// `Memory` where a turn stopped for want of memory; else `Stamps` where one stopped since stamps were used up: then the pass
 /// of some actor stands at 2^62 - 1 or more, or its pass at the desk notes a full journal.
-pub fn ruled_round<A: Actor + Send, G: Gate + Sync, R: Threads + Wait + Sync>(
+pub fn ruled_round<A: Actor + Drop, G: Gate, R: Wait>(
     rt: &R,
     alloc: Global,
-    riders: &mut [Rider<A>],
-    desk: &RuledDesk,
+    riders: &mut Vec<Rider<A>>,
+    desk: RuledDesk,
     gate: &G,
-) -> Result<(), Refusal>
-    requires { All (HasPass desk.now) riders.old }
-    ensures many { length riders.new ≡ length riders.old }
-    ensures rode { (i : ℕ) (d : Rider A) → i < length riders.old →
-        Rode A.asks A.takes desk.now
-        (slice_index_or riders.old i d) (slice_index_or riders.new i d) }
-    ensures done { OnOk result (All (λ rider. rider.crew.refused ≡ None) riders.new) }
-    ensures memory { (result ≡ Err Memory) ↔
-        (list_any (is_rider_refused Memory) riders.new ≡ true) }
-    ensures stamps { (result ≡ Err Stamps) ↔
-        ((list_any (is_rider_refused Memory) riders.new ≡ false) ×
-        (list_any (is_rider_refused Stamps) riders.new ≡ true)) }
-    ensures used_up { result ≡ Err Stamps → OneIsUsedUp riders.new }
+    givers: &mut [TurnGiver<A>],
+) -> (Result<(), Refusal>, RuledDesk)
+    requires passes { All (HasPass desk) riders.old.items }
+    requires rest { All (λ giver. giver ≡ None) givers.old }
+    ensures many { length riders.new.items ≡ length riders.old.items }
+    ensures rode { (i : ℕ) (d : Rider A) → i < length riders.old.items →
+        Rode A.asks A.takes desk
+        (slice_index_or riders.old.items i d) (slice_index_or riders.new.items i d) }
+    ensures done { OnOk result.0 (All (λ rider. rider.crew.refused ≡ None) riders.new.items) }
+    ensures memory { (result.0 ≡ Err Memory) ↔
+        (list_any (is_rider_refused Memory) riders.new.items ≡ true) }
+    ensures stamps { (result.0 ≡ Err Stamps) ↔
+        ((list_any (is_rider_refused Memory) riders.new.items ≡ false) ×
+        (list_any (is_rider_refused Stamps) riders.new.items ≡ true)) }
+    ensures used_up { result.0 ≡ Err Stamps → OneIsUsedUp riders.new.items }
+    ensures desk { result.1 ≡ desk }
+    ensures rest { All (λ giver. giver ≡ None) givers.new }
 {
-    let threads = riders.len().max(1);
-    thread::for_each_mut(
-        rt,
-        riders,
-        threads,
-        &|_: usize, rider: &mut Rider<A>|
-            requires { HasPass desk.now rider.now }
-            ensures { Rode A.asks A.takes desk.entry.now rider.entry.now rider.exit.now }
-        { ride(rt, alloc, rider, desk, gate) },
-    );
-    outcome_of(riders)
+    let desk = ride_out(rt, alloc, givers, riders, desk, gate);
+    (outcome_of(riders.as_slice()), desk)
+}
+
+// A pass for each rider. The riders are the actors from 0 on, and no pass is out.
+fn give_passes<A>(desk: &RuledDesk, root: &mut RootPass, riders: &mut Vec<Rider<A>>)
+    requires root { AreOf desk.now root.old.books }
+    requires home { (actor : ℕ) → is_out root.old.out actor ≡ false }
+    requires numbered { AreNumbered 0 riders.old.items }
+    ensures riders { riders.new.items ≡ map (given_pass desk.now) riders.old.items }
+    ensures books { root.new.books ≡ root.old.books }
+    ensures others { (actor : ℕ) → length riders.old.items ≤ actor →
+        is_out root.new.out actor ≡ false }
+{
+    desk.split_all(root, riders.as_mut_slice());
+}
+
+// The pass of each rider comes back. The riders are the actors from 0 on, and no other pass is out.
+fn take_passes<A>(desk: &RuledDesk, root: &mut RootPass, riders: &mut Vec<Rider<A>>)
+    requires root { AreOf desk.now root.old.books }
+    requires passes { All (HasPass desk.now) riders.old.items }
+    requires numbered { AreNumbered 0 riders.old.items }
+    requires others { (actor : ℕ) → length riders.old.items ≤ actor →
+        is_out root.old.out actor ≡ false }
+    ensures riders { riders.new.items ≡ map pass_taken riders.old.items }
+    ensures books { root.new.books ≡ all_joined root.old.books riders.old.items }
+    ensures root { AreOf desk.now root.new.books }
+    ensures home { (actor : ℕ) → is_out root.new.out actor ≡ false }
+{
+    desk.join_all(root, riders.as_mut_slice());
 }
 
 // A round of riders at a desk that was just opened: a pass for each, the round, the passes back, and the books out of their
 // tables.
-fn ride_at<A: Actor + Send, G: Gate + Sync, R: Threads + Wait + Sync>(
+fn ride_at<A: Actor + Drop, G: Gate, R: Wait>(
     rt: &R,
     alloc: Global,
-    riders: &mut [Rider<A>],
+    riders: &mut Vec<Rider<A>>,
     desk: RuledDesk,
     root: RootPass,
     gate: &G,
+    givers: &mut [TurnGiver<A>],
 ) -> (Result<(), Refusal>, Books)
-    requires numbered { AreNumbered 0 riders.old }
+    requires numbered { AreNumbered 0 riders.old.items }
     requires root { root ≡ record { out = nobody_out; books = nothing_known desk } }
+    requires rest { All (λ giver. giver ≡ None) givers.old }
     ensures ok { OnOk result.0
-        (IsWholeRound A.asks A.takes (crew_of riders.old) (crew_of riders.new)
+        (IsWholeRound A.asks A.takes (crew_of riders.old.items) (crew_of riders.new.items)
         (given_to desk) result.1) }
     ensures used_up { result.0 ≡ Err Stamps →
-        OneKnowsLast (crew_of riders.new) ⊎ OneIsFull result.1 }
-    ensures many { length riders.new ≡ length riders.old }
+        OneKnowsLast (crew_of riders.new.items) ⊎ OneIsFull result.1 }
+    ensures many { length riders.new.items ≡ length riders.old.items }
     ensures turned { EndsAsTurns A.asks A.takes
-        (crew_of riders.old) (crew_of riders.new) result.0 }
+        (crew_of riders.old.items) (crew_of riders.new.items) result.0 }
     ensures extend { BooksExtend (given_to desk) result.1 }
+    ensures rest { All (λ giver. giver ≡ None) givers.new }
 {
     let mut root = root;
-    desk.split_all(&mut root, riders);
-    let told = ruled_round(rt, alloc, riders, &desk, gate);
-    desk.join_all(&mut root, riders);
+    give_passes(&desk, &mut root, riders);
+    let (told, desk) = ruled_round(rt, alloc, riders, desk, gate, givers);
+    take_passes(&desk, &mut root, riders);
     (told, desk.close(root))
 }
 
 // A round of riders over these books.
-fn ride_all<A: Actor + Send, G: Gate + Sync, R: Threads + Wait + Sync>(
+fn ride_all<A: Actor + Drop, G: Gate, R: Wait>(
     rt: &R,
     alloc: Global,
-    riders: &mut [Rider<A>],
+    riders: &mut Vec<Rider<A>>,
     books: Books,
     gate: &G,
+    givers: &mut [TurnGiver<A>],
 ) -> (Result<(), Refusal>, Books)
-    requires { AreNumbered 0 riders.old }
+    requires numbered { AreNumbered 0 riders.old.items }
+    requires rest { All (λ giver. giver ≡ None) givers.old }
     ensures ok { OnOk result.0
-        (IsWholeRound A.asks A.takes (crew_of riders.old) (crew_of riders.new) books result.1) }
+        (IsWholeRound A.asks A.takes (crew_of riders.old.items) (crew_of riders.new.items)
+        books result.1) }
     ensures used_up { result.0 ≡ Err Stamps →
-        OneKnowsLast (crew_of riders.new) ⊎ OneIsFull result.1 }
-    ensures many { length riders.new ≡ length riders.old }
-    ensures turned { EndsAsTurns A.asks A.takes (crew_of riders.old) (crew_of riders.new) result.0 ⊎
-        NoTurnMade (crew_of riders.old) (crew_of riders.new) books result.1 result.0 }
+        OneKnowsLast (crew_of riders.new.items) ⊎ OneIsFull result.1 }
+    ensures many { length riders.new.items ≡ length riders.old.items }
+    ensures turned { EndsAsTurns A.asks A.takes
+        (crew_of riders.old.items) (crew_of riders.new.items) result.0 ⊎
+        NoTurnMade (crew_of riders.old.items) (crew_of riders.new.items) books result.1 result.0 }
     ensures extend { BooksExtend books result.1 }
+    ensures rest { All (λ giver. giver ≡ None) givers.new }
 {
     match RuledDesk::open(alloc, books) {
-        Ok((desk, root)) => ride_at(rt, alloc, riders, desk, root, gate),
+        Ok((desk, root)) => ride_at(rt, alloc, riders, desk, root, gate, givers),
         Err(OpenFault { books, fault: _ }) => (Err(Refusal::Memory), books),
     }
 }
@@ -383,14 +414,16 @@ fn ride_all<A: Actor + Send, G: Gate + Sync, R: Threads + Wait + Sync>(
 /// `Memory` where there is none for the tables, and then actors and books are as they were, or where a turn stopped for want of
 /// it; else `Stamps` where one stopped since stamps were used up: then an actor knows the last stamp, 2^62 - 1, or an entry of a
 /// journal has it.
-pub fn round_at_tables<A: Actor + Drop + Send, G: Gate + Sync, R: Threads + Wait + Sync>(
+pub fn round_at_tables<A: Actor + Drop, G: Gate, R: Wait>(
     rt: &R,
     alloc: Global,
     crew: &mut Vec<Crew<A>>,
     books: Books,
     gate: &G,
+    givers: &mut [TurnGiver<A>],
 ) -> (Result<(), Refusal>, Books)
-    requires { AreActors 0 crew.old.items }
+    requires numbered { AreActors 0 crew.old.items }
+    requires rest { All (λ giver. giver ≡ None) givers.old }
     ensures many { length crew.new.items ≡ length crew.old.items }
     ensures ok { OnOk result.0
         (IsWholeRound A.asks A.takes crew.old.items crew.new.items books result.1) }
@@ -398,12 +431,13 @@ pub fn round_at_tables<A: Actor + Drop + Send, G: Gate + Sync, R: Threads + Wait
     ensures turned { EndsAsTurns A.asks A.takes crew.old.items crew.new.items result.0 ⊎
         NoTurnMade crew.old.items crew.new.items books result.1 result.0 }
     ensures extend { BooksExtend books result.1 }
+    ensures rest { All (λ giver. giver ≡ None) givers.new }
 {
     let mut riders = match mount(alloc, crew) {
         Ok(riders) => riders,
         Err(_) => return (Err(Refusal::Memory), books),
     };
-    let told = ride_all(rt, alloc, &mut riders, books, gate);
+    let told = ride_all(rt, alloc, &mut riders, books, gate, givers);
     dismount(crew, riders);
     told
 }

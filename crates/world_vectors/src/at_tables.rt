@@ -4,7 +4,7 @@
 //! A's send book in its turn, and how often: `write`, `close` or `go_identity` and a number, three times. The books of each round are
 //! those that the round before left. Shown is how each round ended, and of A's send book its entries in all and of the actors 0, 1 and 2,
 //! its stamps, its last reply, how many octets are written, and whether more may be; and how many entries there are elsewhere.
-ghost use Rattle.std.specs.Prelude.{◌≡◌, IfOk};
+ghost use Rattle.std.specs.Prelude.{◌≡◌, None, All, IfOk, IsSome};
 ghost use Rattle.ruled_desk.specs.WholeRounds.{AreActors};
 
 use crate::caller::{Caller, Errand};
@@ -12,12 +12,12 @@ use actor_desk::{Books, Crew, Notes};
 use actor_turn::OpenGate;
 use case_fields::Case;
 use octet_text::Text;
-use ruled_desk::round_at_tables;
+use ruled_desk::{TurnGiver, dismiss_all, open_turns, round_at_tables, serve_all};
 use send_book::{SendBook, SendCall, SendReply};
 use stamped_book::{Book, Pass, Refusal, Stamped};
 use std::alloc::{AllocError, Global};
 use std::sync::Wait;
-use std::thread::Threads;
+use std::thread::{Threads, join_mut};
 use world_core::World;
 
 /// Puts the answer to a line.
@@ -36,7 +36,7 @@ pub fn at_tables<'a, R: Threads + Wait + Sync>(rt: &R, case: &mut Case<'a>, line
     case.put("\n  rounds");
     match Books::open(case.alloc, buffer, 0, 0) {
         Ok(books) => {
-            let books = after_rounds(rt, case, rounds, known, books);
+            let books = beside_workers(rt, case, rounds, known, books);
             put_books(case, &books);
             let_go(case, books);
         }
@@ -49,33 +49,72 @@ fn let_go(case: &Case<'_>, books: Books) {
     World::from_parts(books, Vec::new(case.alloc), true).close();
 }
 
-/// All rounds: the books after them.
-fn after_rounds<'a, R: Threads + Wait + Sync>(
+/// All rounds, beside the threads of two workers: the books after them.
+fn beside_workers<'a, R: Threads + Wait + Sync>(
     rt: &R,
     case: &mut Case<'a>,
     rounds: &'a str,
     known: [u64; 3],
     books: Books,
 ) -> Books {
-    let mut books = books;
+    let alloc = case.alloc;
+    let (mut givers, mut workers) = open_turns(alloc, 2);
+    let mut waits = Some(books);
+    let (_served, books) = join_mut(
+        rt,
+        &mut ||
+            requires { All (λ worker. worker ≡ None) workers.items }
+        { serve_all(rt, alloc, &mut workers, &OpenGate) },
+        &mut || -> Books
+            requires { IsSome waits × All (λ giver. giver ≡ None) givers.items }
+            ensures { waits.exit ≡ None }
+        { after_rounds(rt, case, rounds, known, &mut waits, &mut givers) },
+    );
+    let None = waits else { unreachable!() };
+    books
+}
+
+/// All rounds over the books that wait: the books after them.
+fn after_rounds<'a, R: Wait>(
+    rt: &R,
+    case: &mut Case<'a>,
+    rounds: &'a str,
+    known: [u64; 3],
+    waits: &mut Option<Books>,
+    givers: &mut Vec<TurnGiver<Caller>>,
+) -> Books
+    requires waits { IsSome waits.old }
+    requires rest { All (λ giver. giver ≡ None) givers.old.items }
+    ensures { waits.new ≡ None }
+{
+    let Some(mut books) = waits.take() else {
+        unreachable!()
+    };
     let mut known = known;
     for round in rounds.split(" then ") {
         case.read(round, " ");
-        books = after_round(rt, case, &mut known, books);
+        books = after_round(rt, case, &mut known, books, givers);
     }
+    dismiss_all(givers);
     books
 }
 
 /// A round: the books after it.
-fn after_round<R: Threads + Wait + Sync>(
+fn after_round<R: Wait>(
     rt: &R,
     case: &mut Case<'_>,
     known: &mut [u64; 3],
     books: Books,
-) -> Books {
+    givers: &mut [TurnGiver<Caller>],
+) -> Books
+    requires { All (λ giver. giver ≡ None) givers.old }
+    ensures { All (λ giver. giver ≡ None) givers.new }
+{
     match crew_of(case, known) {
         Ok(mut crew) => {
-            let (ended, books) = round_at_tables(rt, case.alloc, &mut crew, books, &OpenGate);
+            let (ended, books) = round_at_tables(
+                rt, case.alloc, &mut crew, books, &OpenGate, givers,
+            );
             case.put(end_word(ended));
             *known = [stamp_of(&crew, 0), stamp_of(&crew, 1), stamp_of(&crew, 2)];
             books

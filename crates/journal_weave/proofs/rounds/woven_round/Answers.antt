@@ -11,8 +11,8 @@ use Rattle.journal_weave.proofs.RoundsWoven.{are_actors, have_turned, lists_own,
 use Rattle.journal_weave.proofs.Results.{at_ok, never_stamps, same_error, when_ok}
 use Rattle.journal_weave.proofs.rounds.woven_round.Goals as goal
 
-pub round_at_tables-told-requires-after_bounds : goal.round_at_tables-told-requires-after_bounds
-round_at_tables-told-requires-after_bounds g c κs within = are_actors c.args.crew.now.items c.args.books c.requires.begins
+pub round_at_tables-told-requires-clause-numbered : goal.round_at_tables-told-requires-clause-numbered
+round_at_tables-told-requires-clause-numbered g c = are_actors c.args.crew.now.items c.args.books c.requires.begins
 
 pub put_in_order-order-requires-clause-own : goal.put_in_order-order-requires-clause-own
 put_in_order-order-requires-clause-own g c =

@@ -14,20 +14,20 @@ use Rattle.mptcp_run.proofs.threads.make_round.Goals as goal
 -- the round that was made is the one that is put
 pub put_round-told-requires-clause-made : goal.put_round-told-requires-clause-made
 put_round-told-requires-clause-made g c =
-    let made = when_ok c.next_world-world.result.1 c.in-Ok.field-0 c.in-Ok.is c.next_world-world.ensures in
+    let made = when_ok c.next_world-world.result.1 c.in-Ok.field-0 c.in-Ok.is c.next_world-world.ensures.goes in
     since_length c.args.run.made.items c.args.run.world.state c.next_world-world.result.0.state
     (woven_since c.args.run c.next_world-world.result.0.state c.requires.begins made.round)
 
 pub returns-in-Ok-clause-begins : goal.returns-in-Ok-clause-begins
 returns-in-Ok-clause-begins g c =
-    let made = when_ok c.next_world-world.result.1 c.in-Ok.field-0 c.in-Ok.is c.next_world-world.ensures in
+    let made = when_ok c.next_world-world.result.1 c.in-Ok.field-0 c.in-Ok.is c.next_world-world.ensures.goes in
     on_ok_weaker c.put_round-told.result
     (woven_next c.args.run c.put_round-told.new.self c.next_world-world.result.0 c.requires.begins made.round made.stands c.put_round-told.ensures.world)
     c.put_round-told.ensures.made
 
 pub returns-in-Ok-clause-made : goal.returns-in-Ok-clause-made
 returns-in-Ok-clause-made g c =
-    let made = when_ok c.next_world-world.result.1 c.in-Ok.field-0 c.in-Ok.is c.next_world-world.ensures in
+    let made = when_ok c.next_world-world.result.1 c.in-Ok.field-0 c.in-Ok.is c.next_world-world.ensures.goes in
     let put = c.put_round-told.ensures.put c.args.run.world.state (woven_since c.args.run c.next_world-world.result.0.state c.requires.begins made.round) in
     OnOk-both c.put_round-told.result
     (λ held calls. subst (λ (k : Kept). RoundMade WovenTo c.args.run.opening c.args.run.rounds c.args.run.world.state k.state
@@ -37,20 +37,20 @@ returns-in-Ok-clause-made g c =
 
 pub returns-in-Ok-clause-stops : goal.returns-in-Ok-clause-stops
 returns-in-Ok-clause-stops g c =
-    let made = when_ok c.next_world-world.result.1 c.in-Ok.field-0 c.in-Ok.is c.next_world-world.ensures in
+    let made = when_ok c.next_world-world.result.1 c.in-Ok.field-0 c.in-Ok.is c.next_world-world.ensures.goes in
     let put = c.put_round-told.ensures.put c.args.run.world.state (woven_since c.args.run c.next_world-world.result.0.state c.requires.begins made.round) in
     IfErr-both c.put_round-told.result
     (λ status cut part. inr (record { end = c.next_world-world.result.0.state; round = made.round; ports = part; calls = cut })) put.puts.cut put.part
 
 pub returns-in-Ok-clause-fault : goal.returns-in-Ok-clause-fault
 returns-in-Ok-clause-fault g c =
-    let made = when_ok c.next_world-world.result.1 c.in-Ok.field-0 c.in-Ok.is c.next_world-world.ensures in
+    let made = when_ok c.next_world-world.result.1 c.in-Ok.field-0 c.in-Ok.is c.next_world-world.ensures.goes in
     let put = c.put_round-told.ensures.put c.args.run.world.state (woven_since c.args.run c.next_world-world.result.0.state c.requires.begins made.round) in
     put.puts.fault
 
 pub returns-in-Ok-clause-only : goal.returns-in-Ok-clause-only
 returns-in-Ok-clause-only g c =
-    let made = when_ok c.next_world-world.result.1 c.in-Ok.field-0 c.in-Ok.is c.next_world-world.ensures in
+    let made = when_ok c.next_world-world.result.1 c.in-Ok.field-0 c.in-Ok.is c.next_world-world.ensures.goes in
     let put = c.put_round-told.ensures.put c.args.run.world.state (woven_since c.args.run c.next_world-world.result.0.state c.requires.begins made.round) in
     put.puts.only
 

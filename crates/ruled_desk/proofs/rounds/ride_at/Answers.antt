@@ -1,55 +1,58 @@
-use Rattle.ruled_desk.proofs.Words.{◌≡◌, sym, ◌∙◌, ap, subst, length, arith, length-map, All, AreNumbered, HasPass, given_pass, AreOf, is_out}
+use Rattle.ruled_desk.proofs.Words.{◌≡◌, sym, ◌∙◌, ap, subst, length, arith, length-map, All, AreNumbered, HasPass, given_pass, AreOf, is_out, AllGainJust, given_to}
 use Rattle.ruled_desk.proofs.PassesGiven.{nobody_is_out, of_nothing}
 use Rattle.ruled_desk.proofs.WholeRounds.{all_extend, all_given, all_have, ends_then, numbered_given, still_numbered, used_up_then, whole_ok}
 use Rattle.ruled_desk.proofs.rounds.ride_at.Goals as goal
 
-pub split_all-requires-clause-root : goal.split_all-requires-clause-root
-split_all-requires-clause-root g c = subst (λ r. AreOf c.args.desk r.books) (sym c.requires.root) (of_nothing c.args.desk)
+pub give_passes-requires-clause-root : goal.give_passes-requires-clause-root
+give_passes-requires-clause-root g c = subst (λ r. AreOf c.args.desk r.books) (sym c.requires.root) (of_nothing c.args.desk)
 
-pub split_all-requires-clause-home : goal.split_all-requires-clause-home
-split_all-requires-clause-home g c actor = ap (λ r. is_out r.out actor) c.requires.root ∙ nobody_is_out actor
+pub give_passes-requires-clause-home : goal.give_passes-requires-clause-home
+give_passes-requires-clause-home g c actor = ap (λ r. is_out r.out actor) c.requires.root ∙ nobody_is_out actor
 
-pub ruled_round-told-requires-after_bounds : goal.ruled_round-told-requires-after_bounds
-ruled_round-told-requires-after_bounds g c κs within =
-    subst (λ l. All (HasPass c.args.desk) l) (sym c.split_all.ensures.riders) (all_given c.args.desk c.args.riders.now)
+pub ruled_round-told-requires-clause-passes : goal.ruled_round-told-requires-clause-passes
+ruled_round-told-requires-clause-passes g c =
+    subst (λ l. All (HasPass c.args.desk) l) (sym c.give_passes.ensures.riders) (all_given c.args.desk c.args.riders.now.items)
 
-pub join_all-requires-clause-root : goal.join_all-requires-clause-root
-join_all-requires-clause-root g c =
-    subst (λ b. AreOf c.args.desk b) (sym (c.split_all.ensures.books ∙ ap (λ r. r.books) c.requires.root)) (of_nothing c.args.desk)
+pub take_passes-requires-clause-root : goal.take_passes-requires-clause-root
+take_passes-requires-clause-root g c =
+    subst (λ d. AreOf d c.give_passes.new.root.books) (sym c.ruled_round-told.ensures.desk)
+    (subst (λ b. AreOf c.args.desk b) (sym (c.give_passes.ensures.books ∙ ap (λ r. r.books) c.requires.root)) (of_nothing c.args.desk))
 
-pub join_all-requires-clause-passes : goal.join_all-requires-clause-passes
-join_all-requires-clause-passes g c =
-    all_have g.A.Actor.asks g.A.Actor.takes c.args.desk c.split_all.new.riders c.ruled_round-told.new.riders c.ruled_round-told.ensures.many c.ruled_round-told.ensures.rode
+pub take_passes-requires-clause-passes : goal.take_passes-requires-clause-passes
+take_passes-requires-clause-passes g c =
+    subst (λ d. All (HasPass d) c.ruled_round-told.new.riders.items) (sym c.ruled_round-told.ensures.desk)
+    (all_have g.A.Actor.asks g.A.Actor.takes c.args.desk c.give_passes.new.riders.items c.ruled_round-told.new.riders.items c.ruled_round-told.ensures.many
+    c.ruled_round-told.ensures.rode)
 
-pub join_all-requires-clause-numbered : goal.join_all-requires-clause-numbered
-join_all-requires-clause-numbered g c =
-    still_numbered g.A.Actor.asks g.A.Actor.takes c.args.desk 0 c.split_all.new.riders c.ruled_round-told.new.riders c.ruled_round-told.ensures.many
+pub take_passes-requires-clause-numbered : goal.take_passes-requires-clause-numbered
+take_passes-requires-clause-numbered g c =
+    still_numbered g.A.Actor.asks g.A.Actor.takes c.args.desk 0 c.give_passes.new.riders.items c.ruled_round-told.new.riders.items c.ruled_round-told.ensures.many
     c.ruled_round-told.ensures.rode
-    (subst (λ l. AreNumbered 0 l) (sym c.split_all.ensures.riders) (numbered_given c.args.desk 0 c.args.riders.now c.requires.numbered))
+    (subst (λ l. AreNumbered 0 l) (sym c.give_passes.ensures.riders) (numbered_given c.args.desk 0 c.args.riders.now.items c.requires.numbered))
 
-pub join_all-requires-clause-others : goal.join_all-requires-clause-others
-join_all-requires-clause-others g c actor later =
-    let many : length c.ruled_round-told.new.riders ≡ length c.args.riders.now =
-    c.ruled_round-told.ensures.many ∙ ap (λ l. length l) c.split_all.ensures.riders ∙ length-map c.args.riders.now (given_pass c.args.desk) in
-    c.split_all.ensures.others actor (omega (arith, many, later))
+pub take_passes-requires-clause-others : goal.take_passes-requires-clause-others
+take_passes-requires-clause-others g c actor later =
+    let many : length c.ruled_round-told.new.riders.items ≡ length c.args.riders.now.items =
+    c.ruled_round-told.ensures.many ∙ ap (λ l. length l) c.give_passes.ensures.riders ∙ length-map c.args.riders.now.items (given_pass c.args.desk) in
+    c.give_passes.ensures.others actor (omega (arith, many, later))
 
 pub returns-clause-ok : goal.returns-clause-ok
 returns-clause-ok g c =
-    whole_ok g.A.Actor.asks g.A.Actor.takes c.args.desk c.ruled_round-told.result c.args.riders.now c.split_all.new.riders c.ruled_round-told.new.riders
-    c.join_all.new.riders _ c.close.result c.join_all.new.root.books c.split_all.new.root.books c.split_all.ensures.riders c.ruled_round-told.ensures.many
-    c.ruled_round-told.ensures.rode c.join_all.ensures.riders (c.split_all.ensures.books ∙ ap (λ r. r.books) c.requires.root) c.join_all.ensures.books
-    c.close.ensures c.ruled_round-told.ensures.done
+    whole_ok g.A.Actor.asks g.A.Actor.takes c.args.desk c.ruled_round-told.result.0 c.args.riders.now.items c.give_passes.new.riders.items c.ruled_round-told.new.riders.items
+    c.take_passes.new.riders.items _ c.close.result c.take_passes.new.root.books c.give_passes.new.root.books c.give_passes.ensures.riders c.ruled_round-told.ensures.many
+    c.ruled_round-told.ensures.rode c.take_passes.ensures.riders (c.give_passes.ensures.books ∙ ap (λ r. r.books) c.requires.root) c.take_passes.ensures.books
+    (subst (λ d. AllGainJust (given_to d) c.close.result c.take_passes.new.root.books) c.ruled_round-told.ensures.desk c.close.ensures) c.ruled_round-told.ensures.done
 
 pub returns-clause-used_up : goal.returns-clause-used_up
 returns-clause-used_up g c is =
-    used_up_then c.ruled_round-told.new.riders c.join_all.new.riders _ c.close.result c.join_all.new.root.books c.split_all.new.root.books
-    c.join_all.ensures.riders c.join_all.ensures.books c.close.ensures (c.ruled_round-told.ensures.used_up is)
+    used_up_then c.ruled_round-told.new.riders.items c.take_passes.new.riders.items _ c.close.result c.take_passes.new.root.books c.give_passes.new.root.books
+    c.take_passes.ensures.riders c.take_passes.ensures.books (subst (λ d. AllGainJust (given_to d) c.close.result c.take_passes.new.root.books) c.ruled_round-told.ensures.desk c.close.ensures) (c.ruled_round-told.ensures.used_up is)
 
 pub returns-clause-turned : goal.returns-clause-turned
 returns-clause-turned g c =
-    ends_then g.A.Actor.asks g.A.Actor.takes c.args.desk c.ruled_round-told.result c.args.riders.now c.split_all.new.riders c.ruled_round-told.new.riders
-    c.join_all.new.riders c.split_all.ensures.riders c.ruled_round-told.ensures.many c.ruled_round-told.ensures.rode c.join_all.ensures.riders
+    ends_then g.A.Actor.asks g.A.Actor.takes c.args.desk c.ruled_round-told.result.0 c.args.riders.now.items c.give_passes.new.riders.items c.ruled_round-told.new.riders.items
+    c.take_passes.new.riders.items c.give_passes.ensures.riders c.ruled_round-told.ensures.many c.ruled_round-told.ensures.rode c.take_passes.ensures.riders
     c.ruled_round-told.ensures.memory c.ruled_round-told.ensures.stamps
 
 pub returns-clause-extend : goal.returns-clause-extend
-returns-clause-extend g c = all_extend _ c.close.result c.join_all.new.root.books c.close.ensures
+returns-clause-extend g c = all_extend _ c.close.result c.take_passes.new.root.books (subst (λ d. AllGainJust (given_to d) c.close.result c.take_passes.new.root.books) c.ruled_round-told.ensures.desk c.close.ensures)

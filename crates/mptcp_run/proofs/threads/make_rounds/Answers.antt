@@ -7,11 +7,12 @@ use Rattle.mptcp_run.proofs.Courses.{woven_made, woven_cut}
 use Rattle.mptcp_run.proofs.RoundsMade.{put_more, put_last, cut_later, cut_now, rounds_over}
 use Rattle.mptcp_run.proofs.RoundsWoven.{woven_kind}
 use Rattle.mptcp_run.proofs.ThreadsMade.{when_ok, when_err, less_none}
-use Rattle.mptcp_run.proofs.threads.make_threaded_rounds.Goals as goal
+use Rattle.mptcp_run.proofs.threads.make_rounds.Goals as goal
 
 pub loop-round-init : goal.loop-round-init
 loop-round-init g c = record {
   begins = c.requires.begins;
+  rest = c.requires.rest;
   opening = refl;
   rounds = c.requires.none;
   few = omega arith;
@@ -29,6 +30,7 @@ loop-round-preserved g c =
     let opening = c.make_round-next.ensures.opening in
     let made = when_ok c.make_round-next.result.1 c.in-Ok.field-0 c.in-Ok.is c.make_round-next.ensures.made in
     record {
+      rest = c.make_round-next.ensures.rest;
       begins = when_ok c.make_round-next.result.1 c.in-Ok.field-0 c.in-Ok.is c.make_round-next.ensures.begins;
       opening = opening ∙ inv.opening;
       rounds = when_ok c.make_round-next.result.1 c.in-Ok.field-0 c.in-Ok.is c.make_round-next.ensures.rounds ∙ ap (λ n. n + 1) inv.rounds;
@@ -46,43 +48,42 @@ loop-round-preserved g c =
       only = only_then _ _ _ inv.only c.make_round-next.ensures.only;
     }
 
-pub returns-in-Err-clause-cut : goal.returns-in-Err-clause-cut
-returns-in-Err-clause-cut g c =
-    let inv = c.loop-round.invariant in
-    woven_cut c.args.run.opening c.args.most c.args.run.world.state _ _ c.in-Err.status
-    (inv.cut _ c.in-Err.status
-    (cut_now WovenTo AreWovenRounds woven_kind c.loop-round.run.opening (c.args.most - c.loop-round._round) (c.args.most - (c.loop-round._round + 1)) c.loop-round._round c.loop-round.run.rounds
-    (omega (arith, c.loop-round-test.true)) inv.rounds
-    c.loop-round.run.world.state _ _ c.in-Err.status (when_err _ c.make_round-next.result.1 c.in-Err.status c.in-Err.is c.make_round-next.ensures.stops)))
+pub returns-in-Err-clause-made : goal.returns-in-Err-clause-made
+returns-in-Err-clause-made g c = record {
+  ok = tt;
+  cut = (let inv = c.loop-round.invariant in
+      woven_cut c.args.run.opening c.args.most c.args.run.world.state _ _ c.in-Err.status
+      (inv.cut _ c.in-Err.status
+      (cut_now WovenTo AreWovenRounds woven_kind c.loop-round.run.opening (c.args.most - c.loop-round._round) (c.args.most - (c.loop-round._round + 1)) c.loop-round._round c.loop-round.run.rounds
+      (omega (arith, c.loop-round-test.true)) inv.rounds
+      c.loop-round.run.world.state _ _ c.in-Err.status (when_err _ c.make_round-next.result.1 c.in-Err.status c.in-Err.is c.make_round-next.ensures.stops))));
+  fault = (fault_after _ _ _ c.in-Err.status c.loop-round.invariant.only.counted (when_err _ c.make_round-next.result.1 c.in-Err.status c.in-Err.is c.make_round-next.ensures.fault));
+  only = (only_then _ _ _ c.loop-round.invariant.only c.make_round-next.ensures.only);
+}
 
-pub returns-in-Err-clause-fault : goal.returns-in-Err-clause-fault
-returns-in-Err-clause-fault g c =
-    fault_after _ _ _ c.in-Err.status c.loop-round.invariant.only.counted (when_err _ c.make_round-next.result.1 c.in-Err.status c.in-Err.is c.make_round-next.ensures.fault)
+pub returns-then-not-goes_on-clause-made : goal.returns-then-not-goes_on-clause-made
+returns-then-not-goes_on-clause-made g c = record {
+  ok = (let inv = c.loop-round.invariant in
+      woven_made c.args.run.opening c.args.most c.args.run.world.state _ _ c.make_round-next.result.0.rounds c.make_round-next.result.0.world.state
+      (inv.put _ _ _
+      (put_last WovenTo AreWovenRounds woven_kind c.loop-round.run.opening (c.args.most - c.loop-round._round) (c.args.most - (c.loop-round._round + 1)) c.loop-round._round c.loop-round.run.rounds
+      (omega (arith, c.loop-round-test.true)) inv.rounds
+      c.make_round-next.result.0.rounds c.loop-round.run.world.state c.make_round-next.result.0.world.state _ _ (sym c.goes_on.ensures ∙ c.if-not-goes_on.true)
+      (when_ok c.make_round-next.result.1 c.in-Ok.field-0 c.in-Ok.is c.make_round-next.ensures.made)
+      (when_ok c.make_round-next.result.1 c.in-Ok.field-0 c.in-Ok.is c.make_round-next.ensures.rounds ∙ ap (λ n. n + 1) inv.rounds))));
+  cut = tt;
+  fault = tt;
+  only = (only_then _ _ _ c.loop-round.invariant.only c.make_round-next.ensures.only);
+}
 
-pub returns-in-Err-clause-only : goal.returns-in-Err-clause-only
-returns-in-Err-clause-only g c = only_then _ _ _ c.loop-round.invariant.only c.make_round-next.ensures.only
-
-pub returns-then-not-goes_on-clause-ok : goal.returns-then-not-goes_on-clause-ok
-returns-then-not-goes_on-clause-ok g c =
-    let inv = c.loop-round.invariant in
-    woven_made c.args.run.opening c.args.most c.args.run.world.state _ _ c.make_round-next.result.0.rounds c.make_round-next.result.0.world.state
-    (inv.put _ _ _
-    (put_last WovenTo AreWovenRounds woven_kind c.loop-round.run.opening (c.args.most - c.loop-round._round) (c.args.most - (c.loop-round._round + 1)) c.loop-round._round c.loop-round.run.rounds
-    (omega (arith, c.loop-round-test.true)) inv.rounds
-    c.make_round-next.result.0.rounds c.loop-round.run.world.state c.make_round-next.result.0.world.state _ _ (sym c.goes_on.ensures ∙ c.if-not-goes_on.true)
-    (when_ok c.make_round-next.result.1 c.in-Ok.field-0 c.in-Ok.is c.make_round-next.ensures.made)
-    (when_ok c.make_round-next.result.1 c.in-Ok.field-0 c.in-Ok.is c.make_round-next.ensures.rounds ∙ ap (λ n. n + 1) inv.rounds)))
-
-pub returns-clause-ok : goal.returns-clause-ok
-returns-clause-ok g c =
-    let inv = c.loop-round.invariant in
-    woven_made c.args.run.opening c.args.most c.args.run.world.state _ _ c.loop-round.run.rounds c.loop-round.run.world.state
-    (inv.put _ _ _
-    (rounds_over WovenTo AreWovenRounds woven_kind c.loop-round.run.opening (c.args.most - c.loop-round._round) c.loop-round._round
-    c.loop-round.run.rounds c.loop-round.run.world.state _ (omega (arith, c.loop-round-test.false)) inv.rounds))
-
-pub returns-then-not-goes_on-clause-only : goal.returns-then-not-goes_on-clause-only
-returns-then-not-goes_on-clause-only g c = only_then _ _ _ c.loop-round.invariant.only c.make_round-next.ensures.only
-
-pub returns-clause-only : goal.returns-clause-only
-returns-clause-only g c = c.loop-round.invariant.only
+pub returns-clause-made : goal.returns-clause-made
+returns-clause-made g c = record {
+  ok = (let inv = c.loop-round.invariant in
+      woven_made c.args.run.opening c.args.most c.args.run.world.state _ _ c.loop-round.run.rounds c.loop-round.run.world.state
+      (inv.put _ _ _
+      (rounds_over WovenTo AreWovenRounds woven_kind c.loop-round.run.opening (c.args.most - c.loop-round._round) c.loop-round._round
+      c.loop-round.run.rounds c.loop-round.run.world.state _ (omega (arith, c.loop-round-test.false)) inv.rounds)));
+  cut = tt;
+  fault = tt;
+  only = (c.loop-round.invariant.only);
+}

@@ -1,14 +1,16 @@
-use Rattle.std.proofs.Common.{◌≡◌, ◌≤◌, ◌-◌}
+use Rattle.std.proofs.Common.{◌≡◌, ◌≤◌, ◌-◌, None}
+use Rattle.std.specs.Prelude.{All}
 use Rattle.run_outside.specs.Calling.{OnlyPuts}
 use Rattle.mptcp_run.specs.Rounds.{AtRound}
 use Rattle.mptcp_run.specs.WovenRounds.{AreWovenRounds}
-use Rattle.mptcp_run.proofs.threads.make_threaded_rounds.Given as goal
+use Rattle.mptcp_run.proofs.threads.make_rounds.Given as goal
 use Rattle.mptcp_run.proofs.Folding.{RoundsPut, RoundsCut}
 
 -- what the rounds that are left come to, all rounds do
 abbrev pub invariant-loop-round : goal.invariant-loop-round
 invariant-loop-round g l = record {
   begins : AtRound l.run;
+  rest : All (λ giver. giver ≡ None) l.givers;
   opening : l.run.opening ≡ l.initial.run.opening;
   rounds : l.run.rounds ≡ l._round;
   few : l._round ≤ l.most;
