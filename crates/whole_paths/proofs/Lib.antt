@@ -1,3 +1,4 @@
+pub mod AckedData
 pub mod Acking
 pub mod Acknowledged
 pub mod Agendas
@@ -147,6 +148,7 @@ pub mod ThereInTime
 pub mod Timing
 pub mod ToldSoon
 pub mod Treating
+pub mod UnaSaid
 pub mod Unharmed
 pub mod Unmended
 pub mod Unmapped

@@ -1,3 +1,4 @@
+pub mod AckedData
 pub mod Acknowledged
 pub mod AgendaSteps
 pub mod AnswerWaits
