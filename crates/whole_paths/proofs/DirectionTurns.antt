@@ -40,7 +40,7 @@ use Rattle.whole_paths.specs.Unmended.{AreWellBut}
 use Rattle.whole_paths.specs.Waits.{IsNews, RunsTo, TimersWaitOn, WaitsOn}
 use Rattle.whole_paths.specs.Waits.{IsNews as news_by, WaitsOn as wait}
 use Rattle.whole_paths.proofs.Arrivals.{sender_of}
-use Rattle.whole_paths.proofs.Came.{each_una_is_said, what_is_acknowledged_came}
+use Rattle.whole_paths.proofs.Came.{what_is_acknowledged_came}
 use Rattle.whole_paths.proofs.ComesAgain.{comes_again}
 use Rattle.whole_paths.proofs.Delivery.{what_is_there_stays}
 use Rattle.whole_paths.proofs.Directions.{clock, edge_up, passed_there, past_is_there, says_only_on, stays, una_up}
@@ -58,6 +58,7 @@ use Rattle.whole_paths.proofs.Resending.{what_runs_out_goes_again}
 use Rattle.whole_paths.proofs.Sent.{what_came_was_sent}
 use Rattle.whole_paths.proofs.SegmentRounds.{if_may, unfinished}
 use Rattle.whole_paths.proofs.Settling.{sides}
+use Rattle.whole_paths.proofs.UnaSaid.{each_una_is_said}
 use Rattle.whole_paths.proofs.Waiting.{no_timer_is_put_off}
 use Rattle.whole_paths.specs.Sent.{WasSent}
 
@@ -259,7 +260,7 @@ module _ (start : Start) (plan : PathPlan) (one : BeginsWithOnePath start plan) 
         where
           by : UnaFrom s p q → Goes
           by (una_from.stays is) = absurd (omega (arith, is, more))
-          by (una_from.comes copy under to rst acks) = ⊎_elim
+          by (una_from.comes copy under to rst acks taken) = ⊎_elim
               (λ low. absurd (omega (arith, low, more)))
               (λ among. fewer (heard_less s lost unheard q these (una q) among (le_refl (una q))))
               (nothing copy (una q) under to rst acks)

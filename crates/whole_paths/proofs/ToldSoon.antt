@@ -285,7 +285,7 @@ module _ (start : Start) (mild : IsMildStart start) (turns : List Turn) (turn : 
               let fin_is = ap (λ (y : HeardSegment). one_if y.fin) same in
               let rst_is : g.carried.segment.rst ≡ false = ap (λ (y : HeardSegment). y.rst) same ∙ m.1.1.0 in
               let acks = heard_ack g.carried.segment.acknowledged over.brings.acknowledged (ap (λ (y : HeardSegment). (copy_of (options_heard taker y)).acknowledged) same ∙ m.1.1.1.1) in
-              let some = over.some in let past = over.past in
+              let some = over.over.0 in let past = over.over.1 in
               let as_much = h.overtaken g found.0 to_s rst_is (omega (arith, some, payload_is, fin_is)) (omega (arith, past, position_is, payload_is, fin_is)) in
               let n_is = same_Some as_much.0 over.brings.acknowledged (sym as_much.1 ∙ acks) in let enough = as_much.2 in
               heard_by over.brings.acknowledged (omega (arith, enough, n_is)) due_to over.to (counts.counts (record { copy = over.brings.copy; acknowledged = over.brings.acknowledged; taken = inl (over.brings.position, over.brings.taken) }))
