@@ -221,3 +221,12 @@ pub mod FirstSigns
 pub mod SignWaits
 pub mod OpeningCourses
 pub mod OpeningEnds
+pub mod DebtKinds
+pub mod Directions
+pub mod ComesAgain
+pub mod DirectionTurns
+pub mod DirectionRounds
+pub mod DirectionsMended
+pub mod CutRecords
+pub mod OpenFirst
+pub mod SharpPaths

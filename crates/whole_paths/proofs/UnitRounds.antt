@@ -240,7 +240,7 @@ module _ (start : Start) (plan : PathPlan) (x : BeginsWithOnePath start plan) wh
 
         comes : AnEndComes start s b_part.between_them end_part.between_them
         comes = an_end_is_told start plan x s v a_part.between_them b_part.between_them end_part.between_them first_rounds second_rounds
-            (rounds_of start Well 4 b_part.between_them end_part.between_them end_part.first) (well_v s).path (well_v s).here (well_v s).mended all acked (hears.fins s b_part.between_them end_part.between_them end_part.first)
+            (rounds_of start Well 4 b_part.between_them end_part.between_them end_part.first) (well_v s).path (well_v s).here (well_v s).told all acked (hears.fins s b_part.between_them end_part.between_them end_part.first)
 
         to_end : Between start b_part.between_them u
         to_end = between start 5 b_part.between_them u (rounds_of start Well 6 b_part.between_them u (joined_rounds b_part.rest last_part.rest))

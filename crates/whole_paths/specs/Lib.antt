@@ -138,3 +138,9 @@ pub mod FirstSigns
 pub mod SignWaits
 pub mod OpeningCourses
 pub mod UnaSaid
+pub mod DebtKinds
+pub mod Directions
+pub mod DirectionWaits
+pub mod CutRecords
+pub mod OpenFirst
+pub mod SharpPaths
