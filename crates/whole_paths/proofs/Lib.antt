@@ -215,3 +215,8 @@ pub mod FirstSigns
 pub mod SignWaits
 pub mod OpeningCourses
 pub mod OpeningEnds
+pub mod Signless
+pub mod ClearFirst
+pub mod EdgesStay
+pub mod KeysCome
+pub mod FirstWindows
