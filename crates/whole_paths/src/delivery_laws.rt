@@ -10,7 +10,7 @@ ghost use Rattle.whole_paths.specs.Deliveries.{WhoIsToldHasAll};
 ghost use Rattle.whole_paths.specs.Delivery.{WhatIsFinishedIsThere, WhatIsThereIsDelivered, WhatIsThereStays};
 ghost use Rattle.whole_paths.specs.EndRounds.{AnEndIsTold};
 ghost use Rattle.whole_paths.specs.EndedStreams.{WhatEndedIsAcknowledged};
-ghost use Rattle.whole_paths.specs.Finish.{HarmsUseLines, BriefPathsDeliver};
+ghost use Rattle.whole_paths.specs.Finish.{HarmsUseLines, BriefPathsDeliver, OneBriefPathEnds};
 ghost use Rattle.whole_paths.specs.FirstLost.{LostRecordsAreAwaited, LostRecordsAreMended};
 ghost use Rattle.whole_paths.specs.GoingOn.{RoundsBeginToGoOn, RoundsGoOn, StepsLetItGoOn, EndsGoOn};
 ghost use Rattle.whole_paths.specs.FirstSigns.{EachFirstSignComes};
@@ -28,7 +28,7 @@ ghost use Rattle.whole_paths.specs.OnlyPaths.{long_patience, news_within};
 ghost use Rattle.whole_paths.specs.OpenAsks.{OpenAsksAreInTime, OpenAsksGoOn, OpenEndsHardlyGoAwry};
 ghost use Rattle.whole_paths.specs.OverOctets.{FewLossesFinishAsOverValues, OctetsAreAsFarAsValues, OnePathEndsAsOverValues, BriefPathsDeliverAsOverValues, WholePathsDeliverAsOverValues};
 ghost use Rattle.whole_paths.specs.OpenCourses.{WhatHoldsUpCounts};
-ghost use Rattle.whole_paths.specs.OpeningCourses.{opening_patience, DeliversWithin, FirmPathsEnd, OpensWithin};
+ghost use Rattle.whole_paths.specs.OpeningCourses.{opening_patience, DeliversWithin, OpensWithin};
 ghost use Rattle.whole_paths.specs.OpeningWaits.{EndsOpenOrArePast, LivingEndsOpenOrArePast, OpeningsAreAwaited};
 ghost use Rattle.whole_paths.specs.Outstanding.{WhatIsOutstandingIsAwaited};
 ghost use Rattle.whole_paths.specs.Overruns.{NoEndOverruns};
@@ -586,20 +586,18 @@ pub fn b_is_idle_before()
     ensures { BIsIdleBefore }
 {}
 
-/// A law: over one path both files are delivered, or an end of the path died, after rounds enough from the beginning of the connection, where its
-/// ends open firmly, however much is lost, late or repeated (`delivers`).
+/// A law: over one path both files are delivered, or an end of the path died, after rounds enough from the beginning of the connection, however much
+/// is lost, late or repeated (`octets`, `values`).
 ///
-/// After half of these rounds the path is whole, or all of both streams is with the peers, or an end died (`opens`). That the ends open firmly is
-/// a premise: A may send a DSS only once B may; A's first piece waits while B, past the handshake, may send none; and until A may, an end of B's
-/// without a record was granted nothing and knows of no shut window (RFC 8684, section 3.1). What else it needs is so: an end that may send a DSS
-/// is past the handshake, and until A may, A's end hasn't finished, and its side knows no end of B's stream (`clear_ends_are_past`). It is said
-/// of mild connections over one path with buffers of 4,096 octets at least, and of fewer than 2^64 - 1 turns; and of scripts of one path, over
-/// segments as values and over octets (`values`, `octets`). Enough rounds are as many as in `whole_paths_deliver`, twice.
-pub fn firm_openings_deliver()
+/// It is said of mild scripts, by which no option is taken away, no payload is altered and no side closes at once, and of fewer than 2^64 - 1 turns:
+/// the link counts the segments of each side below that. After half of these rounds the path is whole, or all of both streams is with the peers, or
+/// an end died (`opens`); then they go on as in `whole_paths_deliver` (`delivers`), whose rounds are enough twice. Both are said of connections over
+/// one path with buffers of 4,096 octets at least.
+pub fn one_path_ends()
     ensures opens { OpensWithin (for_all_news news_within) }
     ensures delivers { DeliversWithin (for_all_news news_within) }
-    ensures octets { FirmPathsEnd octets opening_patience }
-    ensures values { FirmPathsEnd values opening_patience }
+    ensures octets { OneBriefPathEnds octets opening_patience }
+    ensures values { OneBriefPathEnds values opening_patience }
 {}
 
 /// A law: on a lane that loses segments all is acknowledged, or the end gave up, after five rounds or so for each segment and two
