@@ -153,6 +153,8 @@ pub mod ToldSoon
 pub mod Treating
 pub mod UnaSaid
 pub mod WideWindows
+pub mod BareSegments
+pub mod FinsComing
 pub mod Unharmed
 pub mod Unmended
 pub mod Unmapped

@@ -188,13 +188,13 @@ module _ (start : Start) (mild : IsMildStart start) (turns : List Turn) (turn : 
     pub unbroken_p : IsUnbroken p
     unbroken_p = (holds_p IsNeverBroken (never_breaks start turns mild).each) open_p.first
 
-    unbroken_q : IsUnbroken q
+    pub unbroken_q : IsUnbroken q
     unbroken_q = (holds_q IsNeverBroken (never_breaks start later mild).each) open_q.first
 
-    mapped_p : EndsGoByMappings p
+    pub mapped_p : EndsGoByMappings p
     mapped_p = holds_p EndsGoByMappings (mapping_is_kept start turns mild).each
 
-    mapped_q : EndsGoByMappings q
+    pub mapped_q : EndsGoByMappings q
     mapped_q = holds_q EndsGoByMappings (mapping_is_kept start later mild).each
 
     reads_q : ReadsMappings q
@@ -203,10 +203,10 @@ module _ (start : Start) (mild : IsMildStart start) (turns : List Turn) (turn : 
     fin_q : FinIsLast q
     fin_q = holds_q FinIsLast (fins_are_last start later mild.plain.size).each
 
-    keys_q : EndsHaveKeys q
+    pub keys_q : EndsHaveKeys q
     keys_q = (holds_q HasKeys (keys_are_known start later mild).each) open_q.first
 
-    from_q : IsOpenFrom A q
+    pub from_q : IsOpenFrom A q
     from_q = open_from start later mild q (record { crew = after.here.crew; there = there_q; is = after.here.is }) open_q A
 
     pub clock : p.clock ≤ q.clock

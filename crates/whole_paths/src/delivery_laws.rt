@@ -59,6 +59,8 @@ ghost use Rattle.whole_paths.specs.Unstopped.{MildPathsAreNeverStopped};
 ghost use Rattle.whole_paths.specs.WindowRoom.{EachWindowHasRoom};
 ghost use Rattle.whole_paths.specs.WindowWaits.{WindowsAreAwaitedAlways};
 ghost use Rattle.world_laws.specs.Promises.{HoldsAnyway};
+ghost use Rattle.whole_paths.specs.BareSegments.{BareSegmentsAreTaken};
+ghost use Rattle.whole_paths.specs.FinsComing.{DataFinsComeSoon};
 ghost use Rattle.whole_paths.specs.WideWindows.{WideWindowsStay};
 
 /// A law: where no line takes options away, alters payload or lets a side close at once, both sides go by mappings of pieces, always.
@@ -720,8 +722,8 @@ pub fn records_come_in_time()
 /// A law: on the only path of a mild connection bytes are acknowledged as positions are (RFC 8684, section 3.3.2).
 ///
 /// Where the path's turn is over, neither of its ends is dead, and a side's sent no FIN, as many bytes of its stream are acknowledged as positions of
-/// its subflow, but for that of the SYN: to its end, and in its send book. So in four rounds between open ends all is acknowledged that the peer's side had received, where the end was
-/// to be told soon how far its peer was; or all of the stream is there (`rounds`).
+/// its subflow, but for that of the SYN: to its end, and in its send book. So in four rounds between open ends all is acknowledged that the peer's
+/// side had received, where the end was to be told soon how far its peer was; or all of the stream is there (`rounds`).
 pub fn positions_are_acked_as_bytes()
     ensures positions { PositionsAreAckedAsBytes }
     ensures rounds { FourRoundsAcknowledge }
@@ -749,4 +751,22 @@ pub fn heard_lies_below()
 pub fn wide_windows_stay()
     ensures octets { WideWindowsStay octets }
     ensures values { WideWindowsStay values }
+{}
+
+/// A law: between open ends a segment without an octet is taken as it arrives, unless its end takes one before that goes past it (RFC 9293, section
+/// 3.10.7.4): then more was sent behind it.
+///
+/// It is said of turns of a mild connection, and of a segment before whose position all stands that the end has: so it is with each that an end sends
+/// at SND.NXT, and no reset; and one that is sent is harmed, or comes within 400 ticks, where the peer's window has room for what was sent before.
+pub fn bare_segments_are_taken()
+    ensures { BareSegmentsAreTaken }
+{}
+
+/// A law: between open ends of a mild connection a DATA_FIN that is sent is harmed, or comes within 400 ticks and is heard, unless more is sent behind
+/// it (RFC 8684, section 3.3.3).
+///
+/// By each turn: one that comes by a tick comes by it still, or is heard; or more was sent behind it, so that it may be overtaken, and doesn't count
+/// then. And one that was heard is still. An end sends its DATA_FIN once its end is known, though bytes before it wait for a shut window.
+pub fn data_fins_come_soon()
+    ensures { DataFinsComeSoon }
 {}

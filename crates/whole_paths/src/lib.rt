@@ -35,6 +35,8 @@ pub use delivery_laws::an_end_is_told;
 pub use delivery_laws::answers_are_awaited_always;
 pub use delivery_laws::b_is_clear_first;
 pub use delivery_laws::b_is_idle_before;
+pub use delivery_laws::bare_segments_are_taken;
+pub use delivery_laws::data_fins_come_soon;
 pub use delivery_laws::debts_go_on;
 pub use delivery_laws::each_answer_comes_soon;
 pub use delivery_laws::each_first_sign_comes;
