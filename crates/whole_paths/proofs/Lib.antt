@@ -155,6 +155,8 @@ pub mod UnaSaid
 pub mod WideWindows
 pub mod BareSegments
 pub mod FinsComing
+pub mod FinsSent
+pub mod FinRounds
 pub mod Unharmed
 pub mod Unmended
 pub mod Unmapped

@@ -60,7 +60,7 @@ ghost use Rattle.whole_paths.specs.WindowRoom.{EachWindowHasRoom};
 ghost use Rattle.whole_paths.specs.WindowWaits.{WindowsAreAwaitedAlways};
 ghost use Rattle.world_laws.specs.Promises.{HoldsAnyway};
 ghost use Rattle.whole_paths.specs.BareSegments.{BareSegmentsAreTaken};
-ghost use Rattle.whole_paths.specs.FinsComing.{DataFinsComeSoon};
+ghost use Rattle.whole_paths.specs.FinsComing.{DataFinsComeSoon, DataFinsStaySoon, FourRoundsEnd};
 ghost use Rattle.whole_paths.specs.WideWindows.{WideWindowsStay};
 
 /// A law: where no line takes options away, alters payload or lets a side close at once, both sides go by mappings of pieces, always.
@@ -766,7 +766,10 @@ pub fn bare_segments_are_taken()
 /// it (RFC 8684, section 3.3.3).
 ///
 /// By each turn: one that comes by a tick comes by it still, or is heard; or more was sent behind it, so that it may be overtaken, and doesn't count
-/// then. And one that was heard is still. An end sends its DATA_FIN once its end is known, though bytes before it wait for a shut window.
+/// then (`by_turn`). An end sends its DATA_FIN once its end is known, though bytes before it wait for a shut window. Over one path it stays so that the
+/// DATA_FIN wasn't sent, or comes so, but for a harm (`stays`); and in four rounds the peer's side knows where the stream ends (`rounds`).
 pub fn data_fins_come_soon()
-    ensures { DataFinsComeSoon }
+    ensures by_turn { DataFinsComeSoon }
+    ensures stays { DataFinsStaySoon }
+    ensures rounds { FourRoundsEnd }
 {}
