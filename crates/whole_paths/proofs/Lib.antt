@@ -157,6 +157,7 @@ pub mod BareSegments
 pub mod FinsComing
 pub mod FinsSent
 pub mod FinRounds
+pub mod OneDebt
 pub mod Unharmed
 pub mod Unmended
 pub mod Unmapped

@@ -1,6 +1,7 @@
 //! What is to be mended of a connection over one path, and how it is, as clauses of functions that do nothing.
 ghost use Rattle.whole_paths.specs.CutRecords.{CheckedRecordsArePassedWhole};
 ghost use Rattle.whole_paths.specs.DirectionWaits.{DirectionsAreMended};
+ghost use Rattle.whole_paths.specs.OneDebt.{FinDebtsGoOn};
 ghost use Rattle.whole_paths.specs.OpenFirst.{FewAsItOpensAreFew};
 ghost use Rattle.whole_paths.specs.Directions.{DirectionsGoOn, WhatOwesNoneIsWell, WhoIsToldButStaysSo};
 
@@ -38,4 +39,12 @@ pub fn directions_are_mended()
 /// more as the path opens (RFC 8684, section 3.1).
 pub fn few_as_it_opens_are_few()
     ensures { FewAsItOpensAreFew }
+{}
+
+/// A law: a DATA_FIN that isn't told within 400 ticks is a debt of one harmed segment at most, over one path of a mild connection (RFC 8684,
+/// section 3.3.3).
+///
+/// Where it isn't owed the DATA_FIN wasn't sent yet, or the peer heard it, or it comes within 400 ticks, or more was sent behind it.
+pub fn fin_debts_go_on()
+    ensures { FinDebtsGoOn }
 {}
