@@ -1,6 +1,7 @@
 //! What mild connections do whose path stays whole, as clauses of functions that do nothing.
 ghost use Rattle.path_core.specs.Octets.{octets};
 ghost use Rattle.path_core.specs.Values.{values};
+ghost use Rattle.whole_paths.specs.AckedData.{FourRoundsAcknowledge, PositionsAreAckedAsBytes};
 ghost use Rattle.whole_paths.specs.AnswerWaits.{AnswersAreAwaitedAlways};
 ghost use Rattle.whole_paths.specs.AskStages.{OpenAsksAreAnswered};
 ghost use Rattle.whole_paths.specs.AwaitedThere.{WhatIsAwaitedIsThere};
@@ -711,4 +712,14 @@ pub fn lost_records_are_first()
 /// ends, or is acknowledged (`due`).
 pub fn records_come_in_time()
     ensures { RecordsComeInTime }
+{}
+
+/// A law: on the only path of a mild connection bytes are acknowledged as positions are (RFC 8684, section 3.3.2).
+///
+/// Where the path's turn is over, neither of its ends is dead, and a side's sent no FIN, as many bytes of its stream are acknowledged as positions of
+/// its subflow, but for that of the SYN: to its end, and in its send book. So in four rounds between open ends all is acknowledged that the peer's side had received, where the end was
+/// to be told soon how far its peer was; or all of the stream is there (`rounds`).
+pub fn positions_are_acked_as_bytes()
+    ensures positions { PositionsAreAckedAsBytes }
+    ensures rounds { FourRoundsAcknowledge }
 {}

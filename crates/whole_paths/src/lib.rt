@@ -20,9 +20,14 @@
 //! beginning of the connection (`one_path_ends`).
 #![tactic(auto)]
 
+mod debt_laws;
 mod delivery_laws;
 mod laws;
 
+pub use debt_laws::checked_records_are_passed_whole;
+pub use debt_laws::directions_are_mended;
+pub use debt_laws::directions_go_on;
+pub use debt_laws::few_as_it_opens_are_few;
 pub use delivery_laws::a_segment_is_read;
 pub use delivery_laws::a_unit_is_made;
 pub use delivery_laws::all_comes_up_to_lost;
@@ -67,6 +72,7 @@ pub use delivery_laws::open_asks_go_on;
 pub use delivery_laws::open_ends_hardly_go_awry;
 pub use delivery_laws::open_ends_hardly_stray;
 pub use delivery_laws::openings_are_awaited;
+pub use delivery_laws::positions_are_acked_as_bytes;
 pub use delivery_laws::positions_count_bytes;
 pub use delivery_laws::records_are_awaited_always;
 pub use delivery_laws::records_are_sent_in_order;
