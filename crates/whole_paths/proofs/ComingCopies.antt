@@ -47,7 +47,7 @@ use Rattle.whole_paths.specs.OwedGoes.{Owes}
 use Rattle.whole_paths.proofs.Agendas.{own_end}
 use Rattle.whole_paths.proofs.Bringing.{coming_by, comes_so, first_so}
 use Rattle.whole_paths.proofs.ExpiriesInARow.{BothSame, same_lasts}
-use Rattle.whole_paths.proofs.OwedGoes.{BothDue, due_lasts, owes_still}
+use Rattle.whole_paths.proofs.OwedGoes.{BothDue, ack_still, due_lasts, owes_still}
 use Rattle.whole_paths.proofs.Turns.{turn_each}
 
 -- ---- the row
@@ -128,6 +128,9 @@ module _ (c : Profile) (s : Side) (now : ℕ) (x : HeardSegment) (e : PathEnd) w
       by (means.Accepts n) fits is = arrived_owes (means.Accepts n) (hint_of (items_of (is_joined c) s x)) now (copy_of x) e.tcp fits is
       by _ fits is = absurd (true≢false (sym is))
 
+  as_acks : is_half_open e.tcp.state ≡ false → (heard_as means.Outside).tcp.due.ack ≡ true
+  as_acks whole = ap (λ b. (owing_answer b e.tcp.due).ack) whole
+
 -- ---- a path
 
 module _ (ds : List Duty) (r : Reply) (p : PathState Carried) where
@@ -182,23 +185,34 @@ module _ (ds : List Duty) (r : Reply) (p : PathState Carried) where
       owes_still c.due.to q (takes values r (from by_event)) (settled_lasts BothDue due_lasts q.agenda q)
       (comes_to Owes c m is (λ fits. as_owes p.profile c.due.to (coming_by ds p c).clock (options_heard (end_at c.due.to p) c.segment) (end_at c.due.to p) m fits answers))
 
+  abbrev Acks : Duty → Type 0
+  Acks d = (c : Comes values (from d)) → IsTo values (from d) c (judged.As means.Outside) → is_half_open (end_at c.due.to (from d)).tcp.state ≡ false → (end_at c.due.to (takes values r (from d))).tcp.due.ack ≡ true
+
+  acks : Acks by_event
+  acks c is whole =
+      let q : PathState Carried = answered values by_event r (from by_event) in
+      ack_still c.due.to q (takes values r (from by_event)) (settled_lasts BothDue due_lasts q.agenda q)
+      (comes_to (λ f. f.tcp.due.ack ≡ true) c means.Outside is (λ fits. as_acks p.profile c.due.to (coming_by ds p c).clock (options_heard (end_at c.due.to p) c.segment) (end_at c.due.to p) whole))
+
   answer_counts : (d : Duty) → CopiesCount (from d) (takes values r (from d))
   answer_counts d = record {
     ends = λ c m is row. inr (subst Ends (sym (first_so d by_event ds c.others c.first)) ends c m is row);
     owes = λ c m is answers. inr (subst Owing (sym (first_so d by_event ds c.others c.first)) owes c m is answers);
+    acks = λ c is whole. inr (subst Acks (sym (first_so d by_event ds c.others c.first)) acks c is whole);
   }
 
 takes_counts : (r : Reply) (p : PathState Carried) → CopiesCount p (takes values r p)
 takes_counts r p = by p.agenda
   where
     by : (ds : List Duty) → let x : PathState Carried = with_agenda ds p in CopiesCount x (takes values r x)
-    by [] = record { ends = λ c m is row. inl refl; owes = λ c m is answers. inl refl }
+    by [] = record { ends = λ c m is row. inl refl; owes = λ c m is answers. inl refl; acks = λ c is whole. inl refl }
     by (d ∷ ds) = answer_counts ds r p d
 
 next_counts : (p : PathState Carried) → is_nil p.agenda ≡ true → CopiesCount p (next_round p)
 next_counts p over = record {
   ends = λ c m is row. absurd (true≢false (sym over ∙ ap is_nil c.first));
   owes = λ c m is answers. absurd (true≢false (sym over ∙ ap is_nil c.first));
+  acks = λ c is whole. absurd (true≢false (sym over ∙ ap is_nil c.first));
 }
 
 -- ---- the world
@@ -213,7 +227,7 @@ member_begins (Path p) over = next_counts p over
 
 member_stays : (m : Actor Carried) → PathsHear m m
 member_stays (App a) = tt
-member_stays (Path p) = record { ends = λ c m is row. inl refl; owes = λ c m is answers. inl refl }
+member_stays (Path p) = record { ends = λ c m is row. inl refl; owes = λ c m is answers. inl refl; acks = λ c is whole. inl refl }
 
 pub each_copy_that_comes_counts : EachCopyThatComesCounts
 each_copy_that_comes_counts w turn = turn_each values (λ c d. PathsHear c.member d.member) (λ c. member_stays c.member) (λ ask books c. member_counts (answer_to books ask) c.member)

@@ -20,10 +20,10 @@ use Rattle.whole_paths.specs.OnlyPaths.{news_within}
 
 pub few_losses_deliver_so : (Comes : Start → Side → WorldState Carried → Type 0) → ((start : Start) (plan : PathPlan) → BeginsWithOnePath start plan → ExpiriesAreAnswered values (RunsAlive start) (Comes start))
     → BriefFewLossesFinish (for_all_news news_within)
-few_losses_deliver_so Comes answers script path file_a file_b turns h firm lawful brief few enough = ⊎_elim
+few_losses_deliver_so Comes answers script path file_a file_b turns h lawful brief few enough = ⊎_elim
     (λ delivered. delivered)
     (λ died. absurd (few_losses_end_none_so Comes answers script path file_a file_b turns h brief few died))
-    (delivers_within (start_of script file_a file_b) (plan_of script 0 path) turns 4 (mild_scripts_begin_with_one_path script path file_a file_b h.mild) firm lawful brief.few few enough)
+    (delivers_within (start_of script file_a file_b) (plan_of script 0 path) turns 4 (mild_scripts_begin_with_one_path script path file_a file_b h.mild) lawful brief.few few enough)
 
 -- where the segments of its exchange mean to the ends what they should
 pub few_losses_deliver_by : (Wants Ends : Side → PlainSegment → PathState Carried → Type 0) (Opens : Side → PathState Carried → Type 0)

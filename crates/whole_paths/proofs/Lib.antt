@@ -1,3 +1,4 @@
+pub mod AckedData
 pub mod Acking
 pub mod Acknowledged
 pub mod Agendas
@@ -147,6 +148,7 @@ pub mod ThereInTime
 pub mod Timing
 pub mod ToldSoon
 pub mod Treating
+pub mod UnaSaid
 pub mod Unharmed
 pub mod Unmended
 pub mod Unmapped
@@ -215,3 +217,17 @@ pub mod FirstSigns
 pub mod SignWaits
 pub mod OpeningCourses
 pub mod OpeningEnds
+pub mod Signless
+pub mod ClearFirst
+pub mod EdgesStay
+pub mod KeysCome
+pub mod FirstWindows
+pub mod DebtKinds
+pub mod Directions
+pub mod ComesAgain
+pub mod DirectionTurns
+pub mod DirectionRounds
+pub mod DirectionsMended
+pub mod CutRecords
+pub mod OpenFirst
+pub mod SharpPaths

@@ -163,6 +163,10 @@ pub owes_still : (s : Side) (p q : PathState Carried) → BothDue p q → Owes (
 owes_still A p q x = subst (λ (d : Due). (d.ack ≡ true) ⊎ (d.syn_ack ≡ true)) (sym x.a.same)
 owes_still B p q x = subst (λ (d : Due). (d.ack ≡ true) ⊎ (d.syn_ack ≡ true)) (sym x.b.same)
 
+pub ack_still : (s : Side) (p q : PathState Carried) → BothDue p q → (end_at s p).tcp.due.ack ≡ true → (end_at s q).tcp.due.ack ≡ true
+ack_still A p q x = subst (λ (d : Due). d.ack ≡ true) (sym x.a.same)
+ack_still B p q x = subst (λ (d : Due). d.ack ≡ true) (sym x.b.same)
+
 -- ---- a turn
 
 -- what is known of the path as it goes on

@@ -11,11 +11,10 @@ use Rattle.world_laws.specs.Worlds.{Turn, AreLawful}
 use Rattle.whole_paths.specs.FewLossesEnd.{HarmsNoEnd}
 use Rattle.whole_paths.specs.Finish.{IsBrief, harmed, rounds_in}
 use Rattle.whole_paths.specs.OnePathScripts.{Allowance}
-use Rattle.whole_paths.specs.OpeningCourses.{AlwaysOpensFirmly}
 
--- With four harmed segments at most both files are delivered after rounds enough, of fewer than 2^64 - 1 turns, where the ends open firmly, and no
--- line lets the path die or takes its address back.
+-- With four harmed segments at most both files are delivered after rounds enough, of fewer than 2^64 - 1 turns, where no line lets
+-- the path die or takes its address back.
 abbrev pub BriefFewLossesFinish : Allowance → Type 0
 BriefFewLossesFinish enough = (script : Script) (path : PathLine) (file_a file_b : List ℕ) (turns : List Turn) → HarmsNoEnd script path file_a file_b
-    → let start = start_of script file_a file_b in AlwaysOpensFirmly start → AreLawful values turns (opened_world start) → IsBrief script turns
+    → let start = start_of script file_a file_b in AreLawful values turns (opened_world start) → IsBrief script turns
     → harmed values 0 turns (opened_world start) ≤ 4 → 2 * enough start 4 + 500 < 100 * rounds_in turns → outcome_of (reached values start turns).crew ≡ Delivered

@@ -1,3 +1,4 @@
+pub mod AckedData
 pub mod Acknowledged
 pub mod AgendaSteps
 pub mod AnswerWaits
@@ -134,3 +135,9 @@ pub mod FirstSigns
 pub mod SignWaits
 pub mod OpeningCourses
 pub mod UnaSaid
+pub mod DebtKinds
+pub mod Directions
+pub mod DirectionWaits
+pub mod CutRecords
+pub mod OpenFirst
+pub mod SharpPaths

@@ -1,15 +1,17 @@
 //! What mild connections do whose path stays whole, as clauses of functions that do nothing.
 ghost use Rattle.path_core.specs.Octets.{octets};
 ghost use Rattle.path_core.specs.Values.{values};
+ghost use Rattle.whole_paths.specs.AckedData.{FourRoundsAcknowledge, PositionsAreAckedAsBytes};
 ghost use Rattle.whole_paths.specs.AnswerWaits.{AnswersAreAwaitedAlways};
 ghost use Rattle.whole_paths.specs.AskStages.{OpenAsksAreAnswered};
 ghost use Rattle.whole_paths.specs.AwaitedThere.{WhatIsAwaitedIsThere};
+ghost use Rattle.whole_paths.specs.Clear.{BIsClearFirst, BIsIdleBefore, BSendsNothingBefore, NothingComesBefore, TheFirstPieceWaits};
 ghost use Rattle.whole_paths.specs.DataLeft.{WhatIsLeftIsData};
 ghost use Rattle.whole_paths.specs.Deliveries.{WhoIsToldHasAll};
 ghost use Rattle.whole_paths.specs.Delivery.{WhatIsFinishedIsThere, WhatIsThereIsDelivered, WhatIsThereStays};
 ghost use Rattle.whole_paths.specs.EndRounds.{AnEndIsTold};
 ghost use Rattle.whole_paths.specs.EndedStreams.{WhatEndedIsAcknowledged};
-ghost use Rattle.whole_paths.specs.Finish.{HarmsUseLines, BriefPathsDeliver};
+ghost use Rattle.whole_paths.specs.Finish.{HarmsUseLines, BriefPathsDeliver, OneBriefPathEnds};
 ghost use Rattle.whole_paths.specs.FirstLost.{LostRecordsAreAwaited, LostRecordsAreMended};
 ghost use Rattle.whole_paths.specs.GoingOn.{RoundsBeginToGoOn, RoundsGoOn, StepsLetItGoOn, EndsGoOn};
 ghost use Rattle.whole_paths.specs.FirstSigns.{EachFirstSignComes};
@@ -27,7 +29,7 @@ ghost use Rattle.whole_paths.specs.OnlyPaths.{long_patience, news_within};
 ghost use Rattle.whole_paths.specs.OpenAsks.{OpenAsksAreInTime, OpenAsksGoOn, OpenEndsHardlyGoAwry};
 ghost use Rattle.whole_paths.specs.OverOctets.{FewLossesFinishAsOverValues, OctetsAreAsFarAsValues, OnePathEndsAsOverValues, BriefPathsDeliverAsOverValues, WholePathsDeliverAsOverValues};
 ghost use Rattle.whole_paths.specs.OpenCourses.{WhatHoldsUpCounts};
-ghost use Rattle.whole_paths.specs.OpeningCourses.{opening_patience, DeliversWithin, FirmPathsEnd, OpensWithin};
+ghost use Rattle.whole_paths.specs.OpeningCourses.{opening_patience, DeliversWithin, OpensWithin};
 ghost use Rattle.whole_paths.specs.OpeningWaits.{EndsOpenOrArePast, LivingEndsOpenOrArePast, OpeningsAreAwaited};
 ghost use Rattle.whole_paths.specs.Outstanding.{WhatIsOutstandingIsAwaited};
 ghost use Rattle.whole_paths.specs.Overruns.{NoEndOverruns};
@@ -551,20 +553,52 @@ pub fn whole_paths_deliver()
     ensures values { BriefPathsDeliver values long_patience }
 {}
 
-/// A law: over one path both files are delivered, or an end of the path died, after rounds enough from the beginning of the connection, where its
-/// ends open firmly, however much is lost, late or repeated (`delivers`).
+/// A law: over one path A's end may send a DSS only where B's may (RFC 8684, section 3.1).
 ///
-/// After half of these rounds the path is whole, or all of both streams is with the peers, or an end died (`opens`). That the ends open firmly is
-/// a premise: A may send a DSS only once B may; A's first piece waits while B, past the handshake, may send none; and until A may, an end of B's
-/// without a record was granted nothing and knows of no shut window (RFC 8684, section 3.1). What else it needs is so: an end that may send a DSS
-/// is past the handshake, and until A may, A's end hasn't finished, and its side knows no end of B's stream (`clear_ends_are_past`). It is said
-/// of mild connections over one path with buffers of 4,096 octets at least, and of fewer than 2^64 - 1 turns; and of scripts of one path, over
-/// segments as values and over octets (`values`, `octets`). Enough rounds are as many as in `whole_paths_deliver`, twice.
-pub fn firm_openings_deliver()
+/// It may by a DSS that it heard, and B's end sends none before it may, and nothing behind its SYN (`quiet`). So it is on the only path of a mild
+/// connection, at every moment.
+pub fn b_is_clear_first()
+    ensures first { BIsClearFirst }
+    ensures quiet { BSendsNothingBefore }
+{}
+
+/// A law: over one path nothing comes to an end behind its peer's SYN until the end may send a DSS, while no end is dead (RFC 8684, section 3.1).
+///
+/// It holds no mapping by which a byte could be passed, and no FIN came, since the peer sends one only once it may send a DSS. So it is at every
+/// moment of a mild connection.
+pub fn nothing_comes_before()
+    ensures { NothingComesBefore }
+{}
+
+/// A law: over one path A's first piece waits while B, past the handshake, may send no DSS (RFC 8684, section 3.1).
+///
+/// Each copy that takes B's end past the handshake shows both keys, which B hears in its turn, unless A sent more than its SYN. So where a turn is
+/// over, both ends are past the handshake, none is dead, and B may send none, the piece is A's first record, and nothing came to B behind the SYN.
+pub fn the_first_piece_waits()
+    ensures { TheFirstPieceWaits }
+{}
+
+/// A law: over one path an end of B's without a record was granted nothing, and knows of no window that is shut, until A may send a DSS (RFC 8684,
+/// section 3.1).
+///
+/// A's SYN tells a window that isn't shut, and B's end asks for bytes behind it. It is said where a turn is over, no end is dead and B may send a
+/// DSS; of mild connections whose sides buffer an octet at least.
+pub fn b_is_idle_before()
+    ensures { BIsIdleBefore }
+{}
+
+/// A law: over one path both files are delivered, or an end of the path died, after rounds enough from the beginning of the connection, however much
+/// is lost, late or repeated (`octets`, `values`).
+///
+/// It is said of mild scripts, by which no option is taken away, no payload is altered and no side closes at once, and of fewer than 2^64 - 1 turns:
+/// the link counts the segments of each side below that. After half of these rounds the path is whole, or all of both streams is with the peers, or
+/// an end died (`opens`); then they go on as in `whole_paths_deliver` (`delivers`), whose rounds are enough twice. Both are said of connections over
+/// one path with buffers of 4,096 octets at least.
+pub fn one_path_ends()
     ensures opens { OpensWithin (for_all_news news_within) }
     ensures delivers { DeliversWithin (for_all_news news_within) }
-    ensures octets { FirmPathsEnd octets opening_patience }
-    ensures values { FirmPathsEnd values opening_patience }
+    ensures octets { OneBriefPathEnds octets opening_patience }
+    ensures values { OneBriefPathEnds values opening_patience }
 {}
 
 /// A law: on a lane that loses segments all is acknowledged, or the end gave up, after five rounds or so for each segment and two
@@ -678,4 +712,14 @@ pub fn lost_records_are_first()
 /// ends, or is acknowledged (`due`).
 pub fn records_come_in_time()
     ensures { RecordsComeInTime }
+{}
+
+/// A law: on the only path of a mild connection bytes are acknowledged as positions are (RFC 8684, section 3.3.2).
+///
+/// Where the path's turn is over, neither of its ends is dead, and a side's sent no FIN, as many bytes of its stream are acknowledged as positions of
+/// its subflow, but for that of the SYN: to its end, and in its send book. So in four rounds between open ends all is acknowledged that the peer's side had received, where the end was
+/// to be told soon how far its peer was; or all of the stream is there (`rounds`).
+pub fn positions_are_acked_as_bytes()
+    ensures positions { PositionsAreAckedAsBytes }
+    ensures rounds { FourRoundsAcknowledge }
 {}

@@ -17,17 +17,24 @@
 //! one path all is acknowledged then that was written as the round began (`what_was_written_is_acknowledged`).
 //!
 //! Over one path that stays whole, or whose ends don't die early, all this ends: both files are delivered (`whole_paths_deliver`). So it is from the
-//! beginning of the connection, where its ends open firmly (`firm_openings_deliver`).
+//! beginning of the connection (`one_path_ends`).
 #![tactic(auto)]
 
+mod debt_laws;
 mod delivery_laws;
 mod laws;
 
+pub use debt_laws::checked_records_are_passed_whole;
+pub use debt_laws::directions_are_mended;
+pub use debt_laws::directions_go_on;
+pub use debt_laws::few_as_it_opens_are_few;
 pub use delivery_laws::a_segment_is_read;
 pub use delivery_laws::a_unit_is_made;
 pub use delivery_laws::all_comes_up_to_lost;
 pub use delivery_laws::an_end_is_told;
 pub use delivery_laws::answers_are_awaited_always;
+pub use delivery_laws::b_is_clear_first;
+pub use delivery_laws::b_is_idle_before;
 pub use delivery_laws::debts_go_on;
 pub use delivery_laws::each_answer_comes_soon;
 pub use delivery_laws::each_first_sign_comes;
@@ -35,7 +42,6 @@ pub use delivery_laws::each_record_stays_well;
 pub use delivery_laws::each_round_writes_and_reads;
 pub use delivery_laws::each_window_has_room;
 pub use delivery_laws::fins_are_last;
-pub use delivery_laws::firm_openings_deliver;
 pub use delivery_laws::first_addresses_stay;
 pub use delivery_laws::first_records_are_passed;
 pub use delivery_laws::first_signs_are_awaited;
@@ -57,13 +63,16 @@ pub use delivery_laws::mild_scripts_never_break;
 pub use delivery_laws::mild_scripts_tell_keys;
 pub use delivery_laws::no_end_overruns;
 pub use delivery_laws::no_round_counts;
+pub use delivery_laws::nothing_comes_before;
 pub use delivery_laws::octets_are_passed;
 pub use delivery_laws::octets_finish_as_values_do;
+pub use delivery_laws::one_path_ends;
 pub use delivery_laws::open_asks_are_answered;
 pub use delivery_laws::open_asks_go_on;
 pub use delivery_laws::open_ends_hardly_go_awry;
 pub use delivery_laws::open_ends_hardly_stray;
 pub use delivery_laws::openings_are_awaited;
+pub use delivery_laws::positions_are_acked_as_bytes;
 pub use delivery_laws::positions_count_bytes;
 pub use delivery_laws::records_are_awaited_always;
 pub use delivery_laws::records_are_sent_in_order;
@@ -71,6 +80,7 @@ pub use delivery_laws::records_come_in_time;
 pub use delivery_laws::senders_are_awaited;
 pub use delivery_laws::shut_windows_have_room;
 pub use delivery_laws::shut_windows_open_in_time;
+pub use delivery_laws::the_first_piece_waits;
 pub use delivery_laws::ways_stay;
 pub use delivery_laws::well_octets_come;
 pub use delivery_laws::what_ended_is_acknowledged;
