@@ -1,5 +1,5 @@
 -- SND.UNA lies where a Data ACK says so, too, or right behind the SYN: what rises it has a Data ACK, which is heard in its turn.
-use Rattle.std.proofs.Common.{◌≡◌, refl, sym, subst, ap, ◌∙◌, ◌⊎◌, inl, inr, ⊎_elim, ℕ, suc, ◌+◌, ◌^◌, ◌<◌, ◌≤◌, arith, ◌==◌, ◌&&◌, Bool, true, false, true≢false, if◌then◌else◌, Option, Some, None, is_some, IfSome, List, [], ◌∷◌, ◌++◌, length, map}
+use Rattle.std.proofs.Common.{◌≡◌, refl, sym, subst, ap, ◌∙◌, ◌⊎◌, inl, inr, ⊎_elim, ℕ, suc, ◌+◌, ◌^◌, ◌<◌, ◌≤◌, arith, ◌==◌, ◌&&◌, Bool, true, false, true≢false, if◌then◌else◌, Option, Some, is_some, IfSome, List, [], ◌∷◌, ◌++◌, length, map}
 use Rattle.std.specs.List.{list_any, slice_get}
 use Rattle.std.specs.Option.{option_map}
 use Rattle.std.proofs.lemmas.List.{append-nil, append_assoc}
@@ -33,9 +33,8 @@ use Rattle.subflow_tcp.specs.declared.handshake.State.TheVariants as phase
 use Rattle.subflow_tcp.specs.declared.segments.Outgoing.{Outgoing}
 use Rattle.subflow_tcp.specs.declared.verdicts.Meaning.{Meaning}
 use Rattle.subflow_tcp.specs.declared.verdicts.Meaning.TheVariants as means
-use Rattle.actor_desk.specs.declared.ask.Note.{Note}
 use Rattle.actor_desk.specs.Books.{books_in}
-use Rattle.actor_desk.specs.Desk.{reassembly_of, send_of}
+use Rattle.actor_desk.specs.Desk.{reassembly_of}
 use Rattle.path_agenda.specs.declared.duty.Duty.{Duty}
 use Rattle.path_agenda.specs.declared.duty.Duty.TheVariants as duties
 use Rattle.path_agenda.specs.declared.duty.StepDuty.TheVariants as step_duties
@@ -48,7 +47,7 @@ use Rattle.path_core.specs.Looking.{first_sends, segment_sent}
 use Rattle.path_core.specs.MpJoin.{is_joined}
 use Rattle.path_core.specs.OptionsIn.{has_data_ack, items_of, options_heard}
 use Rattle.path_core.specs.Start.{waiting_path}
-use Rattle.path_core.specs.State.{PathState, end_at, with_agenda}
+use Rattle.path_core.specs.State.{PathState, end_at}
 use Rattle.path_core.specs.Steps.{begins_turn}
 use Rattle.path_core.specs.Values.{Carried, as_arrived, carried_by, values}
 use Rattle.path_core.specs.declared.judged.Judged.TheVariants as judged
@@ -57,7 +56,7 @@ use Rattle.world_laws.specs.Actors.{Actor, ActorCrew}
 use Rattle.world_laws.specs.Members.{HoldsOfKind}
 use Rattle.world_laws.specs.Openings.{PathPlan, Start, new_crew, new_path, opened_world, path_begins, paths_from}
 use Rattle.world_laws.specs.Outcomes.{notes_or, was_told}
-use Rattle.world_laws.specs.Promises.{NothingWasRefused, arrived_at, tells_refusal, written_by}
+use Rattle.world_laws.specs.Promises.{arrived_at, tells_refusal, written_by}
 use Rattle.world_laws.specs.RoundDone.{reached}
 use Rattle.world_laws.specs.Worlds.{Turn, WorldState, after_turn}
 use Rattle.world_laws.proofs.Lanes.Records.{every_first, every_rest}
@@ -87,7 +86,6 @@ use Rattle.whole_paths.specs.DataAcksNow.{KnowsWhatCame}
 use Rattle.whole_paths.specs.DataLeft.{HasDataLeft}
 use Rattle.whole_paths.specs.Delivery.{IsAllThere}
 use Rattle.whole_paths.specs.Finish.{IsPathAt}
-use Rattle.whole_paths.specs.Mending.{IsToldSoon}
 use Rattle.whole_paths.specs.Mild.{EndsGoByMappings, IsNeverBroken, IsUnbroken, LinkIsMild}
 use Rattle.whole_paths.specs.OnePathScripts.{BeginsWithOnePath}
 use Rattle.whole_paths.specs.OpeningStates.{GoByTheHandshake, IsOfB}
@@ -95,7 +93,6 @@ use Rattle.whole_paths.specs.OpeningStates.{IsOfB as of_b}
 use Rattle.whole_paths.specs.PositionCounts.{CountsBytes}
 use Rattle.whole_paths.specs.Saying.{SaysWhatCame}
 use Rattle.whole_paths.specs.Saying.{SaysWhatCame as said}
-use Rattle.whole_paths.specs.SegmentRounds.{Rounds}
 use Rattle.whole_paths.specs.UnaSaid.{IsTakenNext, UnaFrom, UnasAreSaid}
 use Rattle.whole_paths.specs.UnaSaid.{UnaFrom as una_from}
 use Rattle.whole_paths.proofs.Arrivals.{sender_of}
@@ -591,17 +588,16 @@ module _ (start : Start) (plan : PathPlan) (x : BeginsWithOnePath start plan) wh
       begins A = refl
       begins B = refl
 
-  pub opened_so : AgreesAfter []
-  opened_so = record {
-    path = begins_turn (waiting_path (path_begins start 0 plan) start.lines);
-    here = record {
-      crew = new_path start 0 plan;
-      there = subst (λ ps. slice_get (new_crew 0 (App (first_app_turn A start.buffer start.file_a (fast_close_of A start.lines)))
-          ∷ new_crew 1 (App (first_app_turn B start.buffer start.file_b (fast_close_of B start.lines))) ∷ paths_from start 0 ps) 2 ≡ Some (new_path {C = Carried} start 0 plan)) (sym x.one) refl;
-      is = refl;
-    };
-    agrees = begins_so;
+  pub opened_here : IsPathAt 0 (at []) (begins_turn (waiting_path (path_begins start 0 plan) start.lines))
+  opened_here = record {
+    crew = new_path start 0 plan;
+    there = subst (λ ps. slice_get (new_crew 0 (App (first_app_turn A start.buffer start.file_a (fast_close_of A start.lines)))
+        ∷ new_crew 1 (App (first_app_turn B start.buffer start.file_b (fast_close_of B start.lines))) ∷ paths_from start 0 ps) 2 ≡ Some (new_path {C = Carried} start 0 plan)) (sym x.one) refl;
+    is = refl;
   }
+
+  opened_so : AgreesAfter []
+  opened_so = record { path = begins_turn (waiting_path (path_begins start 0 plan) start.lines); here = opened_here; agrees = begins_so }
 
   -- it is there after each turn
   pub next_path : (turns : List Turn) (turn : Turn) (p : PathState Carried) → IsPathAt 0 (at turns) p → (q : PathState Carried) × IsPathAt 0 (at (turns ++ turn ∷ [])) q

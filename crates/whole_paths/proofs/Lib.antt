@@ -40,6 +40,8 @@ pub mod ExpirySegments
 pub mod AnsweredExpiries
 pub mod FewLossesDeliver
 pub mod HarmlessDeaths
+pub mod HeardBelow
+pub mod HeardSaid
 pub mod KeptAddresses
 pub mod NoRemovals
 pub mod RemovedItems
@@ -54,6 +56,7 @@ pub mod OpenCopies
 pub mod ComingCopies
 pub mod OwedGoes
 pub mod SetTimers
+pub mod ToldHeard
 pub mod ToldResets
 pub mod OpensAtOnce
 pub mod MildDeaths
@@ -149,6 +152,7 @@ pub mod Timing
 pub mod ToldSoon
 pub mod Treating
 pub mod UnaSaid
+pub mod WideWindows
 pub mod Unharmed
 pub mod Unmended
 pub mod Unmapped
@@ -231,3 +235,8 @@ pub mod DirectionsMended
 pub mod CutRecords
 pub mod OpenFirst
 pub mod SharpPaths
+pub mod Signless
+pub mod ClearFirst
+pub mod EdgesStay
+pub mod KeysCome
+pub mod FirstWindows

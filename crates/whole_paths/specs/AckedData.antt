@@ -1,5 +1,5 @@
 -- What an end's subflow hears acknowledged its Data ACKs acknowledge, too: each position with the place of its byte (RFC 8684, section 3.3.2).
-use Rattle.std.specs.Prelude.{ℕ, suc, ◌≡◌, ◌≤◌, ◌⊎◌, false, List, []}
+use Rattle.std.specs.Prelude.{suc, ◌≡◌, ◌≤◌, ◌⊎◌, false, List, []}
 use Rattle.sides.specs.declared.side.Side.{Side}
 use Rattle.sides.specs.Side.{peer}
 use Rattle.send_book.specs.State.{acked_len}

@@ -37,6 +37,8 @@ pub mod Deaths
 pub mod ExpirySegments
 pub mod AnsweredExpiries
 pub mod FewLossesDeliver
+pub mod HeardBelow
+pub mod HeardSaid
 pub mod KeptAddresses
 pub mod Debts
 pub mod FewLossesEnd
@@ -103,6 +105,7 @@ pub mod Waits
 pub mod WindowRoom
 pub mod WindowWaits
 pub mod WindowsHeard
+pub mod WideWindows
 pub mod Writers
 pub mod EndedStreams
 pub mod Ends
