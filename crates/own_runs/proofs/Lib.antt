@@ -34,6 +34,7 @@ mod MomentFacts
 mod Moments
 mod NextGrows
 mod NextRuns
+mod NextTrace
 mod Nonces
 mod Numbered
 mod Offering
