@@ -39,6 +39,7 @@ mod Moments
 mod NextGrows
 mod NextRuns
 mod NextSent
+mod NextTrace
 mod Nonces
 mod Numbered
 mod Offering
