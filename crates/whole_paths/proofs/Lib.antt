@@ -235,8 +235,3 @@ pub mod DirectionsMended
 pub mod CutRecords
 pub mod OpenFirst
 pub mod SharpPaths
-pub mod Signless
-pub mod ClearFirst
-pub mod EdgesStay
-pub mod KeysCome
-pub mod FirstWindows
