@@ -226,6 +226,11 @@ pub mod FirstSigns
 pub mod SignWaits
 pub mod OpeningCourses
 pub mod OpeningEnds
+pub mod Signless
+pub mod ClearFirst
+pub mod EdgesStay
+pub mod KeysCome
+pub mod FirstWindows
 pub mod DebtKinds
 pub mod Directions
 pub mod ComesAgain
@@ -235,8 +240,3 @@ pub mod DirectionsMended
 pub mod CutRecords
 pub mod OpenFirst
 pub mod SharpPaths
-pub mod Signless
-pub mod ClearFirst
-pub mod EdgesStay
-pub mod KeysCome
-pub mod FirstWindows
