@@ -91,7 +91,9 @@ pub mod OpeningSyns
 pub mod NeverUnmapped
 pub mod News
 pub mod NewsBounds
+pub mod NumbersAgree
 pub mod Offered
+pub mod OpenQuiet
 pub mod OnePath
 pub mod OnlyBooks
 pub mod OctetsPassed

@@ -1,14 +1,13 @@
 -- Data ACKs acknowledge as many bytes as SND.UNA tells positions, and with checksums each record is passed whole: so the numbers of a direction agree.
-use Rattle.std.proofs.Common.{◌≡◌, sym, subst, ◌⊎◌, inl, inr, ⊎_elim, ℕ, suc, ◌<◌, ◌≤◌, arith, true, false, true≢false, List, []}
+use Rattle.std.proofs.Common.{◌≡◌, sym, subst, ◌⊎◌, inl, inr, ⊎_elim, suc, ◌<◌, ◌≤◌, arith, false, true≢false, List, []}
 use Rattle.sides.specs.declared.side.Side.{Side}
-use Rattle.stream_lanes.specs.Words.{Has}
 use Rattle.subflow_send.specs.Records.{Record}
 use Rattle.subflow_tcp.specs.States.{is_dead}
 use Rattle.subflow_tcp.specs.declared.handshake.State.{State as EndPhase}
 use Rattle.subflow_tcp.specs.declared.handshake.State.TheVariants as phase
 use Rattle.path_core.specs.End.{PathEnd}
-use Rattle.path_core.specs.State.{PathState, end_at}
-use Rattle.path_core.specs.Values.{Carried, values}
+use Rattle.path_core.specs.State.{end_at}
+use Rattle.path_core.specs.Values.{values}
 use Rattle.world_laws.specs.Members.{HoldsOfKind}
 use Rattle.world_laws.specs.Openings.{PathPlan, Start}
 use Rattle.world_laws.specs.RoundDone.{reached}

@@ -1,7 +1,7 @@
 //! What is to be mended of a connection over one path, and how it is, as clauses of functions that do nothing.
 ghost use Rattle.whole_paths.specs.CutRecords.{CheckedRecordsArePassedWhole};
 ghost use Rattle.whole_paths.specs.DirectionWaits.{CheckedNumbersAgree, DirectionsAreMended, NumbersAgreeSo};
-ghost use Rattle.whole_paths.specs.OpenFirst.{FewAsItOpensAreFew};
+ghost use Rattle.whole_paths.specs.OpenFirst.{AOwesRecordsFirst, BOwesNoneFirst, FewAsItOpensAreFew};
 ghost use Rattle.whole_paths.specs.Directions.{DirectionsGoOn, WhatOwesNoneIsWell, WhoIsToldButStaysSo};
 
 /// A law: with checksums RCV.NXT of an end lies inside no record of data of its peer's, on path 0 of a mild connection: each is passed whole
@@ -20,12 +20,12 @@ pub fn numbers_agree()
     ensures checked { CheckedNumbersAgree }
 {}
 
-/// A law: in one direction between open ends of the only path of a mild connection a segment that is harmed makes one debt at most (RFC 9293,
-/// section 3.10.7.4).
+/// A law: in one direction of the only path of a mild connection a segment that is harmed makes one debt at most (RFC 9293, section 3.10.7.4).
 ///
 /// Debts are records of data of a side that may be lost, and what harmed segments of its peer acknowledged and the side's end didn't hear: by each
 /// turn there are no more than before, but for one if a segment is harmed (`debts`). Until the peer is past the side's FIN the end is told soon how
-/// far the peer is, or that stands among them; and each segment under way to it acknowledges what it heard, is told soon, or stands there (`told`).
+/// far the peer is, or that stands among them; and each segment under way to it acknowledges what it heard, is told soon, or stands there (`told`),
+/// by turns between ends past the handshake, B's of which may send a DSS.
 /// Once all of the side's stream is with the peer, none is owed. Without debts each record of the side is well, and its end is told soon, or
 /// all of its stream is with the peer (`free`).
 pub fn directions_go_on()
@@ -44,7 +44,12 @@ pub fn directions_are_mended()
 {}
 
 /// A law: along a direction there are no more debts than harmed segments at any open moment of the only path of a mild connection, where there are no
-/// more as the path opens (RFC 8684, section 3.1).
+/// more as B's end may send a DSS first (RFC 8684, section 3.1; `opens`).
+///
+/// In B's direction there are none by the turn by which B's end may send one first (`b`): it sent nothing behind its SYN. And in A's there are as many
+/// as records may be lost (`a`): nothing came to B behind A's SYN.
 pub fn few_as_it_opens_are_few()
-    ensures { FewAsItOpensAreFew }
+    ensures opens { FewAsItOpensAreFew }
+    ensures b { BOwesNoneFirst }
+    ensures a { AOwesRecordsFirst }
 {}

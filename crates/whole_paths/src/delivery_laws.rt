@@ -265,8 +265,9 @@ pub fn no_round_counts()
     ensures { NoRoundCounts }
 {}
 
-/// A law: a record of data that is well stays well by each turn of a mild connection between open ends, or a segment of its side is harmed.
+/// A law: a record of data that is well stays well by each turn of a mild connection, or a segment of its side is harmed.
 ///
+/// The turn goes between two moments at which both ends are past the handshake, and B's may send a DSS; A's may send its first piece with both keys.
 /// Such a record is to be sent; or each of its octets came to the peer, with its mapping; or a copy of it is under way that comes within 400 ticks,
 /// twice the longest delay. One that comes by a tick, or came, is there by that tick still, also behind a gap, and though it is acknowledged
 /// meanwhile (`comes`); and one that is sent in the turn is there within 400 ticks, or harmed (`sent`).
@@ -274,7 +275,8 @@ pub fn each_record_stays_well()
     ensures { EachRecordStaysWell }
 {}
 
-/// A law: an acknowledgement that an end owes goes, and is harmed or heard within 400 ticks, by each turn of a mild connection between open ends.
+/// A law: an acknowledgement that an end owes goes, and is harmed or heard within 400 ticks, by each turn of a mild connection between ends past the
+/// handshake, B's of which may send a DSS.
 ///
 /// It is owed still, or goes in the turn and acknowledges all that came to the end by then, where its peer's window has room for all that the end
 /// sent (`owed`). From then on its peer heard so much, or the answer is under way to it, and comes by the same tick (`comes`): one that is overtaken
@@ -283,8 +285,8 @@ pub fn each_answer_comes_soon()
     ensures { EachAnswerComesSoon }
 {}
 
-/// A law: between open ends of the only path of a mild connection no end sent more than 2^20 positions past RCV.NXT of its peer, so that the
-/// peer's window has room for all it sent, its FIN included.
+/// A law: once B's end of the only path of a mild connection may send a DSS no end past the handshake sent more than 2^20 positions past RCV.NXT of
+/// its peer, so that the peer's window has room for all it sent, its FIN included.
 ///
 /// An unfinished end has no more outstanding than the window (`no_end_overruns`). Of one that sent its FIN all but the FIN is there
 /// (`what_is_finished_is_there`).
@@ -300,7 +302,8 @@ pub fn what_rises_is_owed()
     ensures { WhatRisesIsOwed }
 {}
 
-/// A law: between open ends of the only path of a mild connection an end that is told soon how far its peer is stays so, or an answer was harmed.
+/// A law: on the only path of a mild connection, once B's end may send a DSS, an end past the handshake that is told soon how far its peer is stays
+/// so, or an answer was harmed.
 ///
 /// The peer's answer goes (`each_answer_comes_soon`), since the end's window has room for it (`each_window_has_room`); where RCV.NXT rises
 /// meanwhile the next answer is owed (`what_rises_is_owed`).
@@ -611,8 +614,8 @@ pub fn lossy_lanes_finish()
     ensures finish { LossyLanesFinish }
 {}
 
-/// A law: no more records of data of a side may be lost than before, but one for a segment that is harmed, between open ends (RFC 9293, section
-/// 3.10.7.4).
+/// A law: no more records of data of a side may be lost than before, but one for a segment that is harmed, between ends past the handshake, B's of
+/// which may send a DSS (RFC 9293, section 3.10.7.4).
 ///
 /// A record may be lost that isn't well: one that was sent, isn't with the peer, and doesn't come within 400 ticks. By each turn of a mild
 /// connection that `each_record_stays_well` speaks of the records of a side that may be lost are these still, or fewer; where a segment of the
