@@ -237,3 +237,4 @@ pub mod ClearFirst
 pub mod EdgesStay
 pub mod KeysCome
 pub mod FirstWindows
+pub mod SynsSoon

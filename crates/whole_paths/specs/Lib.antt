@@ -144,3 +144,4 @@ pub mod DirectionWaits
 pub mod CutRecords
 pub mod OpenFirst
 pub mod SharpPaths
+pub mod SynsSoon

@@ -52,6 +52,7 @@ ghost use Rattle.whole_paths.specs.ShutWindows.{ShutWindowsHaveRoom};
 ghost use Rattle.whole_paths.specs.SignWaits.{FirstSignsAreAwaited};
 ghost use Rattle.whole_paths.specs.StayingWhole.{WholePathsStayWhole};
 ghost use Rattle.whole_paths.specs.Straying.{OpenEndsHardlyStray, SendersHardlyStray, WholePathsAreOpen};
+ghost use Rattle.whole_paths.specs.SynsSoon.{EachSynComesSoon};
 ghost use Rattle.whole_paths.specs.ToldStays.{WhoIsToldStaysTold};
 ghost use Rattle.whole_paths.specs.Unmended.{DebtsGoOn, HarmsAloneAreOwed, HarmsAloneLoseRecords};
 ghost use Rattle.whole_paths.specs.UnitRounds.{AUnitIsMade, AllUnitsAreThere, ShortWaitsGoOn};
@@ -557,6 +558,14 @@ pub fn whole_paths_deliver()
     ensures ends_values { BriefPathsEnd values long_patience }
     ensures octets { BriefPathsDeliver octets long_patience }
     ensures values { BriefPathsDeliver values long_patience }
+{}
+
+/// A law: a SYN that an end sends as it opens is harmed, or comes within 400 ticks (RFC 9293, section 3.5).
+///
+/// By each turn of a mild connection in which the link takes a SYN of A's for which B listens, or B's SYN/ACK for A: the segment is harmed, or the
+/// wait for it that `each_syn_comes` speaks of ends 400 ticks later, twice the longest delay.
+pub fn each_syn_comes_soon()
+    ensures { EachSynComesSoon }
 {}
 
 /// A law: over one path A's end may send a DSS only where B's may (RFC 8684, section 3.1).
