@@ -238,3 +238,4 @@ pub mod EdgesStay
 pub mod KeysCome
 pub mod FirstWindows
 pub mod SynsSoon
+pub mod FirstPiecesSoon

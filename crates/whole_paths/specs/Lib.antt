@@ -145,3 +145,4 @@ pub mod CutRecords
 pub mod OpenFirst
 pub mod SharpPaths
 pub mod SynsSoon
+pub mod FirstPiecesSoon

@@ -14,6 +14,7 @@ ghost use Rattle.whole_paths.specs.EndedStreams.{WhatEndedIsAcknowledged};
 ghost use Rattle.whole_paths.specs.Finish.{HarmsUseLines, BriefPathsDeliver, OneBriefPathEnds};
 ghost use Rattle.whole_paths.specs.FirstLost.{LostRecordsAreAwaited, LostRecordsAreMended};
 ghost use Rattle.whole_paths.specs.GoingOn.{RoundsBeginToGoOn, RoundsGoOn, StepsLetItGoOn, EndsGoOn};
+ghost use Rattle.whole_paths.specs.FirstPiecesSoon.{EachFirstPieceComesSoon};
 ghost use Rattle.whole_paths.specs.FirstSigns.{EachFirstSignComes};
 ghost use Rattle.whole_paths.specs.Halted.{WhoHaltsGoesOnHalting};
 ghost use Rattle.whole_paths.specs.Lanes.Laws.{LossyLanesEnd, LossyLanesFinish};
@@ -566,6 +567,14 @@ pub fn whole_paths_deliver()
 /// wait for it that `each_syn_comes` speaks of ends 400 ticks later, twice the longest delay.
 pub fn each_syn_comes_soon()
     ensures { EachSynComesSoon }
+{}
+
+/// A law: A's first piece that is sent with both keys is harmed, or comes within 400 ticks (RFC 8684, section 3.1).
+///
+/// By each turn of a mild connection in which the link takes it, while neither end may send a DSS, and nothing came to B behind the SYN: the segment is
+/// harmed, or the wait for it that `each_first_piece_comes` speaks of ends 400 ticks later, twice the longest delay.
+pub fn each_first_piece_comes_soon()
+    ensures { EachFirstPieceComesSoon }
 {}
 
 /// A law: over one path A's end may send a DSS only where B's may (RFC 8684, section 3.1).

@@ -38,6 +38,7 @@ pub use delivery_laws::b_is_clear_first;
 pub use delivery_laws::b_is_idle_before;
 pub use delivery_laws::debts_go_on;
 pub use delivery_laws::each_answer_comes_soon;
+pub use delivery_laws::each_first_piece_comes_soon;
 pub use delivery_laws::each_first_sign_comes;
 pub use delivery_laws::each_record_stays_well;
 pub use delivery_laws::each_round_writes_and_reads;
