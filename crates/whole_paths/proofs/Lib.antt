@@ -239,3 +239,4 @@ pub mod KeysCome
 pub mod FirstWindows
 pub mod SynsSoon
 pub mod FirstPiecesSoon
+pub mod AnswersSoon

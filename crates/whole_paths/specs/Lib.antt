@@ -146,3 +146,4 @@ pub mod OpenFirst
 pub mod SharpPaths
 pub mod SynsSoon
 pub mod FirstPiecesSoon
+pub mod AnswersSoon

@@ -3,6 +3,7 @@ ghost use Rattle.path_core.specs.Octets.{octets};
 ghost use Rattle.path_core.specs.Values.{values};
 ghost use Rattle.whole_paths.specs.AckedData.{FourRoundsAcknowledge, PositionsAreAckedAsBytes};
 ghost use Rattle.whole_paths.specs.AnswerWaits.{AnswersAreAwaitedAlways};
+ghost use Rattle.whole_paths.specs.AnswersSoon.{EachSynAckIsAnsweredSoon};
 ghost use Rattle.whole_paths.specs.AskStages.{OpenAsksAreAnswered};
 ghost use Rattle.whole_paths.specs.AwaitedThere.{WhatIsAwaitedIsThere};
 ghost use Rattle.whole_paths.specs.Clear.{BIsClearFirst, BIsIdleBefore, BSendsNothingBefore, NothingComesBefore, TheFirstPieceWaits};
@@ -567,6 +568,14 @@ pub fn whole_paths_deliver()
 /// wait for it that `each_syn_comes` speaks of ends 400 ticks later, twice the longest delay.
 pub fn each_syn_comes_soon()
     ensures { EachSynComesSoon }
+{}
+
+/// A law: an answer of A's to the SYN/ACK of a half-open B is harmed, or comes within 400 ticks (RFC 9293, section 3.10.7.4).
+///
+/// By each turn of a mild connection in which the link takes a segment of A's that acknowledges B's SYN and nothing more, while A is past the handshake:
+/// it is harmed, or the wait for it that `each_syn_ack_is_answered` speaks of ends 400 ticks later, twice the longest delay.
+pub fn each_syn_ack_is_answered_soon()
+    ensures { EachSynAckIsAnsweredSoon }
 {}
 
 /// A law: A's first piece that is sent with both keys is harmed, or comes within 400 ticks (RFC 8684, section 3.1).

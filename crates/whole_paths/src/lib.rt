@@ -42,6 +42,7 @@ pub use delivery_laws::each_first_piece_comes_soon;
 pub use delivery_laws::each_first_sign_comes;
 pub use delivery_laws::each_record_stays_well;
 pub use delivery_laws::each_round_writes_and_reads;
+pub use delivery_laws::each_syn_ack_is_answered_soon;
 pub use delivery_laws::each_syn_comes_soon;
 pub use delivery_laws::each_window_has_room;
 pub use delivery_laws::fins_are_last;
