@@ -9,7 +9,7 @@ use Rattle.path_segments.specs.Laws.{meant}
 use Rattle.path_segments.specs.Spelled.{PlainSegment}
 use Rattle.path_segments.specs.declared.position.HeardPosition.TheVariants.{At}
 use Rattle.sides.specs.declared.side.Side.{Side}
-use Rattle.sides.specs.declared.side.Side.TheVariants.{A}
+use Rattle.sides.specs.declared.side.Side.TheVariants.{A, B}
 use Rattle.sides.specs.Side.{peer}
 use Rattle.link_script.specs.Places.{same_side}
 use Rattle.link_model.specs.declared.flight.Flight.{Flight}
@@ -48,7 +48,8 @@ use Rattle.whole_paths.specs.LastFin.{FinIsLast}
 use Rattle.whole_paths.specs.Mending.{IsSentSoon, LeavesRoomFor}
 use Rattle.whole_paths.specs.Mild.{IsMildStart}
 use Rattle.whole_paths.specs.News.{one_if}
-use Rattle.whole_paths.specs.OpenCourses.{IsOpenNow}
+use Rattle.whole_paths.specs.OpenCourses.{IsNow}
+use Rattle.whole_paths.specs.Straying.{IsOpenFrom}
 use Rattle.whole_paths.specs.Saying.{HandsOver, PathsHandOver, SaysWhatCame}
 use Rattle.whole_paths.proofs.Arrivals.{sender_of, taken_so}
 use Rattle.whole_paths.proofs.Exchanges.{Known, SameHeader, below_limit, changed_said, under_way}
@@ -73,7 +74,8 @@ never_event ds others p x is sends = (let none : first_sends ds p ≡ None = ap 
 
 -- ---- a turn between open ends
 
-module _ (start : Start) (mild : IsMildStart start) (turns : List Turn) (turn : Turn) (before : IsOpenNow (reached values start turns)) (after : IsOpenNow (after_turn values turn (reached values start turns))) (s : Side) where
+module _ (start : Start) (mild : IsMildStart start) (turns : List Turn) (turn : Turn) (before : IsNow (IsOpenFrom B) (reached values start turns)) (after : IsNow (IsOpenFrom B) (after_turn values turn (reached values start turns)))
+    (s : Side) where
   abbrev w : WorldState Carried
   w = reached values start turns
 
@@ -102,7 +104,7 @@ module _ (start : Start) (mild : IsMildStart start) (turns : List Turn) (turn : 
   edge_later = edge_up start mild turns turn before after s
 
   says : SaysSoon s p q
-  says = says_soon start mild turns turn before after s
+  says = says_soon start mild turns turn before after before.is_open after.is_open s
 
   -- what a copy acknowledges was sent
   acked_sent : (f : Flight Carried) (n : ℕ) → IsUnderWay f p → f.to ≡ s → f.carried.segment.rst ≡ false → f.carried.segment.acknowledged ≡ Some n → n ≤ (end_at s p).tcp.send.nxt
@@ -313,4 +315,4 @@ module _ (start : Start) (mild : IsMildStart start) (turns : List Turn) (turn : 
 
 pub bare_segments_are_taken : BareSegmentsAreTaken
 bare_segments_are_taken start turns turn h s =
-    subst (λ (u : WorldState Carried). (a : IsOpenNow u) → BareSegmentsGoOn s h.before.path a.path) (sym (last start h.mild turns turn)) (λ a. bare_go_on start h.mild turns turn h.before a s) h.after
+    subst (λ (u : WorldState Carried). (a : IsNow (IsOpenFrom B) u) → BareSegmentsGoOn s h.before.path a.path) (sym (last start h.mild turns turn)) (λ a. bare_go_on start h.mild turns turn h.before a s) h.after

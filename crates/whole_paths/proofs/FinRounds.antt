@@ -21,6 +21,7 @@ use Rattle.whole_paths.specs.OnePathScripts.{BeginsWithOnePath}
 use Rattle.whole_paths.specs.SegmentRounds.{Rounds}
 use Rattle.whole_paths.proofs.ClosingKnown.{who_heard_the_end_knows_it}
 use Rattle.whole_paths.proofs.FinsComing.{data_fins_come_soon}
+use Rattle.whole_paths.proofs.OpenTurns.{begun}
 use Rattle.whole_paths.proofs.RoundSteps.{Between, between, carried, early, none_comes, over_after, rounds_later, silent}
 
 -- where the turn is over a DATA_FIN that was heard came
@@ -44,7 +45,7 @@ module _ (start : Start) (plan : PathPlan) (x : BeginsWithOnePath start plan) (v
   Comes = FinIsTold s position (p.clock + 400)
 
   told_then : Comes p → Comes q
-  told_then h = carried start Comes (λ turns turn before after. (data_fins_come_soon start turns turn (record { mild = x.mild; before = before; after = after }) s).comes position (p.clock + 400))
+  told_then h = carried start Comes (λ turns turn before after. (data_fins_come_soon start turns turn (begun start turns turn (record { mild = x.mild; before = before; after = after })) s).comes position (p.clock + 400))
       v on_the_way.more on_the_way.stays_open p q here (subst (λ t. IsPathAt 0 (at t) q) on_the_way.is there) h
 
   knows : IsFinHeard (peer s) q → EndIsKnown start s u

@@ -5,7 +5,7 @@ use Rattle.path_segments.specs.Heard.{HeardSegment}
 use Rattle.path_segments.specs.Spelled.{PlainSegment}
 use Rattle.path_segments.specs.declared.segment.PathOption.TheVariants.{Dss}
 use Rattle.sides.specs.declared.side.Side.{Side}
-use Rattle.sides.specs.declared.side.Side.TheVariants.{A, B}
+use Rattle.sides.specs.declared.side.Side.TheVariants.{B}
 use Rattle.sides.specs.Side.{peer}
 use Rattle.link_model.specs.Steps.{changed}
 use Rattle.link_model.specs.declared.flight.Due.{Due}
@@ -41,7 +41,8 @@ use Rattle.whole_paths.specs.FinsComing.FinIsTold.{heard, comes, behind}
 use Rattle.whole_paths.specs.Mending.{LeavesRoomFor}
 use Rattle.whole_paths.specs.Mild.{IsMildStart}
 use Rattle.whole_paths.specs.OnePathScripts.{BeginsWithOnePath}
-use Rattle.whole_paths.specs.OpenCourses.{IsOpenNow}
+use Rattle.whole_paths.specs.OpenCourses.{IsNow}
+use Rattle.whole_paths.specs.Straying.{IsOpenFrom}
 use Rattle.whole_paths.proofs.Arrivals.{sender_of}
 use Rattle.whole_paths.proofs.BareSegments.{bare_go_on}
 use Rattle.whole_paths.proofs.Closing.{each_data_fin_counts, each_data_fin_is_said}
@@ -49,7 +50,7 @@ use Rattle.whole_paths.proofs.Exchanges.{Known}
 use Rattle.whole_paths.proofs.FinsSent.{FinGoesNext, FinsGoNext, fins_go_next}
 use Rattle.whole_paths.proofs.RecordWaits.{last, nxt_up}
 use Rattle.whole_paths.proofs.WindowRoom.{each_window_has_room}
-use Rattle.whole_paths.proofs.RecordsWell.{by_turn, clock, from_q, keys_q, known, mapped_p, mapped_q, unbroken_q}
+use Rattle.whole_paths.proofs.RecordsWell.{by_turn, clock, keyless, known, mapped_p, mapped_q, unbroken_q}
 use Rattle.whole_paths.proofs.Straying.{never_resets}
 
 -- ---- a segment
@@ -59,7 +60,8 @@ some_of : {X : Type 0} (o : Option X) → is_some o ≡ true → (x : X) × (o �
 some_of None is = absurd (true≢false (sym is))
 some_of (Some x) is = (x, refl)
 
-module _ (start : Start) (mild : IsMildStart start) (turns : List Turn) (turn : Turn) (before : IsOpenNow (reached values start turns)) (after : IsOpenNow (after_turn values turn (reached values start turns))) (s : Side) where
+module _ (start : Start) (mild : IsMildStart start) (turns : List Turn) (turn : Turn) (before : IsNow (IsOpenFrom B) (reached values start turns)) (after : IsNow (IsOpenFrom B) (after_turn values turn (reached values start turns)))
+    (s : Side) where
   abbrev w : WorldState Carried
   w = reached values start turns
 
@@ -84,16 +86,12 @@ module _ (start : Start) (mild : IsMildStart start) (turns : List Turn) (turn : 
   stood : FirstStands p.agenda p
   stood = (subst MemberUpright before.here.is ((each_upright start turns mild.plain mild.strips).each 2 before.here.crew before.here.there)).passes.settled
 
-  keyless : (x : Side) → (end_at x q).modes.peer_key ≡ None → ⊥
-  keyless A none = both_ways (is_some q.a.modes.peer_key) (ap is_some none) (from_q start mild turns turn before after).keyed
-  keyless B none = both_ways (is_some q.b.modes.peer_key) (ap is_some none) ((keys_q start mild turns turn before after).b (after.is_open.clear B))
-
   fin_goes : FinGoesOn t q → IsFinHeard t q
   fin_goes (fins.on is) = is
   fin_goes (fins.gone dead) = absurd (both_ways (is_dead (end_at t q).tcp.state) (after.is_open.living t) dead)
-  fin_goes (fins.reset is) = absurd (never_resets q (unbroken_q start mild turns turn before after) t is)
+  fin_goes (fins.reset is) = absurd (never_resets q (unbroken_q start mild turns turn before after after.is_open.first) t is)
   fin_goes (fins.plain is) = absurd (both_ways (end_at t q).modes.identity ((mapped_q start mild turns turn before after) t).identity is)
-  fin_goes (fins.unkeyed none) = absurd (keyless t none)
+  fin_goes (fins.unkeyed none) = absurd (keyless start mild turns turn before after before.is_open after.is_open s t none)
 
   -- ---- one under way
 
@@ -149,15 +147,15 @@ module _ (start : Start) (mild : IsMildStart start) (turns : List Turn) (turn : 
     due : is_data_fin_due e ≡ true
     due = subst (λ (ds : List Duty). FirstStands ds p) first stood
 
-    ended : is_some e.sending.known_end ≡ true
-    ended =
+    fair : (e.modes.clear ≡ true) × (is_some e.sending.known_end ≡ true)
+    fair =
         let mapped = and_parts (may_finish e.tcp.state) (not (sends_plainly e.modes) && (e.modes.clear && (is_some e.sending.known_end && (not e.sending.fin_sent && not e.sending.close.own_acked)))) due in
         let clear = and_parts (not (sends_plainly e.modes)) (e.modes.clear && (is_some e.sending.known_end && (not e.sending.fin_sent && not e.sending.close.own_acked))) mapped.1 in
         let known = and_parts e.modes.clear (is_some e.sending.known_end && (not e.sending.fin_sent && not e.sending.close.own_acked)) clear.1 in
-        (and_parts (is_some e.sending.known_end) (not e.sending.fin_sent && not e.sending.close.own_acked) known.1).0
+        (known.0, (and_parts (is_some e.sending.known_end) (not e.sending.fin_sent && not e.sending.close.own_acked) known.1).0)
 
     the_end : (place : ℕ) × (e.sending.known_end ≡ Some place)
-    the_end = some_of e.sending.known_end ended
+    the_end = some_of e.sending.known_end fair.1
 
     abbrev place : ℕ
     place = the_end.0
@@ -165,7 +163,7 @@ module _ (start : Start) (mild : IsMildStart start) (turns : List Turn) (turn : 
     options : sent.options ≡ Dss (Some e.receiving.next) (data_fin_mapping p.profile s (Some place)) ∷ []
     options =
         ap (λ b. if b then [] else (if e.modes.clear then Dss (Some e.receiving.next) (data_fin_mapping p.profile s e.sending.known_end) ∷ fail_beside e.sending.known_end e.modes else opening_options p.profile s e)) ((mapped_p start mild turns turn before after) s).identity
-        ∙ ap (λ b. if b then Dss (Some e.receiving.next) (data_fin_mapping p.profile s e.sending.known_end) ∷ fail_beside e.sending.known_end e.modes else opening_options p.profile s e) (before.is_open.clear s)
+        ∙ ap (λ b. if b then Dss (Some e.receiving.next) (data_fin_mapping p.profile s e.sending.known_end) ∷ fail_beside e.sending.known_end e.modes else opening_options p.profile s e) fair.0
         ∙ ap (λ (fin : Option ℕ). Dss (Some e.receiving.next) (data_fin_mapping p.profile s fin) ∷ fail_beside fin e.modes) the_end.1
 
     is_bare : IsBareFrom (peer t) p sent
@@ -224,7 +222,8 @@ told_later s position by later p up (comes h) = comes (record {
 
 -- ---- over one path
 
-module _ (start : Start) (plan : PathPlan) (one : BeginsWithOnePath start plan) (turns : List Turn) (turn : Turn) (before : IsOpenNow (reached values start turns)) (after : IsOpenNow (after_turn values turn (reached values start turns))) (s : Side) where
+module _ (start : Start) (plan : PathPlan) (one : BeginsWithOnePath start plan) (turns : List Turn) (turn : Turn) (before : IsNow (IsOpenFrom B) (reached values start turns)) (after : IsNow (IsOpenFrom B) (after_turn values turn (reached values start turns)))
+    (s : Side) where
   abbrev from : PathState Carried
   from = before.path
 
@@ -258,9 +257,9 @@ module _ (start : Start) (plan : PathPlan) (one : BeginsWithOnePath start plan) 
 
 pub data_fins_come_soon : DataFinsComeSoon
 data_fins_come_soon start turns turn h s =
-    subst (λ (u : WorldState Carried). (a : IsOpenNow u) → FinsGoOn s h.before.path a.path) (sym (last start h.mild turns turn)) (λ a. fins_go_on start h.mild turns turn h.before a s) h.after
+    subst (λ (u : WorldState Carried). (a : IsNow (IsOpenFrom B) u) → FinsGoOn s h.before.path a.path) (sym (last start h.mild turns turn)) (λ a. fins_go_on start h.mild turns turn h.before a s) h.after
 
 pub data_fins_stay_soon : DataFinsStaySoon
 data_fins_stay_soon start plan turns turn one h s =
-    subst (λ (u : WorldState Carried). (a : IsOpenNow u) → FinIsSoon s h.before.path → (is_harmed s h.before.path a.path ≡ true) ⊎ FinIsSoon s a.path) (sym (last start h.mild turns turn))
+    subst (λ (u : WorldState Carried). (a : IsNow (IsOpenFrom B) u) → FinIsSoon s h.before.path → (is_harmed s h.before.path a.path ≡ true) ⊎ FinIsSoon s a.path) (sym (last start h.mild turns turn))
     (λ a. stays_soon start plan one turns turn h.before a s) h.after

@@ -91,7 +91,9 @@ pub mod OpeningSyns
 pub mod NeverUnmapped
 pub mod News
 pub mod NewsBounds
+pub mod NumbersAgree
 pub mod Offered
+pub mod OpenQuiet
 pub mod OnePath
 pub mod OnlyBooks
 pub mod OctetsPassed
@@ -240,3 +242,6 @@ pub mod DirectionsMended
 pub mod CutRecords
 pub mod OpenFirst
 pub mod SharpPaths
+pub mod SynsSoon
+pub mod FirstPiecesSoon
+pub mod AnswersSoon

@@ -12,13 +12,14 @@ use Rattle.whole_paths.specs.Courses.{harmed_so_far}
 use Rattle.whole_paths.specs.Debts.{OwesOn}
 use Rattle.whole_paths.specs.Finish.{is_harmed}
 use Rattle.whole_paths.specs.FinsComing.{FinIsSoon}
-use Rattle.whole_paths.specs.Mending.{IsOpenTurn}
+use Rattle.whole_paths.specs.Mending.{IsBegunTurn}
 use Rattle.whole_paths.specs.News.{one_if}
 use Rattle.whole_paths.specs.OneDebt.{FinDebtsGoOn, HoldsButForHarms, OneDebtGoesOn, OwesOne}
 use Rattle.whole_paths.specs.OnePathScripts.{BeginsWithOnePath}
 use Rattle.whole_paths.specs.OpenCourses.{IsOpenAfter}
 use Rattle.whole_paths.proofs.Directions.{harms_so}
 use Rattle.whole_paths.proofs.FinsComing.{data_fins_stay_soon}
+use Rattle.whole_paths.proofs.OpenTurns.{begun}
 use Rattle.whole_paths.proofs.RecordWaits.{path_is}
 
 module _ (start : Start) (plan : PathPlan) (most : ℕ) (one : BeginsWithOnePath start plan) (Holds : PathState Carried → Type 0) (stays : HoldsButForHarms start Holds) where
@@ -28,11 +29,11 @@ module _ (start : Start) (plan : PathPlan) (most : ℕ) (one : BeginsWithOnePath
   owes_then : (turns : List Turn) (turn : Turn) (debts : ℕ) → IsOpenAfter start turns → IsOpenAfter start (turns ++ turn ∷ []) → OwesOne start Holds debts turns → On debts turns (turns ++ turn ∷ [])
   owes_then turns turn debts before after h = ⊎_elim holds owed h.owing
     where
-      open_turn : IsOpenTurn start turns turn
-      open_turn = record { mild = one.mild; before = before; after = after }
+      begun_turn : IsBegunTurn start turns turn
+      begun_turn = begun start turns turn (record { mild = one.mild; before = before; after = after })
 
       harms : (s : Side) → harmed_so_far values start (turns ++ turn ∷ []) ≡ harmed_so_far values start turns + (one_if (is_harmed s before.path after.path) + one_if (is_harmed (peer s) before.path after.path))
-      harms s = harms_so start plan one turns turn open_turn s
+      harms s = harms_so start plan one turns turn begun_turn s
 
       up : harmed_so_far values start turns ≤ harmed_so_far values start (turns ++ turn ∷ [])
       up = let is = harms A in omega (arith, is)
@@ -51,7 +52,7 @@ module _ (start : Start) (plan : PathPlan) (most : ℕ) (one : BeginsWithOnePath
       }
 
       holds : Holds h.path → On debts turns (turns ++ turn ∷ [])
-      holds so = ⊎_elim (λ by. harmed by.0 by.1) (λ later. still later) (stays turns turn open_turn (subst Holds (path_is (reached values start turns) h.path before.path h.here before.here) so))
+      holds so = ⊎_elim (λ by. harmed by.0 by.1) (λ later. still later) (stays turns turn begun_turn (subst Holds (path_is (reached values start turns) h.path before.path h.here before.here) so))
 
   pub one_debt_goes_on : OneDebtGoesOn start plan most Holds
   one_debt_goes_on debts turns then_turns (inl step) h = subst (λ t. On debts turns t) (sym step.is) (owes_then turns (Turn.Step step.actor) debts step.before (subst (IsOpenAfter start) step.is step.after) h)

@@ -15,16 +15,16 @@ use Rattle.whole_paths.specs.Finish.{IsPathAt}
 use Rattle.whole_paths.specs.News.{one_if}
 use Rattle.whole_paths.specs.OnePathScripts.{BeginsWithOnePath}
 use Rattle.whole_paths.specs.Overruns.{StaysWithin}
-use Rattle.whole_paths.specs.Straying.{IsOpen}
+use Rattle.whole_paths.specs.Straying.{IsOpenFrom}
 use Rattle.whole_paths.specs.WindowRoom.{EachWindowHasRoom}
 use Rattle.whole_paths.proofs.Came.{what_is_acknowledged_came}
 use Rattle.whole_paths.proofs.Overruns.{no_end_overruns}
-use Rattle.whole_paths.proofs.SegmentRounds.{counts, if_may, of_path, unfinished}
+use Rattle.whole_paths.proofs.SegmentRounds.{counts, if_may_so, of_path, unfinished}
 
-module _ (start : Start) (plan : PathPlan) (turns : List Turn) (x : BeginsWithOnePath start plan) (p : PathState Carried) (here : IsPathAt 0 (reached values start turns) p) (opened : IsOpen p) where
+module _ (start : Start) (plan : PathPlan) (turns : List Turn) (x : BeginsWithOnePath start plan) (p : PathState Carried) (here : IsPathAt 0 (reached values start turns) p) (opened : IsOpenFrom B p) where
   -- what is sent has room at the peer
   has_room : (t : Side) → (end_at t p).tcp.send.nxt ≤ (end_at (peer t) p).tcp.recv.edge + 1048576
-  has_room t = if_may start plan x ((end_at t p).tcp.send.nxt ≤ (end_at (peer t) p).tcp.recv.edge + 1048576) turns p here opened t all_there unshut
+  has_room t = if_may_so start plan x ((end_at t p).tcp.send.nxt ≤ (end_at (peer t) p).tcp.recv.edge + 1048576) turns p here t (opened.past t) (opened.living t) all_there unshut
     where
       all_there : IsAllThere t (reached values start turns) → (end_at t p).tcp.send.nxt ≤ (end_at (peer t) p).tcp.recv.edge + 1048576
       all_there all =

@@ -16,7 +16,7 @@ use Rattle.world_laws.specs.Worlds.{Turn}
 use Rattle.whole_paths.specs.Brought.{Brings}
 use Rattle.whole_paths.specs.Copies.{IsUnderWay}
 use Rattle.whole_paths.specs.Finish.{is_harmed}
-use Rattle.whole_paths.specs.Mending.{IsOpenTurn, IsSentSoon, LeavesRoomFor}
+use Rattle.whole_paths.specs.Mending.{IsBegunTurn, IsSentSoon, LeavesRoomFor}
 use Rattle.whole_paths.specs.News.{one_if}
 
 -- a segment of no octets goes to this side, where nothing stands past its position
@@ -72,6 +72,6 @@ pub record BareSegmentsGoOn (s : Side) (p q : PathState Carried) : Type 0 where
   pub sent : LeavesRoomFor s p → IfSome (first_sends p.agenda p) (λ x. x.from ≡ peer s → IsBareFrom (peer s) p (segment_sent p x)
       → (q ≡ p) ⊎ ((is_harmed (peer s) p q ≡ true) ⊎ BareIsSent s (segment_sent p x) p q))
 
--- by each turn of a mild connection between open ends
+-- by each turn of a mild connection between ends past the handshake, of which B's may send a DSS
 abbrev pub BareSegmentsAreTaken : Type 0
-BareSegmentsAreTaken = (start : Start) (turns : List Turn) (turn : Turn) (h : IsOpenTurn start turns turn) (s : Side) → BareSegmentsGoOn s h.before.path h.after.path
+BareSegmentsAreTaken = (start : Start) (turns : List Turn) (turn : Turn) (h : IsBegunTurn start turns turn) (s : Side) → BareSegmentsGoOn s h.before.path h.after.path

@@ -18,7 +18,7 @@ use Rattle.whole_paths.specs.Closing.{IsFinHeard}
 use Rattle.whole_paths.specs.Copies.{IsUnderWay}
 use Rattle.whole_paths.specs.EndRounds.{EndIsKnown}
 use Rattle.whole_paths.specs.Finish.{IsPathAt, is_harmed}
-use Rattle.whole_paths.specs.Mending.{IsOpenTurn, LeavesRoomFor}
+use Rattle.whole_paths.specs.Mending.{IsBegunTurn, LeavesRoomFor}
 use Rattle.whole_paths.specs.OnePathScripts.{BeginsWithOnePath}
 use Rattle.whole_paths.specs.SegmentRounds.{Rounds}
 
@@ -50,9 +50,9 @@ pub record FinsGoOn (s : Side) (p q : PathState Carried) : Type 0 where
   pub sent : LeavesRoomFor (peer s) p → (others : List Duty) → p.agenda ≡ duties.Send (send_duties.DataFin s) ∷ others
       → (q ≡ p) ⊎ ((is_harmed s p q ≡ true) ⊎ FinComesBy s (end_at s p).tcp.send.nxt (p.clock + 400) q)
 
--- by each turn of a mild connection between open ends
+-- by each turn of a mild connection between ends past the handshake, of which B's may send a DSS
 abbrev pub DataFinsComeSoon : Type 0
-DataFinsComeSoon = (start : Start) (turns : List Turn) (turn : Turn) (h : IsOpenTurn start turns turn) (s : Side) → FinsGoOn s h.before.path h.after.path
+DataFinsComeSoon = (start : Start) (turns : List Turn) (turn : Turn) (h : IsBegunTurn start turns turn) (s : Side) → FinsGoOn s h.before.path h.after.path
 
 -- it wasn't sent yet, or is told so within 400 ticks
 pub data FinIsSoon (s : Side) (p : PathState Carried) : Type 0 where
@@ -62,7 +62,7 @@ pub data FinIsSoon (s : Side) (p : PathState Carried) : Type 0 where
 -- So it stays by each turn without a harm, over one path.
 abbrev pub DataFinsStaySoon : Type 0
 DataFinsStaySoon = (start : Start) (plan : PathPlan) (turns : List Turn) (turn : Turn) → BeginsWithOnePath start plan
-    → (h : IsOpenTurn start turns turn) (s : Side) → FinIsSoon s h.before.path → (is_harmed s h.before.path h.after.path ≡ true) ⊎ FinIsSoon s h.after.path
+    → (h : IsBegunTurn start turns turn) (s : Side) → FinIsSoon s h.before.path → (is_harmed s h.before.path h.after.path ≡ true) ⊎ FinIsSoon s h.after.path
 
 -- In four rounds the peer's side knows where a stream ends whose DATA_FIN was told so; or more is sent behind it.
 abbrev pub FourRoundsEnd : Type 0

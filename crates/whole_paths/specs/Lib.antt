@@ -147,3 +147,6 @@ pub mod DirectionWaits
 pub mod CutRecords
 pub mod OpenFirst
 pub mod SharpPaths
+pub mod SynsSoon
+pub mod FirstPiecesSoon
+pub mod AnswersSoon

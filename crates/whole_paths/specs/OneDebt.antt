@@ -9,7 +9,7 @@ use Rattle.world_laws.specs.Worlds.{Turn}
 use Rattle.whole_paths.specs.Debts.{Beginning, OwesOn, Stepping}
 use Rattle.whole_paths.specs.Finish.{IsPathAt, is_harmed}
 use Rattle.whole_paths.specs.FinsComing.{FinIsSoon}
-use Rattle.whole_paths.specs.Mending.{IsOpenTurn}
+use Rattle.whole_paths.specs.Mending.{IsBegunTurn}
 use Rattle.whole_paths.specs.OnePathScripts.{BeginsWithOnePath}
 
 module _ (start : Start) (Holds : PathState Carried → Type 0) where
@@ -19,9 +19,9 @@ module _ (start : Start) (Holds : PathState Carried → Type 0) where
     pub here : IsPathAt 0 (reached values start turns) path
     pub owing : Holds path ⊎ (1 ≤ debts)
 
-  -- between open ends it goes on to, but for a harm
+  -- it goes on to by each turn, but for a harm, from when B's end may send a DSS
   abbrev pub HoldsButForHarms : Type 0
-  HoldsButForHarms = (turns : List Turn) (turn : Turn) (h : IsOpenTurn start turns turn) → Holds h.before.path
+  HoldsButForHarms = (turns : List Turn) (turn : Turn) (h : IsBegunTurn start turns turn) → Holds h.before.path
       → ((s : Side) × (is_harmed s h.before.path h.after.path ≡ true)) ⊎ Holds h.after.path
 
 -- so such a debt goes on: a harm makes one more at most

@@ -1,6 +1,7 @@
 -- The window that an end last offered has room for all that its peer sent.
 use Rattle.std.specs.Prelude.{List}
 use Rattle.sides.specs.declared.side.Side.{Side}
+use Rattle.sides.specs.declared.side.Side.TheVariants.{B}
 use Rattle.path_core.specs.State.{PathState}
 use Rattle.path_core.specs.Values.{Carried, values}
 use Rattle.world_laws.specs.Openings.{PathPlan, Start}
@@ -9,10 +10,10 @@ use Rattle.world_laws.specs.Worlds.{Turn}
 use Rattle.whole_paths.specs.Finish.{IsPathAt}
 use Rattle.whole_paths.specs.Mending.{LeavesRoomFor}
 use Rattle.whole_paths.specs.OnePathScripts.{BeginsWithOnePath}
-use Rattle.whole_paths.specs.Straying.{IsOpen}
+use Rattle.whole_paths.specs.Straying.{IsOpenFrom}
 
--- Between open ends of the only path of a mild connection SND.NXT of either lies 2^20 positions past RCV.NXT of its peer at most: a bare
--- acknowledgement, which goes at SND.NXT, stands in the window or just past it (RFC 9293, section 3.10.7.4).
+-- Between ends of the only path of a mild connection that are past the handshake, B's of which may send a DSS, SND.NXT of either lies 2^20 positions
+-- past RCV.NXT of its peer at most: a bare acknowledgement, which goes at SND.NXT, stands in the window or just past it (RFC 9293, section 3.10.7.4).
 abbrev pub EachWindowHasRoom : Type 0
 EachWindowHasRoom = (start : Start) (plan : PathPlan) (turns : List Turn) → BeginsWithOnePath start plan
-    → (p : PathState Carried) → IsPathAt 0 (reached values start turns) p → IsOpen p → (s : Side) → LeavesRoomFor s p
+    → (p : PathState Carried) → IsPathAt 0 (reached values start turns) p → IsOpenFrom B p → (s : Side) → LeavesRoomFor s p
