@@ -27,6 +27,8 @@ mod KeyDuties
 mod KeyHears
 mod KeyRuns
 mod KeyedPieces
+mod KeysSaid
+mod KeysShown
 mod KnownKeys
 mod LateJoins
 mod Learning
