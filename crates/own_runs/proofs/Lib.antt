@@ -1,11 +1,14 @@
 mod AckPositions
 mod Acking
 mod Acknowledged
+mod AnswersAsked
+mod AnswersShow
 mod Bearing
 mod Begun
 mod CameSent
 mod Carrying
 mod Counted
+mod DutiesFew
 mod EndMarks
 mod EndPaths
 mod EndRuns
