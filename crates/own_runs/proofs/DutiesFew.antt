@@ -31,9 +31,13 @@ use Rattle.path_store.specs.Passing.{Piece}
 use Rattle.sides.specs.declared.side.Side.TheVariants.{A, B}
 use Rattle.sides.specs.declared.side.Side.{Side}
 use Rattle.subflow_send.specs.Records.{Record}
-use Rattle.own_runs.proofs.KeyDuties.{is_events}
 use Rattle.world_laws.proofs.Falls.FailedChecks.{fail_answered_so}
 use Rattle.world_laws.proofs.Falls.Verdicts.{fell_cases}
+
+-- an event is taken
+abbrev pub is_events : StepDuty → Bool
+is_events StepDuty.Events = true
+is_events _ = false
 
 -- these come by an event alone
 abbrev pub is_rare : Duty → Bool

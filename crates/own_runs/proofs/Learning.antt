@@ -59,7 +59,8 @@ use Rattle.world_laws.proofs.Writes.Paths.{passes_no_more, writes_no_more}
 use Rattle.world_laws.proofs.Writes.Steps.{both_ends, unwritten}
 use Rattle.world_laws.specs.Writes.{EndView, EndWrites, Only, OnlyAt, PathView, Writes, copy_said, side_of, writes}
 pub use Rattle.own_runs.specs.KeysShown.{shows_key}
-use Rattle.own_runs.proofs.KeyDuties.{answer_calm, ask_calm, dead_calm, failing_calm, fell_calm, is_events, leave_calm, leaves_calm, left_calm, refuse_calm, resets_calm, stopped_calm, told_calm}
+use Rattle.own_runs.proofs.DutiesFew.{is_events}
+use Rattle.own_runs.proofs.KeyDuties.{answer_calm, ask_calm, dead_calm, failing_calm, fell_calm, leave_calm, leaves_calm, left_calm, refuse_calm, resets_calm, stopped_calm, told_calm}
 use Rattle.own_runs.proofs.Speaking.{ToSend}
 
 -- ---- ends and segments
