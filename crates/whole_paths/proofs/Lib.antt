@@ -215,3 +215,11 @@ pub mod FirstSigns
 pub mod SignWaits
 pub mod OpeningCourses
 pub mod OpeningEnds
+pub mod EdgeRises
+pub mod TimerReasons
+pub mod SynReplies
+pub mod DataFinsClear
+pub mod RoomLeft
+pub mod ExpiryMeanings
+pub mod ExpiryResends
+pub mod ExpiryAnswers

@@ -1,21 +1,26 @@
 -- What few losses come to over one path: both files are delivered.
-use Rattle.std.specs.Prelude.{ℕ, ◌+◌, ◌*◌, ◌≡◌, ◌<◌, ◌≤◌, List}
+use Rattle.std.specs.Prelude.{ℕ, ◌≡◌, ◌≤◌, List}
 use Rattle.link_script.specs.declared.script.PathLine.{PathLine}
 use Rattle.link_script.specs.declared.script.Script.{Script}
-use Rattle.path_core.specs.Values.{values}
+use Rattle.path_core.specs.Codec.{Codec}
 use Rattle.world_laws.specs.declared.outcome.Outcome.TheVariants.{Delivered}
-use Rattle.world_laws.specs.Openings.{opened_world, start_of}
+use Rattle.world_laws.specs.Openings.{Start, start_of}
 use Rattle.world_laws.specs.Outcomes.{outcome_of}
-use Rattle.world_laws.specs.RoundDone.{reached}
 use Rattle.world_laws.specs.Worlds.{Turn, AreLawful}
+use Rattle.whole_paths.specs.ExpiryMeanings.{NeverShutBefore}
 use Rattle.whole_paths.specs.FewLossesEnd.{HarmsNoEnd}
-use Rattle.whole_paths.specs.Finish.{IsBrief, harmed, rounds_in}
-use Rattle.whole_paths.specs.OnePathScripts.{Allowance}
+use Rattle.whole_paths.specs.Finish.{IsBrief, IsEnough, Patience, harmed, opened, rounds_in, run_of}
 use Rattle.whole_paths.specs.OpeningCourses.{AlwaysOpensFirmly}
 
--- With four harmed segments at most both files are delivered after rounds enough, of fewer than 2^64 - 1 turns, where the ends open firmly, and no
+-- the ends open firmly, and A's end knows of no window that is shut before B's has its answer
+pub record OpensWell (start : Start) : Type 0 where
+  pub firm : AlwaysOpensFirmly start
+  pub unshut : NeverShutBefore start
+
+-- With four harmed segments at most both files are delivered as soon as so many rounds of a brief run have ended, where the ends open well, and no
 -- line lets the path die or takes its address back.
-abbrev pub BriefFewLossesFinish : Allowance → Type 0
-BriefFewLossesFinish enough = (script : Script) (path : PathLine) (file_a file_b : List ℕ) (turns : List Turn) → HarmsNoEnd script path file_a file_b
-    → let start = start_of script file_a file_b in AlwaysOpensFirmly start → AreLawful values turns (opened_world start) → IsBrief script turns
-    → harmed values 0 turns (opened_world start) ≤ 4 → 2 * enough start 4 + 500 < 100 * rounds_in turns → outcome_of (reached values start turns).crew ≡ Delivered
+abbrev pub BriefFewLossesFinish : {C : Type 0} → Codec C → Patience → Type 0
+BriefFewLossesFinish k enough = (script : Script) (path : PathLine) (file_a file_b : List ℕ) (turns : List Turn) → HarmsNoEnd script path file_a file_b
+    → IsBrief script turns → OpensWell (start_of script file_a file_b) → AreLawful k turns (opened script file_a file_b)
+    → harmed k 0 turns (opened script file_a file_b) ≤ 4 → IsEnough k enough script path file_a file_b turns (rounds_in turns)
+    → outcome_of (run_of k script file_a file_b turns).crew ≡ Delivered

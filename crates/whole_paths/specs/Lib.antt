@@ -134,3 +134,6 @@ pub mod FirstSigns
 pub mod SignWaits
 pub mod OpeningCourses
 pub mod UnaSaid
+pub mod EdgeRises
+pub mod ExpiryMeanings
+pub mod RoomLeft

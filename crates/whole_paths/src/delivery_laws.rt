@@ -7,8 +7,11 @@ ghost use Rattle.whole_paths.specs.AwaitedThere.{WhatIsAwaitedIsThere};
 ghost use Rattle.whole_paths.specs.DataLeft.{WhatIsLeftIsData};
 ghost use Rattle.whole_paths.specs.Deliveries.{WhoIsToldHasAll};
 ghost use Rattle.whole_paths.specs.Delivery.{WhatIsFinishedIsThere, WhatIsThereIsDelivered, WhatIsThereStays};
+ghost use Rattle.whole_paths.specs.EdgeRises.{EachRiseEndsTheRow, EdgesWaitForTheHandshake};
 ghost use Rattle.whole_paths.specs.EndRounds.{AnEndIsTold};
 ghost use Rattle.whole_paths.specs.EndedStreams.{WhatEndedIsAcknowledged};
+ghost use Rattle.whole_paths.specs.FewLossesDeliver.{BriefFewLossesFinish, OpensWell};
+ghost use Rattle.whole_paths.specs.FewLossesEnd.{BriefLossesEndNone};
 ghost use Rattle.whole_paths.specs.Finish.{HarmsUseLines, BriefPathsDeliver};
 ghost use Rattle.whole_paths.specs.FirstLost.{LostRecordsAreAwaited, LostRecordsAreMended};
 ghost use Rattle.whole_paths.specs.GoingOn.{RoundsBeginToGoOn, RoundsGoOn, StepsLetItGoOn, EndsGoOn};
@@ -36,6 +39,7 @@ ghost use Rattle.whole_paths.specs.Pushed.{WhatHasRoomIsSent, WhatIsUnsentWaitsF
 ghost use Rattle.whole_paths.specs.Received.{HoldsOfOnlyPaths};
 ghost use Rattle.whole_paths.specs.RecordWaits.{NoRoundCounts, RecordsAreAwaitedAlways};
 ghost use Rattle.whole_paths.specs.RisesOwed.{WhatRisesIsOwed};
+ghost use Rattle.whole_paths.specs.RoomLeft.{PeersLeaveRoom};
 ghost use Rattle.whole_paths.specs.SegmentRounds.{ASegmentIsRead, EachRoundReads, EachRoundWrites, FourRoundsBring, FourRoundsTell};
 ghost use Rattle.whole_paths.specs.ClearRounds.{EightRoundsClear, FourRoundsClear, LostRecordsAreFirst, LostRecordsStay, WhatIsReachedIsFirst};
 ghost use Rattle.whole_paths.specs.OctetsPassed.{AllComesUpToLost, OctetsArePassed, WellOctetsCome};
@@ -118,6 +122,33 @@ pub fn harmless_ends_die_of_expiries()
 /// By each turn it is owed still, or the link takes it at the same tick, or an end is dead.
 pub fn what_is_owed_goes()
     ensures { WhatIsOwedGoes }
+{}
+
+/// A law: RCV.NXT of an end of path 0 rises only behind a copy that the end took, so that its expiries in a row are over (RFC 6298, section 5), and
+/// its handshake is done (`row`). Until then nothing comes behind the peer's SYN, which is position 0 (`early`).
+pub fn each_rise_ends_the_row()
+    ensures row { EachRiseEndsTheRow }
+    ensures early { EdgesWaitForTheHandshake }
+{}
+
+/// A law: over the only path of a mild connection SND.NXT of an end lies within its peer's window of 2^20 positions, or just behind it, also once it
+/// sent its FIN (RFC 9293, section 3.8.6): by then all of its stream is there.
+pub fn peers_leave_room()
+    ensures { PeersLeaveRoom }
+{}
+
+/// A law: over one path four harmed segments let no end die, and both files are delivered, after rounds enough from the beginning of the connection.
+///
+/// It is said of mild scripts of one path without a line by which the path dies or its address is taken back (`die`, `remove` of id 0), of fewer than
+/// 2^64 - 1 turns, and where the ends open well: firmly (`firm_openings_deliver`), and A's end knows of no window that is shut while B's end is
+/// half-open. A segment is harmed where it is lost, or comes later than 400 ticks. The sixth expiry in a row ends an end; each of the five before
+/// it, but for the last one, stands for a harmed segment, since what the end sends again is answered within 800 ticks, and its timer waits for
+/// 1,000 at least (RFC 6298, section 2). Rounds enough are as many as in `firm_openings_deliver`, for the segments that are harmed.
+pub fn few_losses_finish()
+    ensures none_octets { BriefLossesEndNone octets OpensWell }
+    ensures none_values { BriefLossesEndNone values OpensWell }
+    ensures octets { BriefFewLossesFinish octets opening_patience }
+    ensures values { BriefFewLossesFinish values opening_patience }
 {}
 
 /// A law: in a mild connection over one path no send book is aborted, or given to one path alone, no reassembly book is aborted, and no reader
