@@ -9,6 +9,7 @@ use Rattle.subflow_tcp.specs.States.{may_finish}
 use Rattle.actor_desk.specs.declared.ask.Reply.{Reply}
 use Rattle.path_agenda.specs.declared.duty.Duty.{Duty}
 use Rattle.path_agenda.specs.declared.duty.Duty.TheVariants as duties
+use Rattle.path_agenda.specs.declared.duty.AskDuty.TheVariants as ask_duties
 use Rattle.path_agenda.specs.declared.duty.SendDuty.TheVariants as send_duties
 use Rattle.path_agenda.specs.declared.duty.SilentDuty.TheVariants as silent_duties
 use Rattle.path_agenda.specs.declared.duty.StepDuty.TheVariants as step_duties
@@ -46,6 +47,9 @@ sends_end _ = false
 
 own_unwritten : (d : Duty) → sends_end d ≡ false → (writes d).own.fin_sent ≡ false
 own_unwritten (duties.Send (send_duties.DataFin s)) none = absurd (true≢false none)
+own_unwritten (duties.Send (send_duties.Update s)) none = refl
+own_unwritten (duties.Ask (ask_duties.Window s)) none = refl
+own_unwritten (duties.Step step_duties.Events) none = refl
 own_unwritten (duties.Silent (silent_duties.Timer s)) none = refl
 own_unwritten _ none = refl
 

@@ -311,7 +311,7 @@ line_left t (actions.Announce s id) p = refl
 line_left t (actions.Withdraw s id) p = refl
 
 event_left : (t : Side) (o : Option Event) (r : Reply) (p : PathState Carried) → Left t (happens_if values o r p).agenda (happens_if values o r p)
-event_left t None r p is = absurd (true≢false (sym is))
+event_left t None r p = λ is. absurd (true≢false (sym is))
 event_left t (Some (happenings.Joins tick)) r p = by (is_never r)
   where
     y : PathState Carried
@@ -320,10 +320,10 @@ event_left t (Some (happenings.Joins tick)) r p = by (is_never r)
     by : (b : Bool) → let q = (if b then goes_on A (never_joined r y.a) (leaves A) y else goes_on A (opened_by (keys_begun r) y.a) (emission A) y) in Left t q.agenda q
     by true is = absurd (true≢false (sym is))
     by false is = absurd (true≢false (sym is))
-event_left t (Some (happenings.Takes line)) r p is = absurd (both_ways _ (line_left t line.action (record (at_tick line.tick p) { lines = tail_of p.lines })) is)
+event_left t (Some (happenings.Takes line)) r p = λ is. absurd (both_ways _ (line_left t line.action (record (at_tick line.tick p) { lines = tail_of p.lines })) is)
 event_left t (Some (happenings.Arrives due)) r p =
     copy_left t due.to (heard_in values due.to (arriving due p.link) p) (record (at_tick due.tick p) { link = after_delivery due p.link })
-event_left t (Some (happenings.Fires s tick)) r p is = absurd (fired (is_sixth (end_at s p).tcp) is)
+event_left t (Some (happenings.Fires s tick)) r p = λ is. absurd (fired (is_sixth (end_at s p).tcp) is)
   where
     fired : (b : Bool) → passes_in t (template_fired b s) ≡ true → ⊥
     fired true is = true≢false (sym is)
@@ -373,7 +373,7 @@ begins_step : (p : PathState Carried) (t : Side) → Stepped t p (begins_turn p)
 begins_step p t = let rest = settled_goes t start_of_turn (with_agenda start_of_turn p) (λ is. absurd (true≢false (sym is))) in record { stays = rest.goes.stays; left = rest.left }
 
 next_step : (p : PathState Carried) (t : Side) → Stepped t p (next_round p)
-next_step p t = begins_step (record p { clock = p.until; until = p.until + 100 }) t
+next_step p t = let begun = begins_step (record p { clock = p.until; until = p.until + 100 }) t in record { stays = begun.stays; left = begun.left }
 
 -- ---- path 0
 

@@ -68,7 +68,7 @@ use Rattle.whole_paths.proofs.Sent.{what_came_was_sent}
 use Rattle.whole_paths.proofs.SynReplies.{PathsAnswer, SynIsAnswered, each_syn_is_answered, syn_heard}
 use Rattle.whole_paths.proofs.Unbroken.{FirstKnown}
 
-comes_first : List Duty → Bool
+abbrev comes_first : List Duty → Bool
 comes_first [] = false
 comes_first (d ∷ ds) = is_event d
 
@@ -134,7 +134,7 @@ module _ (start : Start) (plan : PathPlan) (one : start.paths ≡ plan ∷ []) (
     opened_so : p.a.tcp.state ≡ phase.SynSent → (q ≡ p) ⊎ IsOpeningNext q → Goal A
     opened_so was = ⊎_elim
         (λ same. inl same)
-        (λ next. inr (⊎_elim (λ still. inl (inr (record { side = refl; state = still; next = next }))) (λ over_now. inr over_now) (a_opens_still start turns turn p q t mild was)))
+        (λ to_come. inr (⊎_elim (λ still. inl (inr (record { side = refl; state = still; next = to_come }))) (λ over_now. inr over_now) (a_opens_still start turns turn p q t mild was)))
 
     asked : f.to ≡ B → p.a.tcp.state ≡ phase.SynSent → IsSyn x → x.acknowledged ≡ None → Goal A
     asked to was syn none = by (known start turns turn p q t mild).states.b
@@ -182,10 +182,10 @@ module _ (start : Start) (plan : PathPlan) (one : start.paths ≡ plan ∷ []) (
     unless_over goes = ⊎_elim goes (λ none. opening.over none) (a_opens_still start turns turn p q t mild was)
 
     still : q.clock ≡ p.clock → IsOpeningNext q → Goes
-    still clock next = unless_over (λ state. opening.opens clock (record { side = refl; state = state; next = next }))
+    still clock to_come = unless_over (λ state. opening.opens clock (record { side = refl; state = state; next = to_come }))
 
     same_still : IsOpeningNext p → q ≡ p → Goes
-    same_still next same = still (ap (λ (x : PathState Carried). x.clock) same) (subst IsOpeningNext (sym same) next)
+    same_still to_come same = still (ap (λ (x : PathState Carried). x.clock) same) (subst IsOpeningNext (sym same) to_come)
 
     -- the SYN/ACK goes
     sends : (x : PlainSegment) → x ≡ syn_ack_said p.profile B p.b → q.link ≡ handed values B x p → q.clock ≡ p.clock → Goes

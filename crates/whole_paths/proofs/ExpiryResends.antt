@@ -163,7 +163,7 @@ module _ (start : Start) (plan : PathPlan) (turns : List Turn) (one : start.path
       by false is = refl
       by true is = absurd ((alone s).carries ((knows s).closed is))
 
-  acks_in : (s : Side) (x : PlainSegment) → 2 ≤ stage (end_at s p).tcp.state → x.rst ≡ false → x.acknowledged ≡ acknowledged_in (end_at s p).tcp → AcksSomething x
+  abbrev acks_in : (s : Side) (x : PlainSegment) → 2 ≤ stage (end_at s p).tcp.state → x.rst ≡ false → x.acknowledged ≡ acknowledged_in (end_at s p).tcp → AcksSomething x
   acks_in s x high rst is = record {
     rst = rst;
     up_to = (end_at s p).tcp.recv.edge;

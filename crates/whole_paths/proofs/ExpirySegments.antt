@@ -1,5 +1,5 @@
 -- What the segments of an exchange after an expiry make of the ends, between living ends of path 0 of a mild connection.
-use Rattle.std.proofs.Common.{◌≡◌, refl, sym, subst, ap, ◌∙◌, inl, inr, ◌⊎◌, ⊎_elim, true≢false, ℕ, ◌^◌, ◌<◌, ◌≤◌, arith, nat_le, not, ◌&&◌, ◌||◌, is_none, Bool, true, false, Option, Some, None, List, [], length, option_map}
+use Rattle.std.proofs.Common.{◌≡◌, refl, sym, subst, ap, ◌∙◌, inl, inr, ◌⊎◌, ⊎_elim, true≢false, ℕ, ◌+◌, ◌^◌, ◌<◌, ◌≤◌, arith, nat_le, not, ◌&&◌, ◌||◌, is_none, Bool, true, false, Option, Some, None, List, [], length, option_map}
 use Rattle.std.specs.List.{list_any}
 use Rattle.std.proofs.lemmas.Bool.{lt-leb, lt-ltb}
 use Rattle.std.proofs.lemmas.Option.{same_Some}
@@ -112,7 +112,7 @@ module _ (start : Start) (turns : List Turn) (turn : Turn) (p q : PathState Carr
     x = as_arrived f.carried
 
     -- it comes as it was sent
-    pub comes : Comes values p
+    abbrev pub comes : Comes values p
     comes = record {
       others = n.others;
       first = n.first;

@@ -65,7 +65,7 @@ not_false : (b : Bool) → not b ≡ true → b ≡ false
 not_false true is = absurd (true≢false (sym is))
 not_false false is = refl
 
-none_so : (o : Option ℕ) → is_some o ≡ false → o ≡ None
+none_so : {X : Type 0} (o : Option X) → is_some o ≡ false → o ≡ None
 none_so None is = refl
 none_so (Some n) is = absurd (true≢false is)
 

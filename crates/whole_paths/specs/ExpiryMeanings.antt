@@ -1,6 +1,6 @@
 -- What the exchange that an expiry begins is made of, by how far both ends are in the handshake: the SYN and the SYN/ACK, the first segment behind
 -- them, and what an end past the handshake sends again (RFC 9293, sections 3.5 and 3.10.7).
-use Rattle.std.specs.Prelude.{ℕ, ◌≡◌, ◌<◌, ◌≤◌, false, None, Some, List}
+use Rattle.std.specs.Prelude.{ℕ, ◌≡◌, ◌<◌, ◌≤◌, true, false, None, Some, List}
 use Rattle.sides.specs.declared.side.Side.{Side}
 use Rattle.sides.specs.declared.side.Side.TheVariants.{A, B}
 use Rattle.sides.specs.Side.{peer}
