@@ -63,7 +63,7 @@ use Rattle.whole_paths.proofs.MildDeaths.{living_path}
 use Rattle.whole_paths.proofs.OwedGoes.{what_is_owed_goes}
 use Rattle.whole_paths.proofs.Owing.{copies_are_answered}
 use Rattle.whole_paths.proofs.Pieces.{is_event}
-use Rattle.whole_paths.proofs.RoomLeft.{peers_leave_room}
+use Rattle.whole_paths.proofs.WindowRoom.{living_windows_have_room}
 use Rattle.whole_paths.proofs.Sent.{what_came_was_sent}
 use Rattle.whole_paths.proofs.SynReplies.{PathsAnswer, SynIsAnswered, each_syn_is_answered, syn_heard}
 use Rattle.whole_paths.proofs.Unbroken.{FirstKnown}
@@ -108,7 +108,7 @@ module _ (start : Start) (plan : PathPlan) (one : start.paths ≡ plan ∷ []) (
     from = was_sent s;
     within = ⊎_elim
         (λ inside. inl inside)
-        (λ past. inr (let room = peers_leave_room start plan turns one mild p t.before t.lived s in omega (arith, past, room), refl))
+        (λ past. inr (let room = living_windows_have_room start plan turns one mild p t.before t.lived s in omega (arith, past, room), refl))
         (cases_lt (end_at (peer s) p).tcp.send.nxt ((end_at s p).tcp.recv.edge + 1048576));
   })))
 

@@ -78,7 +78,7 @@ use Rattle.whole_paths.proofs.OpenPieces.{each_knows}
 use Rattle.whole_paths.proofs.PositionCounts.{positions_count_bytes}
 use Rattle.whole_paths.proofs.Reached.{EndsAreReached, each_is_reached, first_reached, none_left}
 use Rattle.whole_paths.proofs.Received.{granted_is_received}
-use Rattle.whole_paths.proofs.RoomLeft.{sent_its_fin}
+use Rattle.whole_paths.proofs.WindowRoom.{sent_its_fin}
 use Rattle.whole_paths.proofs.SendsEnds.{who_is_done_is_clear}
 use Rattle.whole_paths.proofs.Sent.{what_came_was_sent}
 

@@ -86,7 +86,7 @@ module _ (start : Start) (turns : List Turn) (turn : Turn) (p q : PathState Carr
   counts = let found = each_copy_that_comes_counts w turn 2 t.before.crew t.before.there in subst (λ m. PathsHear (Path p) m) t.after.is (subst (λ m. PathsHear m t.after.crew.member) t.before.is
       (subst (λ (d : ActorCrew Carried). PathsHear t.before.crew.member d.member) (same_Some found.0 t.after.crew (sym found.1 ∙ t.after.there)) found.2))
 
-  arrives_as : (f : Flight Carried) → IsUnderWay f p → ArrivesAs f p
+  pub arrives_as : (f : Flight Carried) → IsUnderWay f p → ArrivesAs f p
   arrives_as f there = of_path CopiesArriveSo ((copies_arrive_as_sent values start turns).each 2 t.before.crew t.before.there) f there
       (let low = of_path CopiesAreNumbered (((what_is_sent_comes_soon values).numbered start turns).each 2 t.before.crew t.before.there) f there in
       let most = of_path (λ (p : PathState Carried). (s : Side) → segments_sent s p.link ≤ length turns) (each_turn_sends_one_at_most values start turns 2 t.before.crew t.before.there) (peer f.to) in

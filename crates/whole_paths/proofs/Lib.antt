@@ -219,7 +219,6 @@ pub mod EdgeRises
 pub mod TimerReasons
 pub mod SynReplies
 pub mod DataFinsClear
-pub mod RoomLeft
 pub mod ExpiryMeanings
 pub mod ExpiryResends
 pub mod ExpiryAnswers

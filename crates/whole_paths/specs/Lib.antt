@@ -136,4 +136,3 @@ pub mod OpeningCourses
 pub mod UnaSaid
 pub mod EdgeRises
 pub mod ExpiryMeanings
-pub mod RoomLeft

@@ -39,7 +39,6 @@ ghost use Rattle.whole_paths.specs.Pushed.{WhatHasRoomIsSent, WhatIsUnsentWaitsF
 ghost use Rattle.whole_paths.specs.Received.{HoldsOfOnlyPaths};
 ghost use Rattle.whole_paths.specs.RecordWaits.{NoRoundCounts, RecordsAreAwaitedAlways};
 ghost use Rattle.whole_paths.specs.RisesOwed.{WhatRisesIsOwed};
-ghost use Rattle.whole_paths.specs.RoomLeft.{PeersLeaveRoom};
 ghost use Rattle.whole_paths.specs.SegmentRounds.{ASegmentIsRead, EachRoundReads, EachRoundWrites, FourRoundsBring, FourRoundsTell};
 ghost use Rattle.whole_paths.specs.ClearRounds.{EightRoundsClear, FourRoundsClear, LostRecordsAreFirst, LostRecordsStay, WhatIsReachedIsFirst};
 ghost use Rattle.whole_paths.specs.OctetsPassed.{AllComesUpToLost, OctetsArePassed, WellOctetsCome};
@@ -56,7 +55,7 @@ ghost use Rattle.whole_paths.specs.ToldStays.{WhoIsToldStaysTold};
 ghost use Rattle.whole_paths.specs.Unmended.{DebtsGoOn, HarmsAloneAreOwed, HarmsAloneLoseRecords};
 ghost use Rattle.whole_paths.specs.UnitRounds.{AUnitIsMade, AllUnitsAreThere, ShortWaitsGoOn};
 ghost use Rattle.whole_paths.specs.Unstopped.{MildPathsAreNeverStopped};
-ghost use Rattle.whole_paths.specs.WindowRoom.{EachWindowHasRoom};
+ghost use Rattle.whole_paths.specs.WindowRoom.{EachWindowHasRoom, LivingWindowsHaveRoom};
 ghost use Rattle.whole_paths.specs.WindowWaits.{WindowsAreAwaitedAlways};
 ghost use Rattle.world_laws.specs.Promises.{HoldsAnyway};
 
@@ -129,12 +128,6 @@ pub fn what_is_owed_goes()
 pub fn each_rise_ends_the_row()
     ensures row { EachRiseEndsTheRow }
     ensures early { EdgesWaitForTheHandshake }
-{}
-
-/// A law: over the only path of a mild connection SND.NXT of an end lies within its peer's window of 2^20 positions, or just behind it, also once it
-/// sent its FIN (RFC 9293, section 3.8.6): by then all of its stream is there.
-pub fn peers_leave_room()
-    ensures { PeersLeaveRoom }
 {}
 
 /// A law: over one path four harmed segments let no end die, and both files are delivered, after rounds enough from the beginning of the connection.
@@ -309,13 +302,14 @@ pub fn each_answer_comes_soon()
     ensures { EachAnswerComesSoon }
 {}
 
-/// A law: between open ends of the only path of a mild connection no end sent more than 2^20 positions past RCV.NXT of its peer, so that the
+/// A law: between living ends of the only path of a mild connection no end sent more than 2^20 positions past RCV.NXT of its peer, so that the
 /// peer's window has room for all it sent, its FIN included.
 ///
 /// An unfinished end has no more outstanding than the window (`no_end_overruns`). Of one that sent its FIN all but the FIN is there
-/// (`what_is_finished_is_there`).
+/// (`what_is_finished_is_there`). Open ends live (`opened`).
 pub fn each_window_has_room()
-    ensures { EachWindowHasRoom }
+    ensures living { LivingWindowsHaveRoom }
+    ensures opened { EachWindowHasRoom }
 {}
 
 /// A law: an end of path 0 of a mild connection owes an acknowledgement as its RCV.NXT moves over octets.

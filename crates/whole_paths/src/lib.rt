@@ -66,7 +66,6 @@ pub use delivery_laws::open_asks_go_on;
 pub use delivery_laws::open_ends_hardly_go_awry;
 pub use delivery_laws::open_ends_hardly_stray;
 pub use delivery_laws::openings_are_awaited;
-pub use delivery_laws::peers_leave_room;
 pub use delivery_laws::positions_count_bytes;
 pub use delivery_laws::records_are_awaited_always;
 pub use delivery_laws::records_are_sent_in_order;
