@@ -251,6 +251,9 @@ module _ (start : Start) (plan : PathPlan) (turns : List Turn) (one : start.path
           occupies = occupies A r others is x h;
         }
 
+    few : p.a.tcp.send.records ≡ [] → p.a.tcp.send.nxt ≤ 1
+    few none = let all = none_left p.a.tcp (reach A) none in let high = came.una A (lives A) in let edge = b_edge in omega (arith, all, high, edge)
+
     -- nothing else is outstanding
     none_outstanding : p.a.tcp.send.records ≡ [] → IsOutstanding p.a → ⊥
     none_outstanding none (outstanding.on_subflow r others is) = let never : [] ≡ r ∷ others = sym none ∙ is in cc
@@ -260,7 +263,7 @@ module _ (start : Start) (plan : PathPlan) (turns : List Turn) (one : start.path
         let counts : CountsBytes w p A = of_path (λ (p : PathState Carried). (s : Side) → CountsBytes w p s) ((positions_count_bytes start turns plan one mild).each 2 here.crew here.there) A in
         let behind = counts.came in let edge = b_edge in omega (arith, received, open_piece, behind, edge)
     none_outstanding none (outstanding.data_fin identity infinite sent unacked) = unclear (who_sent_its_end_is_clear start turns mild p here A sent)
-    none_outstanding none (outstanding.shut is) = both_ways p.a.sending.shut (unshut turns p here (record { living = lives }) half) is
+    none_outstanding none (outstanding.shut is) = both_ways p.a.sending.shut (unshut turns p here (record { living = lives }) half (few none)) is
     none_outstanding none (outstanding.third is) = both_ways p.a.modes.owes_third (no_third A) is
     none_outstanding none (outstanding.fast_close is) = both_ways p.a.notices.fast_closed (no_close A) is
 

@@ -12,7 +12,7 @@ use Rattle.whole_paths.specs.FewLossesEnd.{HarmsNoEnd}
 use Rattle.whole_paths.specs.Finish.{IsBrief, IsEnough, Patience, harmed, opened, rounds_in, run_of}
 use Rattle.whole_paths.specs.OpeningCourses.{AlwaysOpensFirmly}
 
--- the ends open firmly, and A's end knows of no window that is shut before B's has its answer
+-- the ends open firmly, and A's end knows of no window that is shut before it sent something behind its SYN, and B's has its answer
 pub record OpensWell (start : Start) : Type 0 where
   pub firm : AlwaysOpensFirmly start
   pub unshut : NeverShutBefore start

@@ -133,8 +133,8 @@ pub fn each_rise_ends_the_row()
 /// A law: over one path four harmed segments let no end die, and both files are delivered, after rounds enough from the beginning of the connection.
 ///
 /// It is said of mild scripts of one path without a line by which the path dies or its address is taken back (`die`, `remove` of id 0), of fewer than
-/// 2^64 - 1 turns, and where the ends open well: firmly (`firm_openings_deliver`), and A's end knows of no window that is shut while B's end is
-/// half-open. A segment is harmed where it is lost, or comes later than 400 ticks. The sixth expiry in a row ends an end; each of the five before
+/// 2^64 - 1 turns, and where the ends open well: firmly (`firm_openings_deliver`), and A's end, as long as it sent nothing behind its SYN and B's
+/// end is half-open, knows of no window that is shut. A segment is harmed where it is lost, or comes later than 400 ticks. The sixth expiry in a row ends an end; each of the five before
 /// it, but for the last one, stands for a harmed segment, since what the end sends again is answered within 800 ticks, and its timer waits for
 /// 1,000 at least (RFC 6298, section 2). Rounds enough are as many as in `firm_openings_deliver`, for the segments that are harmed.
 pub fn few_losses_finish()
