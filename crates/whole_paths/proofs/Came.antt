@@ -1,5 +1,6 @@
 -- Nothing is acknowledged that didn't come: each copy acknowledges what had come to its sender at most, and so does SND.UNA.
 use Rattle.std.proofs.Common.{◌≡◌, refl, sym, subst, ap, ◌∙◌, ◌⊎◌, inl, inr, ⊎_elim, ℕ, ◌+◌, ◌≤◌, arith, nat_lt, nat_le, ◌==◌, Bool, true, false, true≢false, ◌&&◌, if◌then◌else◌, Option, Some, None, is_some, List, [], ◌∷◌, le_refl}
+use Rattle.std.specs.List.{slice_get}
 use Rattle.std.specs.Prelude.{IfSome}
 use Rattle.std.specs.Option.{option_map}
 use Rattle.std.specs.List.{position}
@@ -82,11 +83,12 @@ use Rattle.path_core.specs.declared.events.Event.TheVariants as happenings
 use Rattle.path_core.proofs.Judgements.{judged_taken}
 use Rattle.path_core.proofs.SegmentsTold.{each_segment_is_told}
 use Rattle.world_laws.specs.declared.member.Member.TheVariants.{App, Path}
-use Rattle.world_laws.specs.Actors.{Actor, member_takes, member_next}
+use Rattle.world_laws.specs.Actors.{Actor, ActorCrew, member_takes, member_next}
 use Rattle.world_laws.specs.Laws.{Always}
 use Rattle.world_laws.specs.Members.{HoldsOfKind}
 use Rattle.world_laws.specs.Openings.{PathPlan, Start, path_begins, opened_world}
 use Rattle.world_laws.specs.StampedBooks.{answer_to}
+use Rattle.world_laws.specs.Worlds.{Turn, world_run}
 use Rattle.world_laws.specs.Writes.{EndWrites, EndView, Writes, PathView, Only, OnlyAt, nothing, writes, side_of, copy_said}
 use Rattle.world_laws.proofs.Falls.FailedChecks.{infinite_came_so, fail_answered_so}
 use Rattle.world_laws.proofs.Keys.Held.{in_removed}
@@ -667,12 +669,23 @@ first_came number start plan = record { ends = λ s living. low s; copies = reco
     none A = tt
     none B = tt
 
+each_came : (start : Start) (turns : List Turn) → Every (λ (c : ActorCrew Carried). CameMember c.member) (world_run values turns (opened_world start)).crew
+each_came start turns = run_lifted values (λ c. CameMember c.member) (λ books c x asks h. member_takes_came (answer_to books x) c.member h) (λ stamp c over h. member_begins c.member h) turns (opened_world start)
+    (opened_lifted (λ c. CameMember c.member) start tt tt (λ number plan there. begins_came (waiting_path (path_begins start number plan) start.lines) (first_came number start plan)))
+
 pub what_is_acknowledged_came : Always values (λ start w. WhatIsAcknowledgedCame w)
-what_is_acknowledged_came start turns = record {
-  each = λ actor c there. member_so c.member ((run_lifted values (λ c. CameMember c.member) (λ books c x asks h. member_takes_came (answer_to books x) c.member h)
-      (λ stamp c over h. member_begins c.member h) turns (opened_world start)
-      (opened_lifted (λ c. CameMember c.member) start tt tt (λ number plan there. begins_came (waiting_path (path_begins start number plan) start.lines) (first_came number start plan)))).each actor c there);
-}
+what_is_acknowledged_came start turns = record { each = λ actor c there. member_so c.member ((each_came start turns).each actor c there) }
+
+-- what an end answers a copy by, where it is dead, is a reset
+abbrev pub AnswersReset : PathState Carried → Type 0
+AnswersReset p = (s : Side) → IfSome (end_at s p).treated.answer (λ (o : Outgoing). o.rst ≡ true)
+
+pub answers_reset : (start : Start) (turns : List Turn) (actor : ℕ) (c : ActorCrew Carried) → slice_get (world_run values turns (opened_world start)).crew actor ≡ Some c → HoldsOfKind (λ app. Unit {0}) AnswersReset c.member
+answers_reset start turns actor c there = by c.member ((each_came start turns).each actor c there)
+  where
+    by : (m : Actor Carried) → CameMember m → HoldsOfKind (λ app. Unit {0}) AnswersReset m
+    by (App a) h = tt
+    by (Path p) h = h.answers
 
 -- ---- SND.UNA by a turn
 

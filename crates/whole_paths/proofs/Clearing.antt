@@ -261,7 +261,7 @@ others_heard : (t s : Side) → same_side s t ≡ false → (from count : ℕ) (
 others_heard t s apart from zero ds none = none
 others_heard t s apart from (suc count) ds none = or_from (same_side s t) (list_any (clears_at t) (heard_and s (from + 1) count ds)) apart (others_heard t s apart (from + 1) count ds none)
 
-judged_clear : (told : List KeptMapping) (answer : Outgoing) (s : Side) (now : ℕ) (h : HeardSegment) (m : Meaning) (e : PathEnd) → (copy_judged false told answer s now h m e).modes.clear ≡ e.modes.clear
+pub judged_clear : (told : List KeptMapping) (answer : Outgoing) (s : Side) (now : ℕ) (h : HeardSegment) (m : Meaning) (e : PathEnd) → (copy_judged false told answer s now h m e).modes.clear ≡ e.modes.clear
 judged_clear told answer s now h means.Opens e = refl
 judged_clear told answer s now h _ e = refl
 
@@ -322,11 +322,11 @@ other_clears t s apart ds e count _ h = fresh t e e (omega arith) ds _ refl refl
 
 -- ---- a path
 
-opened_clear : (keys : Option KeyPair) (e : PathEnd) → (opened_by keys e).modes.clear ≡ e.modes.clear
+pub opened_clear : (keys : Option KeyPair) (e : PathEnd) → (opened_by keys e).modes.clear ≡ e.modes.clear
 opened_clear None e = refl
 opened_clear (Some keys) e = refl
 
-died_clear : (b : Bool) (e : PathEnd) → (if b then e else died e).modes.clear ≡ e.modes.clear
+pub died_clear : (b : Bool) (e : PathEnd) → (if b then e else died e).modes.clear ≡ e.modes.clear
 died_clear true e = refl
 died_clear false e = refl
 
@@ -374,13 +374,13 @@ module _ {C : Type 0} where
       let only : Only nothing (end_at (peer s) p) (end_at (peer s) q) = subst (λ v. Only v (end_at (peer s) p) (end_at (peer s) q)) none (record { same = ap (λ (v : PathView C). v.other) x.same }) in
       unwritten false (end_at (peer s) p).modes.clear (end_at (peer s) q).modes.clear refl (ap (λ (v : EndView). v.clear) only.same)
 
-  same_clear : (t : Side) (d : Duty) (p q : PathState C) → is_event d ≡ false → OnlyAt (side_of d) (writes d) p q → clears_at t d ≡ false → (end_at t q).modes.clear ≡ (end_at t p).modes.clear
+  pub same_clear : (t : Side) (d : Duty) (p q : PathState C) → is_event d ≡ false → OnlyAt (side_of d) (writes d) p q → clears_at t d ≡ false → (end_at t q).modes.clear ≡ (end_at t p).modes.clear
   same_clear t d p q other x = ⊎_elim
       (λ own. subst (λ u. clears_at u d ≡ false → (end_at u q).modes.clear ≡ (end_at u p).modes.clear) own (own_same d p q other x))
       (λ away. subst (λ u. clears_at u d ≡ false → (end_at u q).modes.clear ≡ (end_at u p).modes.clear) away (λ none. other_same (side_of d) (writes d) p q (none_other d other) x))
       (sides t (side_of d))
 
-  passed_same : (t : Side) (d : Duty) (p : PathState C) → clears_at t d ≡ false → (end_at t (passed d p)).modes.clear ≡ (end_at t p).modes.clear
+  pub passed_same : (t : Side) (d : Duty) (p : PathState C) → clears_at t d ≡ false → (end_at t (passed d p)).modes.clear ≡ (end_at t p).modes.clear
   passed_same t (duties.Step step_duties.Events) p none = refl
   passed_same t d p none = same_clear t d p (passed d p) refl (passes_no_more d p) none
 

@@ -222,3 +222,8 @@ pub mod DataFinsClear
 pub mod ExpiryMeanings
 pub mod ExpiryResends
 pub mod ExpiryAnswers
+pub mod Signless
+pub mod ClearFirst
+pub mod EdgesStay
+pub mod KeysCome
+pub mod FirstWindows

@@ -124,7 +124,7 @@ pub data MapsAll (s : Side) (x : PlainSegment) : Type 0 where
   bare : x.options ≡ [] → MapsAll s x
 
 -- bytes stand behind the SYN, and neither it nor the FIN has any
-abbrev KindBehind : RecordKind → Record → Type 0
+abbrev pub KindBehind : RecordKind → Record → Type 0
 KindBehind Syn r = r.piece ≡ []
 KindBehind Data r = 0 < r.pos
 KindBehind Fin r = r.piece ≡ []
@@ -439,7 +439,7 @@ takes_maps r p = by p.agenda
 abbrev OfPaths : (PathState Carried → Type 0) → Actor Carried → Type 0
 OfPaths P = HoldsOfKind (λ app. Unit {0}) P
 
-abbrev EndBehind : PathState Carried → Type 0
+abbrev pub EndBehind : PathState Carried → Type 0
 EndBehind p = (s : Side) → Every (λ (r : Record). KindBehind r.kind r) (end_at s p).tcp.send.records
 
 -- a lane's positions begin behind the SYN
@@ -452,7 +452,7 @@ path_behind : (c : Profile) (p : PathState Carried) (ab ba : Lane) → PathShows
 path_behind c p ab ba shows A = record { each = λ i r there. lane_behind c A ab r r.kind (shows.a.sender.pieces.each i r there) }
 path_behind c p ab ba shows B = record { each = λ i r there. lane_behind c B ba r r.kind (shows.b.sender.pieces.each i r there) }
 
-each_behind : (start : Start) (turns : List Turn) → HasRoom start → (actor : ℕ) (c : ActorCrew Carried) → slice_get (world_run values turns (opened_world start)).crew actor ≡ Some c → OfPaths EndBehind c.member
+pub each_behind : (start : Start) (turns : List Turn) → HasRoom start → (actor : ℕ) (c : ActorCrew Carried) → slice_get (world_run values turns (opened_world start)).crew actor ≡ Some c → OfPaths EndBehind c.member
 each_behind start turns size =
     let can = anyhow start size in
     let r = each_run_shows start can turns (free_run can.links (anyhow_free start size) turns (opened_world start)) in

@@ -4,6 +4,7 @@ ghost use Rattle.path_core.specs.Values.{values};
 ghost use Rattle.whole_paths.specs.AnswerWaits.{AnswersAreAwaitedAlways};
 ghost use Rattle.whole_paths.specs.AskStages.{OpenAsksAreAnswered};
 ghost use Rattle.whole_paths.specs.AwaitedThere.{WhatIsAwaitedIsThere};
+ghost use Rattle.whole_paths.specs.Clear.{BIsClearFirst, BIsIdleBefore, BSendsNothingBefore, NothingComesBefore, TheFirstPieceWaits};
 ghost use Rattle.whole_paths.specs.DataLeft.{WhatIsLeftIsData};
 ghost use Rattle.whole_paths.specs.Deliveries.{WhoIsToldHasAll};
 ghost use Rattle.whole_paths.specs.Delivery.{WhatIsFinishedIsThere, WhatIsThereIsDelivered, WhatIsThereStays};
@@ -574,6 +575,40 @@ pub fn whole_paths_deliver()
     ensures ends_values { BriefPathsEnd values long_patience }
     ensures octets { BriefPathsDeliver octets long_patience }
     ensures values { BriefPathsDeliver values long_patience }
+{}
+
+/// A law: over one path A's end may send a DSS only where B's may (RFC 8684, section 3.1).
+///
+/// It may by a DSS that it heard, and B's end sends none before it may, and nothing behind its SYN (`quiet`). So it is on the only path of a mild
+/// connection, at every moment.
+pub fn b_is_clear_first()
+    ensures first { BIsClearFirst }
+    ensures quiet { BSendsNothingBefore }
+{}
+
+/// A law: over one path nothing comes to an end behind its peer's SYN until the end may send a DSS, while no end is dead (RFC 8684, section 3.1).
+///
+/// It holds no mapping by which a byte could be passed, and no FIN came, since the peer sends one only once it may send a DSS. So it is at every
+/// moment of a mild connection.
+pub fn nothing_comes_before()
+    ensures { NothingComesBefore }
+{}
+
+/// A law: over one path A's first piece waits while B, past the handshake, may send no DSS (RFC 8684, section 3.1).
+///
+/// Each copy that takes B's end past the handshake shows both keys, which B hears in its turn, unless A sent more than its SYN. So where a turn is
+/// over, both ends are past the handshake, none is dead, and B may send none, the piece is A's first record, and nothing came to B behind the SYN.
+pub fn the_first_piece_waits()
+    ensures { TheFirstPieceWaits }
+{}
+
+/// A law: over one path an end of B's without a record was granted nothing, and knows of no window that is shut, until A may send a DSS (RFC 8684,
+/// section 3.1).
+///
+/// A's SYN tells a window that isn't shut, and B's end asks for bytes behind it. It is said where a turn is over, no end is dead and B may send a
+/// DSS; of mild connections whose sides buffer an octet at least.
+pub fn b_is_idle_before()
+    ensures { BIsIdleBefore }
 {}
 
 /// A law: over one path both files are delivered, or an end of the path died, after rounds enough from the beginning of the connection, where its
