@@ -39,7 +39,7 @@ use Rattle.world_laws.specs.Worlds.{WorldState, Turn, after_turn}
 use Rattle.whole_paths.specs.AsFar.{IsActorAsFar, stage}
 use Rattle.whole_paths.specs.Answered.{HasAnswered, IsDone}
 use Rattle.whole_paths.specs.Answered.IsDone.{next, over}
-use Rattle.whole_paths.specs.AnsweredExpiries.{IsAnsweredAt, IsAnsweredInTime, IsHeardBy, IsLivingTurn, IsOwed, OpensOn, ResendsNext, SegmentsMeanSo}
+use Rattle.whole_paths.specs.AnsweredExpiries.{IsAnsweredAt, IsAnsweredInTime, IsHeardBy, IsLivingTurn, IsOwed, OpensOn, SegmentsMeanSo}
 use Rattle.whole_paths.specs.AnsweredExpiries.{IsHeardBy as heard}
 use Rattle.whole_paths.specs.AnsweredExpiries.{OpensOn as opening}
 use Rattle.whole_paths.specs.Copies.{CopiesGoOn, GoesOnItsWay, IsUnderWay}

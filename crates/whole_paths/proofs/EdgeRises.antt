@@ -1,14 +1,12 @@
 -- RCV.NXT of an end rises only behind a copy that the end took: what holds of the agenda by each duty.
-use Rattle.std.proofs.Common.{◌≡◌, refl, sym, subst, ap, ◌∙◌, ◌⊎◌, inl, inr, ⊎_elim, ℕ, zero, suc, ◌+◌, ◌<◌, ◌≤◌, ◌||◌, arith, Bool, true, false, true≢false, if◌then◌else◌, Option, Some, None, List, [], ◌∷◌, ◌++◌, length}
+use Rattle.std.proofs.Common.{◌≡◌, refl, sym, subst, ap, ◌∙◌, ◌⊎◌, inl, inr, ⊎_elim, ℕ, zero, suc, ◌+◌, ◌≤◌, ◌||◌, arith, Bool, true, false, true≢false, if◌then◌else◌, Option, Some, None, List, [], ◌∷◌, ◌++◌, length}
 use Rattle.std.specs.List.{list_any, slice_get}
 use Rattle.std.proofs.lemmas.Bool.{both_ways, or_cases, or_left, or_right}
 use Rattle.std.proofs.lemmas.Option.{same_Some}
 use Rattle.path_segments.specs.Heard.{HeardSegment}
 use Rattle.sides.specs.declared.side.Side.{Side}
 use Rattle.sides.specs.declared.side.Side.TheVariants.{A, B}
-use Rattle.sides.specs.Side.{peer}
 use Rattle.link_script.specs.Places.{same_side}
-use Rattle.link_model.specs.declared.flight.Due.{Due}
 use Rattle.link_model.specs.Steps.{after_delivery, arriving}
 use Rattle.subflow_tcp.specs.Expiring.{is_sixth}
 use Rattle.subflow_tcp.specs.Judging.{meaning_of}
@@ -22,7 +20,6 @@ use Rattle.path_agenda.specs.Agenda.{emission, heard_and, leaves, rest_of_turn, 
 use Rattle.path_agenda.specs.declared.duty.Duty.{Duty}
 use Rattle.path_agenda.specs.declared.duty.Duty.TheVariants as duties
 use Rattle.path_agenda.specs.declared.duty.AskDuty.TheVariants as ask_duties
-use Rattle.path_agenda.specs.declared.duty.SendDuty.TheVariants as send_duties
 use Rattle.path_agenda.specs.declared.duty.SilentDuty.TheVariants as silent_duties
 use Rattle.path_agenda.specs.declared.duty.StepDuty.TheVariants as step_duties
 use Rattle.path_store.specs.declared.lines.LineAction.{LineAction}
@@ -61,7 +58,6 @@ use Rattle.whole_paths.specs.AsFar.{stage}
 use Rattle.whole_paths.specs.EdgeRises.{EachRiseEndsTheRow, IsHeardNow, EdgesWaitForTheHandshake}
 use Rattle.whole_paths.specs.ExpiriesInARow.{RowGoesOn, in_a_row}
 use Rattle.whole_paths.specs.ExpiriesInARow.{RowGoesOn as row}
-use Rattle.whole_paths.specs.Finish.{IsPathAt}
 use Rattle.whole_paths.proofs.Agendas.{answered_follows, own_end}
 use Rattle.whole_paths.proofs.ByTurns.{Of, OfFirst, each_first_moment}
 use Rattle.whole_paths.proofs.ComingCopies.{as_ends}
@@ -70,7 +66,7 @@ use Rattle.whole_paths.proofs.ExpiriesInARow.{BothSame, same_lasts, takes_row}
 use Rattle.whole_paths.proofs.MoreOwed.{answered_edge, away_edge, event_lives, kept_edge}
 use Rattle.whole_paths.proofs.Moving.{passed_other_recv}
 use Rattle.whole_paths.proofs.Opening.{HasSyn, meaning_has, means_up}
-use Rattle.whole_paths.proofs.Passing.{IsReady, Quiet, Ready, each_is_ready}
+use Rattle.whole_paths.proofs.Passing.{IsReady, Ready, each_is_ready}
 use Rattle.whole_paths.proofs.Passing.{Ready as ready}
 use Rattle.whole_paths.proofs.Pieces.{is_event}
 use Rattle.whole_paths.proofs.Handshaking.{begins_far, next_far, takes_far}

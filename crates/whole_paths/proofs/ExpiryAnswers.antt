@@ -35,7 +35,7 @@ use Rattle.whole_paths.specs.AnsweredExpiries.{OpensOn as opening}
 use Rattle.whole_paths.specs.AsFar.{stage}
 use Rattle.whole_paths.specs.Copies.{IsUnderWay}
 use Rattle.whole_paths.specs.ExpiriesInARow.{in_a_row}
-use Rattle.whole_paths.specs.ExpiryMeanings.{EndsTheRow, IsOpenedFor, IsOpeningNext, IsWanted, NeverShutBefore}
+use Rattle.whole_paths.specs.ExpiryMeanings.{EndsTheRow, IsOpenedFor, IsOpeningNext, IsWanted}
 use Rattle.whole_paths.specs.ExpiryMeanings.{EndsTheRow as ends_by}
 use Rattle.whole_paths.specs.ExpiryMeanings.{IsOpeningNext as opens}
 use Rattle.whole_paths.specs.ExpiryMeanings.{IsWanted as wanted}
@@ -45,7 +45,6 @@ use Rattle.whole_paths.specs.Finish.{IsPathAt}
 use Rattle.whole_paths.specs.Mending.{LeavesRoomFor}
 use Rattle.whole_paths.specs.Mild.{IsMildStart}
 use Rattle.whole_paths.specs.Opening.{IsSyn}
-use Rattle.whole_paths.specs.OpeningCourses.{AlwaysOpensFirmly}
 use Rattle.whole_paths.specs.OpeningStates.{IsOfA, IsOfB}
 use Rattle.whole_paths.specs.OpeningStates.{IsOfA as of_a}
 use Rattle.whole_paths.specs.OpeningStates.{IsOfB as of_b}
@@ -261,11 +260,11 @@ opens_first start turns p here lives s h others first = by h.next
 
 -- ---- all of them
 
-module _ (start : Start) (plan : PathPlan) (one : start.paths ≡ plan ∷ []) (mild : IsMildStart start) (firm : AlwaysOpensFirmly start) (unshut : NeverShutBefore start) where
+module _ (start : Start) (plan : PathPlan) (one : start.paths ≡ plan ∷ []) (mild : IsMildStart start) (room : 2 ≤ start.buffer) where
   pub segments_mean_so : SegmentsMeanSo IsWanted EndsTheRow IsOpenedFor start
   segments_mean_so = record {
     goes_again = λ turns turn p q t s is out h. wants_on start turns turn p q t mild s h.segment
-        (what_goes_again_is_wanted start plan turns one mild p t.before t.lived (firm turns p t.before (record { living = t.lived })).sure unshut s is out q h);
+        (what_goes_again_is_wanted start plan turns one mild p t.before t.lived room s is out q h);
     replies = λ turns turn p q t s x owes is. replies start plan one turns turn p q t mild s x owes is;
     wants_on = λ turns turn p q t s x h. wants_on start turns turn p q t mild s x h;
     ends_on = λ turns turn p q t s x h. ends_on start turns turn p q t mild s x h;

@@ -1,58 +1,42 @@
 -- What the segments of an exchange after an expiry mean to the ends, between living ends of the only path of a mild connection.
-use Rattle.std.proofs.Common.{◌≡◌, refl, sym, subst, ap, ◌∙◌, ◌⊎◌, inl, inr, ⊎_elim, ℕ, zero, suc, ◌+◌, ◌-◌, ◌^◌, ◌<◌, ◌≤◌, arith, le_refl, Bool, true, false, true≢false, not, ◌&&◌, ◌||◌, if◌then◌else◌, Option, Some, None, IfSome, is_some, List, [], ◌∷◌, ◌++◌, length}
-use Rattle.std.specs.List.{AllByRecursion, list_any, slice_get}
-use Rattle.std.proofs.lemmas.Bool.{and_parts, both_ways, cases_lt, or_left}
+use Rattle.std.proofs.Common.{◌≡◌, refl, sym, subst, ap, ◌∙◌, ◌⊎◌, inl, inr, ⊎_elim, ℕ, ◌<◌, ◌≤◌, arith, true, Some, List, [], ◌∷◌, ◌++◌}
+use Rattle.std.specs.List.{slice_get}
+use Rattle.std.proofs.lemmas.Bool.{both_ways, cases_lt}
 use Rattle.std.proofs.lemmas.Option.{same_Some}
 use Rattle.sides.specs.declared.side.Side.{Side}
 use Rattle.sides.specs.declared.side.Side.TheVariants.{A, B}
 use Rattle.sides.specs.Side.{peer}
-use Rattle.path_segments.specs.Laws.{meant}
 use Rattle.path_segments.specs.Spelled.{PlainSegment}
-use Rattle.link_model.specs.declared.flight.Flight.{Flight}
-use Rattle.subflow_send.specs.Records.{Record, end_of}
-use Rattle.subflow_send.specs.declared.record.RecordKind.{RecordKind}
-use Rattle.subflow_send.specs.declared.record.RecordKind.TheVariants as kinds
-use Rattle.subflow_tcp.specs.Emitting.{acknowledged_in}
-use Rattle.subflow_tcp.specs.Segments.{occupied}
-use Rattle.subflow_tcp.specs.States.{is_dead, is_opening, may_finish}
-use Rattle.subflow_tcp.specs.declared.handshake.State.{State as EndPhase}
 use Rattle.subflow_tcp.specs.declared.handshake.State.TheVariants as phase
 use Rattle.subflow_tcp.specs.declared.verdicts.Meaning.{Meaning}
 use Rattle.subflow_tcp.specs.declared.verdicts.Meaning.TheVariants as means
-use Rattle.path_core.specs.Arrival.{copy_of}
-use Rattle.path_core.specs.End.{PathEnd}
-use Rattle.path_core.specs.MpJoin.{is_joined}
 use Rattle.path_core.specs.State.{PathState, end_at}
-use Rattle.path_core.specs.Values.{Carried, as_arrived, values}
+use Rattle.path_core.specs.Values.{Carried, values}
 use Rattle.world_laws.specs.declared.member.Member.TheVariants.{Path}
 use Rattle.world_laws.specs.Actors.{Actor, ActorCrew}
-use Rattle.world_laws.specs.Members.{HoldsOfKind}
-use Rattle.world_laws.specs.Openings.{PathPlan, Start, opened_world}
+use Rattle.world_laws.specs.Openings.{Start, opened_world}
 use Rattle.world_laws.specs.RoundDone.{reached}
 use Rattle.world_laws.specs.Worlds.{Turn, WorldState, after_turn}
 use Rattle.world_laws.proofs.Weaving.WholeRounds.{run_append}
-use Rattle.whole_paths.specs.AnsweredExpiries.{ComesNext, IsLivingTurn}
+use Rattle.whole_paths.specs.AnsweredExpiries.{IsLivingTurn}
 use Rattle.whole_paths.specs.AsFar.{IsActorAsFar, IsEndAsFar, stage}
-use Rattle.whole_paths.specs.Came.{HasCome}
-use Rattle.whole_paths.specs.ComingCopies.{CopiesCount, ends_row}
-use Rattle.whole_paths.specs.Copies.{IsUnderWay}
-use Rattle.whole_paths.specs.EdgeRises.{IsHeardNow}
+use Rattle.whole_paths.specs.ComingCopies.{ends_row}
 use Rattle.whole_paths.specs.ExpiriesInARow.{in_a_row}
-use Rattle.whole_paths.specs.ExpiryMeanings.{BothArePast, EndsTheRow, IsFirstBehindSyn, IsWanted}
+use Rattle.whole_paths.specs.ExpiryMeanings.{BothArePast, EndsTheRow, IsWanted}
 use Rattle.whole_paths.specs.ExpiryMeanings.{EndsTheRow as ends_by}
 use Rattle.whole_paths.specs.ExpiryMeanings.{IsWanted as wanted}
-use Rattle.whole_paths.specs.ExpirySegments.{AcksSomething, AsksForAnAck, IsHeardInWindow}
+use Rattle.whole_paths.specs.ExpirySegments.{AsksForAnAck}
 use Rattle.whole_paths.specs.ExpirySegments.{AsksForAnAck as asks}
 use Rattle.whole_paths.specs.Finish.{IsPathAt}
 use Rattle.whole_paths.specs.Mild.{IsMildStart}
-use Rattle.whole_paths.specs.Opening.{IsSyn, opens_to}
+use Rattle.whole_paths.specs.Opening.{opens_to}
 use Rattle.whole_paths.specs.OpeningStates.{GoByTheHandshake, IsOfA, IsOfB}
 use Rattle.whole_paths.specs.OpeningStates.{IsOfA as of_a}
 use Rattle.whole_paths.specs.OpeningStates.{IsOfB as of_b}
 use Rattle.whole_paths.specs.Rising.{EndsOpen, OpensBy}
 use Rattle.whole_paths.specs.Rising.{OpensBy as opens_by}
 use Rattle.whole_paths.proofs.ByTurns.{Of}
-use Rattle.whole_paths.proofs.EdgeRises.{each_rise_ends_the_row, edges_wait_for_the_handshake}
+use Rattle.whole_paths.proofs.EdgeRises.{each_rise_ends_the_row}
 use Rattle.whole_paths.proofs.ExpirySegments.{counts}
 use Rattle.whole_paths.proofs.GoesOn.{goes_on_so}
 use Rattle.whole_paths.proofs.Handshaking.{Given, PathMet, each_met, given, never_joins, never_waits}

@@ -44,7 +44,7 @@ use Rattle.whole_paths.specs.Clear.{IsPastIfClear}
 use Rattle.whole_paths.specs.DataLeft.{HasDataLeft, IsData}
 use Rattle.whole_paths.specs.Delivery.{HasFinished}
 use Rattle.whole_paths.specs.Expiries.{IsSaidAt, IsSegmentOf, IsToSend, SendsAgain}
-use Rattle.whole_paths.specs.ExpiryMeanings.{BothArePast, IsFirstBehindSyn, IsWanted, NeverShutBefore}
+use Rattle.whole_paths.specs.ExpiryMeanings.{BothArePast, IsFirstBehindSyn, IsWanted}
 use Rattle.whole_paths.specs.ExpiryMeanings.{IsWanted as wanted}
 use Rattle.whole_paths.specs.ExpirySegments.{AcksSomething, AsksForAnAck}
 use Rattle.whole_paths.specs.ExpirySegments.{AsksForAnAck as asks}
@@ -79,6 +79,8 @@ use Rattle.whole_paths.proofs.PositionCounts.{positions_count_bytes}
 use Rattle.whole_paths.proofs.Reached.{EndsAreReached, each_is_reached, first_reached, none_left}
 use Rattle.whole_paths.proofs.Received.{granted_is_received}
 use Rattle.whole_paths.proofs.WindowRoom.{sent_its_fin}
+use Rattle.whole_paths.proofs.AnsweredWindows.{none_is_shut_before}
+use Rattle.whole_paths.proofs.ClearFirst.{b_is_clear_first}
 use Rattle.whole_paths.proofs.SendsEnds.{who_is_done_is_clear}
 use Rattle.whole_paths.proofs.Sent.{what_came_was_sent}
 
@@ -109,7 +111,7 @@ acks_said c s pos fin e some = record { rst = refl; up_to = e.tcp.recv.edge; ack
 -- ---- a moment
 
 module _ (start : Start) (plan : PathPlan) (turns : List Turn) (one : start.paths ≡ plan ∷ []) (mild : IsMildStart start) (p : PathState Carried) (here : IsPathAt 0 (reached values start turns) p)
-    (lives : (s : Side) → is_dead (end_at s p).tcp.state ≡ false) (sure : p.a.modes.clear ≡ true → p.b.modes.clear ≡ true) (unshut : NeverShutBefore start) where
+    (lives : (s : Side) → is_dead (end_at s p).tcp.state ≡ false) (room : 2 ≤ start.buffer) where
   abbrev w : WorldState Carried
   w = reached values start turns
 
@@ -231,7 +233,7 @@ module _ (start : Start) (plan : PathPlan) (turns : List Turn) (one : start.path
     b_edge = edges_wait_for_the_handshake start turns p here B (let two = b_stage in omega (arith, two))
 
     unclear : p.a.modes.clear ≡ true → ⊥
-    unclear clear = let past = clear_past B (sure clear) in let two = b_stage in omega (arith, past, two)
+    unclear clear = let past = clear_past B (b_is_clear_first start plan turns one mild p here clear) in let two = b_stage in omega (arith, past, two)
 
     unsent : p.a.tcp.send.finished ≡ false
     unsent = by p.a.tcp.send.finished refl
@@ -263,7 +265,7 @@ module _ (start : Start) (plan : PathPlan) (turns : List Turn) (one : start.path
         let counts : CountsBytes w p A = of_path (λ (p : PathState Carried). (s : Side) → CountsBytes w p s) ((positions_count_bytes start turns plan one mild).each 2 here.crew here.there) A in
         let behind = counts.came in let edge = b_edge in omega (arith, received, open_piece, behind, edge)
     none_outstanding none (outstanding.data_fin identity infinite sent unacked) = unclear (who_sent_its_end_is_clear start turns mild p here A sent)
-    none_outstanding none (outstanding.shut is) = both_ways p.a.sending.shut (unshut turns p here (record { living = lives }) half (few none)) is
+    none_outstanding none (outstanding.shut is) = both_ways p.a.sending.shut (none_is_shut_before start plan one mild room turns p here (record { living = lives }) (few none)) is
     none_outstanding none (outstanding.third is) = both_ways p.a.modes.owes_third (no_third A) is
     none_outstanding none (outstanding.fast_close is) = both_ways p.a.notices.fast_closed (no_close A) is
 

@@ -1,7 +1,7 @@
 -- What the segments of an exchange after an expiry make of the ends, between living ends of path 0 of a mild connection.
 use Rattle.std.proofs.Common.{◌≡◌, refl, sym, subst, ap, ◌∙◌, inl, inr, ◌⊎◌, ⊎_elim, true≢false, ℕ, ◌+◌, ◌^◌, ◌<◌, ◌≤◌, arith, nat_le, not, ◌&&◌, ◌||◌, is_none, Bool, true, false, Option, Some, None, List, [], length, option_map}
 use Rattle.std.specs.List.{list_any}
-use Rattle.std.proofs.lemmas.Bool.{lt-leb, lt-ltb}
+use Rattle.std.proofs.lemmas.Bool.{lt-leb}
 use Rattle.std.proofs.lemmas.Option.{same_Some}
 use Rattle.sides.specs.declared.side.Side.{Side}
 use Rattle.sides.specs.Side.{peer}

@@ -1,45 +1,59 @@
 -- Each expiry is answered but for harmed segments, so both files are delivered over one path with four harmed segments at most.
-use Rattle.std.proofs.Common.{◌≡◌, subst, ⊎_elim, ℕ, ◌≤◌, List}
+use Rattle.std.proofs.Common.{◌≡◌, subst, ⊎_elim, ℕ, ◌≤◌, arith, List}
 use Rattle.link_script.specs.declared.script.PathLine.{PathLine}
 use Rattle.link_script.specs.declared.script.Script.{Script}
 use Rattle.path_core.specs.Octets.{octets}
 use Rattle.path_core.specs.Values.{values}
-use Rattle.world_laws.specs.Openings.{PathPlan, Start, start_of}
+use Rattle.world_laws.specs.Openings.{PathPlan, Start, plan_of, start_of}
 use Rattle.world_laws.specs.Worlds.{Turn}
 use Rattle.whole_paths.specs.AnsweredExpiries.{IsAnsweredAt}
 use Rattle.whole_paths.specs.ExpiriesInARow.{ExpiriesAreAnswered}
 use Rattle.whole_paths.specs.ExpiryMeanings.{EndsTheRow, IsOpenedFor, IsWanted}
-use Rattle.whole_paths.specs.FewLossesDeliver.{BriefFewLossesFinish, OpensWell}
+use Rattle.whole_paths.specs.FewLossesDeliver.{BriefFewLossesFinish}
 use Rattle.whole_paths.specs.FewLossesEnd.{BriefLossesEndNone, HarmsNoEnd, RunsAlive}
 use Rattle.whole_paths.specs.OnePathScripts.{BeginsWithOnePath}
 use Rattle.whole_paths.specs.OpeningCourses.{opening_patience}
 use Rattle.whole_paths.proofs.AnsweredExpiries.{expiries_are_answered_so}
 use Rattle.whole_paths.proofs.ExpiryAnswers.{segments_mean_so}
 use Rattle.whole_paths.proofs.FewLossesEnd.{few_losses_end_none_so}
+use Rattle.whole_paths.specs.OpeningCourses.{AlwaysOpensFirmly}
+use Rattle.whole_paths.proofs.ClearFirst.{b_is_clear_first}
+use Rattle.whole_paths.proofs.KeysCome.{the_first_piece_waits}
+use Rattle.whole_paths.proofs.FirstWindows.{b_is_idle_before}
+use Rattle.whole_paths.proofs.OnePathScripts.{mild_scripts_begin_with_one_path}
 use Rattle.whole_paths.proofs.OpeningEnds.{firm_paths_end, firm_paths_end_in_octets}
 use Rattle.whole_paths.proofs.OverOctets.{as_far}
 
 -- the exchange of each expiry
-answers : (start : Start) (plan : PathPlan) → BeginsWithOnePath start plan → OpensWell start → ExpiriesAreAnswered values (RunsAlive start) (IsAnsweredAt IsWanted EndsTheRow IsOpenedFor)
-answers start plan begins well =
-    expiries_are_answered_so IsWanted EndsTheRow IsOpenedFor start begins.mild (segments_mean_so start plan begins.one begins.mild well.firm well.unshut)
+answers : (start : Start) (plan : PathPlan) → BeginsWithOnePath start plan → ExpiriesAreAnswered values (RunsAlive start) (IsAnsweredAt IsWanted EndsTheRow IsOpenedFor)
+answers start plan begins =
+    expiries_are_answered_so IsWanted EndsTheRow IsOpenedFor start begins.mild (segments_mean_so start plan begins.one begins.mild (let room = begins.buffer in omega (arith, room)))
 
-pub few_losses_end_none : BriefLossesEndNone values OpensWell
-few_losses_end_none = few_losses_end_none_so (λ start. IsAnsweredAt IsWanted EndsTheRow IsOpenedFor) OpensWell answers
+pub few_losses_end_none : BriefLossesEndNone values
+few_losses_end_none = few_losses_end_none_so (λ start. IsAnsweredAt IsWanted EndsTheRow IsOpenedFor) answers
+
+firm : (start : Start) (plan : PathPlan) → BeginsWithOnePath start plan → AlwaysOpensFirmly start
+firm start plan begins turns p here alive = record {
+  sure = b_is_clear_first start plan turns begins.one begins.mild p here;
+  piece = λ over past unsure. let f = the_first_piece_waits start plan turns begins.one begins.mild p here alive over past unsure in record { first = f.first; others = f.others; records = f.records; kind = f.kind; position = f.position; edge = f.edge };
+  idle = b_is_idle_before start plan turns begins.one begins.mild (let room = begins.buffer in omega (arith, room)) p here alive;
+}
 
 pub few_losses_finish : BriefFewLossesFinish values opening_patience
-few_losses_finish script path file_a file_b turns h brief well lawful few many = ⊎_elim
+few_losses_finish script path file_a file_b turns h brief lawful few many = ⊎_elim
     (λ delivered. delivered)
-    (λ died. absurd (few_losses_end_none script path file_a file_b turns h brief well few died))
-    (firm_paths_end script path file_a file_b turns h.mild brief well.firm lawful many)
+    (λ died. absurd (few_losses_end_none script path file_a file_b turns h brief few died))
+    (firm_paths_end script path file_a file_b turns h.mild brief
+    (firm (start_of script file_a file_b) (plan_of script 0 path) (mild_scripts_begin_with_one_path script path file_a file_b h.mild)) lawful many)
 
-pub few_losses_end_none_in_octets : BriefLossesEndNone octets OpensWell
-few_losses_end_none_in_octets script path file_a file_b turns h brief well few died =
+pub few_losses_end_none_in_octets : BriefLossesEndNone octets
+few_losses_end_none_in_octets script path file_a file_b turns h brief few died =
     let far = as_far script path file_a file_b h.mild turns in
-    few_losses_end_none script path file_a file_b turns h brief well (subst (λ n. n ≤ 4) (far.harms 0) few) ((far.died 0).0 died)
+    few_losses_end_none script path file_a file_b turns h brief (subst (λ n. n ≤ 4) (far.harms 0) few) ((far.died 0).0 died)
 
 pub few_losses_finish_in_octets : BriefFewLossesFinish octets opening_patience
-few_losses_finish_in_octets script path file_a file_b turns h brief well lawful few many = ⊎_elim
+few_losses_finish_in_octets script path file_a file_b turns h brief lawful few many = ⊎_elim
     (λ delivered. delivered)
-    (λ died. absurd (few_losses_end_none_in_octets script path file_a file_b turns h brief well few died))
-    (firm_paths_end_in_octets script path file_a file_b turns h.mild brief well.firm lawful many)
+    (λ died. absurd (few_losses_end_none_in_octets script path file_a file_b turns h brief few died))
+    (firm_paths_end_in_octets script path file_a file_b turns h.mild brief
+    (firm (start_of script file_a file_b) (plan_of script 0 path) (mild_scripts_begin_with_one_path script path file_a file_b h.mild)) lawful many)

@@ -55,8 +55,8 @@ module _ {C : Type 0} (k : Codec C) (Holds : WorldState C → Type 0) where
   along_then [] turn w along now = (along, now)
   along_then (first ∷ turns) turn w along now = (along.0, along_then turns turn (after_turn k first w) along.1 now)
 
-module _ (Comes : Start → Side → WorldState Carried → Type 0) (script : Script) (path : PathLine) (file_a file_b : List ℕ) (h : HarmsNoEnd script path file_a file_b)
-    (answers : ExpiriesAreAnswered values (RunsAlive (start_of script file_a file_b)) (Comes (start_of script file_a file_b))) where
+module _ (Comes : Start → Side → WorldState Carried → Type 0) (answers : (start : Start) (plan : PathPlan) → BeginsWithOnePath start plan → ExpiriesAreAnswered values (RunsAlive start) (Comes start))
+    (script : Script) (path : PathLine) (file_a file_b : List ℕ) (h : HarmsNoEnd script path file_a file_b) where
   abbrev start : Start
   start = start_of script file_a file_b
 
@@ -70,7 +70,7 @@ module _ (Comes : Start → Side → WorldState Carried → Type 0) (script : Sc
   first = opened_world start
 
   paid_so : (turns : List Turn) → HoldsAlong values (RunsAlive start) turns first → (s : Side) (p : PathState Carried) → IsPathAt 0 (at turns) p → IsPaid (Comes start) (harmed values 0 turns first) s (at turns) p
-  paid_so turns along s p here = subst (λ n. IsPaid (Comes start) n s (at turns) p) (let n : ℕ = harmed values 0 turns first in let sum : 0 + n ≡ n = omega arith in sum) (turns_paid values (RunsAlive start) (Comes start) answers (λ w alive. (alive.path, alive.here)) turns 0 first along
+  paid_so turns along s p here = subst (λ n. IsPaid (Comes start) n s (at turns) p) (let n : ℕ = harmed values 0 turns first in let sum : 0 + n ≡ n = omega arith in sum) (turns_paid values (RunsAlive start) (Comes start) (answers start _ begins) (λ w alive. (alive.path, alive.here)) turns 0 first along
       (λ t q there. paid (let none = subst (HoldsOfKind (λ app. Unit {0}) (λ (p : PathState Carried). (s : Side) → in_a_row (end_at s p) ≡ 0)) there.is ((opened_rows start).each 2 there.crew there.there) t in omega (arith, none)))
       s p here)
 
@@ -79,7 +79,7 @@ module _ (Comes : Start → Side → WorldState Carried → Type 0) (script : Sc
       → (q : PathState Carried) → IsPathAt 0 (after_turn values turn (at before)) q → IsGone q → ⊥
   no_death before turn along alive few q there gone =
       let six = harmless_ends_die_of_expiries start before turn begins.mild h.harmless alive.path q alive.here there alive.living gone.side gone.dead in
-      let less = never_sixth values (RunsAlive start) (Comes start) answers (harmed values 0 before first) (at before) few alive gone.side alive.path alive.here
+      let less = never_sixth values (RunsAlive start) (Comes start) (answers start _ begins) (harmed values 0 before first) (at before) few alive gone.side alive.path alive.here
       (paid_so before along gone.side alive.path alive.here) six.tick six.out in
       let many = six.many in omega (arith, less, many)
 
@@ -133,11 +133,10 @@ module _ (Comes : Start → Side → WorldState Carried → Type 0) (script : Sc
           member (App a) is rows = rows
           member (Path q) is rows = goes later q (record { crew = d; there = found; is = is })
 
-pub few_losses_end_none_so : (Comes : Start → Side → WorldState Carried → Type 0) (Begins : Start → Type 0)
-    → ((start : Start) (plan : PathPlan) → BeginsWithOnePath start plan → Begins start → ExpiriesAreAnswered values (RunsAlive start) (Comes start))
-    → BriefLossesEndNone values Begins
-few_losses_end_none_so Comes Begins answers script path file_a file_b turns h brief begins_so few died =
-    none_died Comes script path file_a file_b h (answers begun (plan_of script 0 path) begins begins_so) [] turns runs runs brief.few few died
+pub few_losses_end_none_so : (Comes : Start → Side → WorldState Carried → Type 0) → ((start : Start) (plan : PathPlan) → BeginsWithOnePath start plan → ExpiriesAreAnswered values (RunsAlive start) (Comes start))
+    → BriefLossesEndNone values
+few_losses_end_none_so Comes answers script path file_a file_b turns h brief few died =
+    none_died Comes answers script path file_a file_b h [] turns runs runs brief.few few died
   where
     begun : Start
     begun = start_of script file_a file_b

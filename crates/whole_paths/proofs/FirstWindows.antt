@@ -133,7 +133,7 @@ use Rattle.whole_paths.proofs.UnderWay.{OfSent, next_all, none_begins, takes_all
 -- ---- an end tells the window that its book told it
 
 module _ (c : Profile) (s : Side) (e : PathEnd) where
-  abbrev Told : PlainSegment → Type 0
+  abbrev pub Told : PlainSegment → Type 0
   Told x = x.window ≡ e.receiving.window
 
   or_ack : (o : Option Record) → Told (record_or_ack c s o e)
@@ -165,7 +165,7 @@ module _ (c : Profile) (s : Side) (e : PathEnd) where
 
 module _ (p : PathState Carried) where
   -- so it is of the segment that is sent
-  abbrev AllTold : Option ToSend → Type 0
+  abbrev pub AllTold : Option ToSend → Type 0
   AllTold o = IfSome o (λ (t : ToSend). (segment_sent p t).window ≡ (end_at t.from p).receiving.window)
 
   broken_told : (s : Side) (reason : ℕ) → AllTold (broken_by s reason p)
@@ -203,7 +203,7 @@ module _ (p : PathState Carried) where
   duty_told (duties.Send (send_duties.SynAck s)) = refl
   duty_told _ = tt
 
-  first_told : AllTold (first_sends p.agenda p)
+  pub first_told : AllTold (first_sends p.agenda p)
   first_told = by p.agenda
     where
       by : (ds : List Duty) → AllTold (first_sends ds p)
@@ -345,7 +345,7 @@ given_to span = Ok span
 same_why : (x y : Why) → failed x ≡ failed y → x ≡ y
 same_why x y equal = cc
 
-never_shut : (path most : ℕ) (standby : Bool) (b : Sending) → 1 ≤ b.edge → taken_len path b.marks ≡ 0 → (why : Why) → booking.decision path most standby b ≡ Err why → is_shut why ≡ false
+pub never_shut : (path most : ℕ) (standby : Bool) (b : Sending) → 1 ≤ b.edge → taken_len path b.marks ≡ 0 → (why : Why) → booking.decision path most standby b ≡ Err why → is_shut why ≡ false
 never_shut path most standby b some none why is = by_end (b.aborted || (b.closed && (acked_len b.marks == length b.written))) is
   where
     shut_from : (from : ℕ) → from ≡ 0 → (c : Bool) → nat_le b.edge from ≡ c → (if c then failed WindowShut else given_to (record { from = from; to = from + booking.run_len path most b from })) ≡ failed why → is_shut why ≡ false
@@ -376,7 +376,7 @@ no_less n = by (nat_lt n 0) refl
     by false is = refl
     by true is = absurd (let low = ltb-true n 0 is in omega (arith, low))
 
-told_edge : (window : ℕ) (b : Sending) → window ≤ (booking.after_call b (send_calls.AckIn 0 window)).edge
+pub told_edge : (window : ℕ) (b : Sending) → window ≤ (booking.after_call b (send_calls.AckIn 0 window)).edge
 told_edge window b =
     let is : (booking.after_call b (send_calls.AckIn 0 window)).edge ≡ max b.edge (0 + window) = ap (λ (x : Sending). x.edge) (if_not (booking.is_future 0 b) b _ (no_less (length b.written + (if b.closed then 1 else 0)))) in
     omega (arith, is)
@@ -396,11 +396,11 @@ module _ (six : SixBooks) (p : PathState Carried) (some : 1 ≤ six.send_b.edge)
   data_unshut (Some u) was = was
 
 -- no other duty changes it
-abbrev asks_for_bytes : Duty → Bool
+abbrev pub asks_for_bytes : Duty → Bool
 asks_for_bytes (duties.Step (step_duties.Data s)) = true
 asks_for_bytes _ = false
 
-shut_unwritten : (d : Duty) → asks_for_bytes d ≡ false → (writes d).own.shut ≡ false
+pub shut_unwritten : (d : Duty) → asks_for_bytes d ≡ false → (writes d).own.shut ≡ false
 shut_unwritten (duties.Step (step_duties.Data s)) none = absurd (true≢false none)
 shut_unwritten (duties.Ask (ask_duties.SynHeard s)) none = refl
 shut_unwritten (duties.Send (send_duties.Syn s)) none = refl
@@ -563,8 +563,8 @@ module _ (start : Start) where
 -- ---- by the lanes
 
 -- the only path is path 0; and as long as B's end sent no byte and no FIN it was granted nothing
-record HasNothing (p : PathState Carried) : Type 0 where
-  path : path_of p ≡ 0
+pub record HasNothing (p : PathState Carried) : Type 0 where
+  pub path : path_of p ≡ 0
   nothing : is_unfinished p.b.tcp.state ≡ true → p.b.tcp.send.nxt ≤ 1 → p.b.sending.granted ≡ []
 
 none_granted : (sent : List Cell) (gs : List GrantedPiece) → length sent ≡ 0 → Every (IsGrantedTo sent) gs → gs ≡ []
@@ -578,7 +578,7 @@ shown_nothing number c p ab ba zeroth numbered shows = record {
   nothing = λ unfinished few. none_granted ba.sent p.b.sending.granted (let next = shows.b.sender.next unfinished in omega (arith, next, few)) shows.b.sender.granted;
 }
 
-each_nothing : (start : Start) (turns : List Turn) → HasRoom start → OfFirst HasNothing (reached values start turns)
+pub each_nothing : (start : Start) (turns : List Turn) → HasRoom start → OfFirst HasNothing (reached values start turns)
 each_nothing start turns size =
     let can = anyhow start size in
     let r = each_run_shows start can turns (free_run can.links (anyhow_free start size) turns (opened_world start)) in

@@ -227,3 +227,4 @@ pub mod ClearFirst
 pub mod EdgesStay
 pub mod KeysCome
 pub mod FirstWindows
+pub mod AnsweredWindows

@@ -1,7 +1,6 @@
 -- The SYN that comes to a listening end is answered by the SYN/ACK, behind the two asks that it needs.
-use Rattle.std.proofs.Common.{◌≡◌, refl, sym, subst, ap, ◌∙◌, ◌⊎◌, inl, inr, ℕ, Bool, true, false, true≢false, if◌then◌else◌, Some, List, [], ◌∷◌, length}
+use Rattle.std.proofs.Common.{◌≡◌, refl, sym, subst, ap, ◌⊎◌, inl, inr, ℕ, Bool, true, false, if◌then◌else◌, Some, List, [], ◌∷◌}
 use Rattle.std.specs.List.{slice_get}
-use Rattle.std.proofs.lemmas.Option.{same_Some}
 use Rattle.sides.specs.declared.side.Side.{Side}
 use Rattle.path_segments.specs.Heard.{HeardSegment}
 use Rattle.subflow_tcp.specs.declared.verdicts.Meaning.TheVariants as means
@@ -13,9 +12,8 @@ use Rattle.path_agenda.specs.declared.duty.Duty.TheVariants as duties
 use Rattle.path_agenda.specs.declared.duty.AskDuty.TheVariants as ask_duties
 use Rattle.path_agenda.specs.declared.duty.SendDuty.TheVariants as send_duties
 use Rattle.path_agenda.specs.declared.duty.StepDuty.TheVariants as step_duties
-use Rattle.path_core.specs.Arrival.{judged_in, template_of}
+use Rattle.path_core.specs.Arrival.{template_of}
 use Rattle.path_core.specs.Duties.{answered, stands}
-use Rattle.path_core.specs.End.{PathEnd}
 use Rattle.path_core.specs.Handover.{handed}
 use Rattle.path_core.specs.MpJoin.{is_joined}
 use Rattle.path_core.specs.OptionsIn.{items_of, options_heard}
@@ -23,7 +21,6 @@ use Rattle.path_core.specs.OptionsOut.{syn_ack_said}
 use Rattle.path_core.specs.State.{PathState, end_at, with_agenda}
 use Rattle.path_core.specs.Steps.{next_round, settled, takes}
 use Rattle.path_core.specs.Values.{Carried, values}
-use Rattle.path_core.specs.declared.judged.Judged.{Judged}
 use Rattle.path_core.specs.declared.judged.Judged.TheVariants as judged
 use Rattle.world_laws.specs.declared.member.Member.TheVariants.{App, Path}
 use Rattle.world_laws.specs.Actors.{Actor, ActorCrew, is_over, member_next, member_takes}

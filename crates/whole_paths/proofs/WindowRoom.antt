@@ -1,9 +1,8 @@
 -- An unfinished peer has no more outstanding than the window; what a finished one sent came, all but its FIN.
-use Rattle.std.proofs.Common.{◌≡◌, refl, sym, subst, ap, ◌∙◌, ℕ, suc, ◌+◌, ◌≤◌, arith, Bool, true, false, true≢false, if◌then◌else◌, List, [], ◌∷◌, length}
-use Rattle.std.specs.List.{slice_get}
+use Rattle.std.proofs.Common.{◌≡◌, refl, sym, subst, ap, ◌∙◌, ◌+◌, ◌≤◌, arith, Bool, true, false, true≢false, List, [], ◌∷◌}
 use Rattle.sides.specs.declared.side.Side.{Side}
 use Rattle.sides.specs.Side.{peer}
-use Rattle.subflow_tcp.specs.States.{is_behind_fin, is_dead, may_finish}
+use Rattle.subflow_tcp.specs.States.{is_behind_fin, is_dead}
 use Rattle.subflow_tcp.specs.declared.handshake.State.{State as EndPhase}
 use Rattle.subflow_tcp.specs.declared.handshake.State.TheVariants as phase
 use Rattle.path_core.specs.State.{PathState, end_at}

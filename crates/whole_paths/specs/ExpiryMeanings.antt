@@ -64,8 +64,3 @@ pub record IsOpenedFor (s : Side) (p : PathState Carried) : Type 0 where
   pub side : s ≡ A
   pub state : p.a.tcp.state ≡ SynSent
   pub next : IsOpeningNext p
-
--- As long as B's end is half-open A's, which sent nothing behind its SYN, knows of no window that is shut.
-abbrev pub NeverShutBefore : Start → Type 0
-NeverShutBefore start = (turns : List Turn) (p : PathState Carried) → IsPathAt 0 (reached values start turns) p → IsAlive p → p.b.tcp.state ≡ SynReceived
-    → p.a.tcp.send.nxt ≤ 1 → p.a.sending.shut ≡ false

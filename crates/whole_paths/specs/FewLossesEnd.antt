@@ -8,7 +8,7 @@ use Rattle.subflow_tcp.specs.States.{is_dead}
 use Rattle.path_core.specs.Codec.{Codec}
 use Rattle.path_core.specs.State.{PathState, end_at}
 use Rattle.path_core.specs.Values.{Carried, values}
-use Rattle.world_laws.specs.Openings.{Start, start_of}
+use Rattle.world_laws.specs.Openings.{Start}
 use Rattle.world_laws.specs.RoundDone.{reached}
 use Rattle.world_laws.specs.Worlds.{WorldState, Turn}
 use Rattle.whole_paths.specs.Finish.{AnEndDied, IsBrief, IsMild, IsPathAt, harmed, is_harmless_to_ends, opened, run_of}
@@ -27,7 +27,7 @@ pub record HarmsNoEnd (script : Script) (path : PathLine) (file_a file_b : List 
   pub mild : IsMild script path file_a file_b
   pub harmless : list_all is_harmless_to_ends script.lines ≡ true
 
--- with four harmed segments at most no end of the path is ever dead, by fewer than 2^64 - 1 turns, where the connection begins so
-abbrev pub BriefLossesEndNone : {C : Type 0} → Codec C → (Start → Type 0) → Type 0
-BriefLossesEndNone k Begins = (script : Script) (path : PathLine) (file_a file_b : List ℕ) (turns : List Turn) → HarmsNoEnd script path file_a file_b
-    → IsBrief script turns → Begins (start_of script file_a file_b) → harmed k 0 turns (opened script file_a file_b) ≤ 4 → AnEndDied 0 (run_of k script file_a file_b turns) → ⊥
+-- with four harmed segments at most no end of the path is ever dead, by fewer than 2^64 - 1 turns
+abbrev pub BriefLossesEndNone : {C : Type 0} → Codec C → Type 0
+BriefLossesEndNone k = (script : Script) (path : PathLine) (file_a file_b : List ℕ) (turns : List Turn) → HarmsNoEnd script path file_a file_b → IsBrief script turns
+    → harmed k 0 turns (opened script file_a file_b) ≤ 4 → AnEndDied 0 (run_of k script file_a file_b turns) → ⊥

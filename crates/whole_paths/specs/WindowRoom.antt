@@ -1,5 +1,5 @@
 -- The window that an end last offered has room for all that its peer sent.
-use Rattle.std.specs.Prelude.{◌≡◌, false, List, [], ◌∷◌}
+use Rattle.std.specs.Prelude.{◌≡◌, ◌≤◌, false, List, [], ◌∷◌}
 use Rattle.sides.specs.declared.side.Side.{Side}
 use Rattle.subflow_tcp.specs.States.{is_dead}
 use Rattle.path_core.specs.State.{PathState, end_at}
@@ -11,6 +11,7 @@ use Rattle.whole_paths.specs.Finish.{IsPathAt}
 use Rattle.whole_paths.specs.Mending.{LeavesRoomFor}
 use Rattle.whole_paths.specs.Mild.{IsMildStart}
 use Rattle.whole_paths.specs.OnePathScripts.{BeginsWithOnePath}
+use Rattle.whole_paths.specs.OpeningWaits.{IsAlive}
 use Rattle.whole_paths.specs.Straying.{IsOpen}
 
 -- Between living ends of the only path of a mild connection SND.NXT of either lies 2^20 positions past RCV.NXT of its peer at most: a bare
@@ -23,3 +24,8 @@ LivingWindowsHaveRoom = (start : Start) (plan : PathPlan) (turns : List Turn) �
 abbrev pub EachWindowHasRoom : Type 0
 EachWindowHasRoom = (start : Start) (plan : PathPlan) (turns : List Turn) → BeginsWithOnePath start plan
     → (p : PathState Carried) → IsPathAt 0 (reached values start turns) p → IsOpen p → (s : Side) → LeavesRoomFor s p
+
+-- As long as no end is dead A's, if it sent nothing behind its SYN, knows of no window that is shut.
+abbrev pub NoWindowIsShutBefore : Type 0
+NoWindowIsShutBefore = (start : Start) (plan : PathPlan) (turns : List Turn) → BeginsWithOnePath start plan → (p : PathState Carried) → IsPathAt 0 (reached values start turns) p
+    → IsAlive p → p.a.tcp.send.nxt ≤ 1 → p.a.sending.shut ≡ false

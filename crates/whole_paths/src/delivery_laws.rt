@@ -11,7 +11,7 @@ ghost use Rattle.whole_paths.specs.Delivery.{WhatIsFinishedIsThere, WhatIsThereI
 ghost use Rattle.whole_paths.specs.EdgeRises.{EachRiseEndsTheRow, EdgesWaitForTheHandshake};
 ghost use Rattle.whole_paths.specs.EndRounds.{AnEndIsTold};
 ghost use Rattle.whole_paths.specs.EndedStreams.{WhatEndedIsAcknowledged};
-ghost use Rattle.whole_paths.specs.FewLossesDeliver.{BriefFewLossesFinish, OpensWell};
+ghost use Rattle.whole_paths.specs.FewLossesDeliver.{BriefFewLossesFinish};
 ghost use Rattle.whole_paths.specs.FewLossesEnd.{BriefLossesEndNone};
 ghost use Rattle.whole_paths.specs.Finish.{HarmsUseLines, BriefPathsDeliver};
 ghost use Rattle.whole_paths.specs.FirstLost.{LostRecordsAreAwaited, LostRecordsAreMended};
@@ -56,7 +56,7 @@ ghost use Rattle.whole_paths.specs.ToldStays.{WhoIsToldStaysTold};
 ghost use Rattle.whole_paths.specs.Unmended.{DebtsGoOn, HarmsAloneAreOwed, HarmsAloneLoseRecords};
 ghost use Rattle.whole_paths.specs.UnitRounds.{AUnitIsMade, AllUnitsAreThere, ShortWaitsGoOn};
 ghost use Rattle.whole_paths.specs.Unstopped.{MildPathsAreNeverStopped};
-ghost use Rattle.whole_paths.specs.WindowRoom.{EachWindowHasRoom, LivingWindowsHaveRoom};
+ghost use Rattle.whole_paths.specs.WindowRoom.{EachWindowHasRoom, LivingWindowsHaveRoom, NoWindowIsShutBefore};
 ghost use Rattle.whole_paths.specs.WindowWaits.{WindowsAreAwaitedAlways};
 ghost use Rattle.world_laws.specs.Promises.{HoldsAnyway};
 
@@ -133,14 +133,13 @@ pub fn each_rise_ends_the_row()
 
 /// A law: over one path four harmed segments let no end die, and both files are delivered, after rounds enough from the beginning of the connection.
 ///
-/// It is said of mild scripts of one path without a line by which the path dies or its address is taken back (`die`, `remove` of id 0), of fewer than
-/// 2^64 - 1 turns, and where the ends open well: firmly (`firm_openings_deliver`), and A's end, as long as it sent nothing behind its SYN and B's
-/// end is half-open, knows of no window that is shut. A segment is harmed where it is lost, or comes later than 400 ticks. The sixth expiry in a row ends an end; each of the five before
-/// it, but for the last one, stands for a harmed segment, since what the end sends again is answered within 800 ticks, and its timer waits for
-/// 1,000 at least (RFC 6298, section 2). Rounds enough are as many as in `firm_openings_deliver`, for the segments that are harmed.
+/// It is said of mild scripts of one path without a line by which the path dies or its address is taken back (`die`, `remove` of id 0), and of fewer
+/// than 2^64 - 1 turns. A segment is harmed where it is lost, or comes later than 400 ticks. The sixth expiry in a row ends an end; each of the five
+/// before it, but for the last one, stands for a harmed segment, since what the end sends again is answered within 800 ticks, and its timer waits
+/// for 1,000 at least (RFC 6298, section 2). Rounds enough are as many as where no loss is counted, for the segments that are harmed.
 pub fn few_losses_finish()
-    ensures none_octets { BriefLossesEndNone octets OpensWell }
-    ensures none_values { BriefLossesEndNone values OpensWell }
+    ensures none_octets { BriefLossesEndNone octets }
+    ensures none_values { BriefLossesEndNone values }
     ensures octets { BriefFewLossesFinish octets opening_patience }
     ensures values { BriefFewLossesFinish values opening_patience }
 {}
@@ -307,10 +306,12 @@ pub fn each_answer_comes_soon()
 /// peer's window has room for all it sent, its FIN included.
 ///
 /// An unfinished end has no more outstanding than the window (`no_end_overruns`). Of one that sent its FIN all but the FIN is there
-/// (`what_is_finished_is_there`). Open ends live (`opened`).
+/// (`what_is_finished_is_there`). Open ends live (`opened`). And until A's end sends something behind its SYN it knows of no window that is shut
+/// (`unshut`): B's SYN/ACK told it one that is open.
 pub fn each_window_has_room()
     ensures living { LivingWindowsHaveRoom }
     ensures opened { EachWindowHasRoom }
+    ensures unshut { NoWindowIsShutBefore }
 {}
 
 /// A law: an end of path 0 of a mild connection owes an acknowledgement as its RCV.NXT moves over octets.
