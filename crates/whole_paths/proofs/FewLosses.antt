@@ -68,4 +68,4 @@ pub few_losses_finish_so : {C : Type 0} (k : Codec C) (enough : Patience) → On
 few_losses_finish_so k enough one none script path file_a file_b turns mild harmless few lawful rounds = ⊎_elim
     (λ delivered. delivered)
     (λ died. absurd (none script path file_a file_b turns mild harmless few died))
-    (one script path file_a file_b turns mild lawful rounds)
+    (one script path file_a file_b turns mild tt lawful rounds)

@@ -16,12 +16,11 @@ use Rattle.whole_paths.specs.OpeningCourses.{opening_patience}
 use Rattle.whole_paths.proofs.AnsweredExpiries.{expiries_are_answered_so}
 use Rattle.whole_paths.proofs.ExpiryAnswers.{segments_mean_so}
 use Rattle.whole_paths.proofs.FewLossesEnd.{few_losses_end_none_so}
-use Rattle.whole_paths.specs.OpeningCourses.{AlwaysOpensFirmly}
 use Rattle.whole_paths.proofs.ClearFirst.{b_is_clear_first}
 use Rattle.whole_paths.proofs.KeysCome.{the_first_piece_waits}
 use Rattle.whole_paths.proofs.FirstWindows.{b_is_idle_before}
 use Rattle.whole_paths.proofs.OnePathScripts.{mild_scripts_begin_with_one_path}
-use Rattle.whole_paths.proofs.OpeningEnds.{firm_paths_end, firm_paths_end_in_octets}
+use Rattle.whole_paths.proofs.OpeningEnds.{one_path_ends, one_path_ends_in_octets}
 use Rattle.whole_paths.proofs.OverOctets.{as_far}
 
 -- the exchange of each expiry
@@ -32,19 +31,11 @@ answers start plan begins =
 pub few_losses_end_none : BriefLossesEndNone values
 few_losses_end_none = few_losses_end_none_so (λ start. IsAnsweredAt IsWanted EndsTheRow IsOpenedFor) answers
 
-firm : (start : Start) (plan : PathPlan) → BeginsWithOnePath start plan → AlwaysOpensFirmly start
-firm start plan begins turns p here alive = record {
-  sure = b_is_clear_first start plan turns begins.one begins.mild p here;
-  piece = λ over past unsure. let f = the_first_piece_waits start plan turns begins.one begins.mild p here alive over past unsure in record { first = f.first; others = f.others; records = f.records; kind = f.kind; position = f.position; edge = f.edge };
-  idle = b_is_idle_before start plan turns begins.one begins.mild (let room = begins.buffer in omega (arith, room)) p here alive;
-}
-
 pub few_losses_finish : BriefFewLossesFinish values opening_patience
 few_losses_finish script path file_a file_b turns h brief lawful few many = ⊎_elim
     (λ delivered. delivered)
     (λ died. absurd (few_losses_end_none script path file_a file_b turns h brief few died))
-    (firm_paths_end script path file_a file_b turns h.mild brief
-    (firm (start_of script file_a file_b) (plan_of script 0 path) (mild_scripts_begin_with_one_path script path file_a file_b h.mild)) lawful many)
+    (one_path_ends script path file_a file_b turns h.mild brief lawful many)
 
 pub few_losses_end_none_in_octets : BriefLossesEndNone octets
 few_losses_end_none_in_octets script path file_a file_b turns h brief few died =
@@ -55,5 +46,4 @@ pub few_losses_finish_in_octets : BriefFewLossesFinish octets opening_patience
 few_losses_finish_in_octets script path file_a file_b turns h brief lawful few many = ⊎_elim
     (λ delivered. delivered)
     (λ died. absurd (few_losses_end_none_in_octets script path file_a file_b turns h brief few died))
-    (firm_paths_end_in_octets script path file_a file_b turns h.mild brief
-    (firm (start_of script file_a file_b) (plan_of script 0 path) (mild_scripts_begin_with_one_path script path file_a file_b h.mild)) lawful many)
+    (one_path_ends_in_octets script path file_a file_b turns h.mild brief lawful many)

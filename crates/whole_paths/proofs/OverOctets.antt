@@ -267,9 +267,9 @@ ended start turns whole (inl delivered) = inl (whole.outcome ∙ delivered)
 ended start turns whole (inr died) = inr ((whole.died 0).1 died)
 
 pub one_path_ends_as_over_values : OnePathEndsAsOverValues
-one_path_ends_as_over_values enough ends script path file_a file_b turns mild lawful many =
+one_path_ends_as_over_values enough ends script path file_a file_b turns mild also lawful many =
     let whole = as_far script path file_a file_b mild turns in
-    ended (start_of script file_a file_b) turns whole (ends script path file_a file_b turns mild (whole.lawful.0 lawful) (subst (λ n. enough script path file_a file_b n ≤ rounds_in turns) (whole.harms 0) many))
+    ended (start_of script file_a file_b) turns whole (ends script path file_a file_b turns mild also (whole.lawful.0 lawful) (subst (λ n. enough script path file_a file_b n ≤ rounds_in turns) (whole.harms 0) many))
 
 pub few_losses_finish_as_over_values : FewLossesFinishAsOverValues
 few_losses_finish_as_over_values enough finish script path file_a file_b turns mild harmless few lawful many =

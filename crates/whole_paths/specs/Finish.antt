@@ -172,11 +172,20 @@ module _ {C : Type 0} (k : Codec C) where
   abbrev pub BriefPathsDeliver : Patience → Type 0
   BriefPathsDeliver = WholePathsDeliverWhere IsBrief
 
-  -- as soon as so many rounds have ended they are delivered, or an end died, however much is lost
-  abbrev pub OnePathEnds : Patience → Type 0
-  OnePathEnds enough = (script : Script) (path : PathLine) (file_a file_b : List ℕ) (turns : List Turn) → IsMild script path file_a file_b
+  -- As soon as so many rounds have ended they are delivered, or an end died, however much is lost. It is said of scripts and turns that are so
+  -- besides.
+  abbrev pub OnePathEndsWhere : (Script → List Turn → Type 0) → Patience → Type 0
+  OnePathEndsWhere Also enough = (script : Script) (path : PathLine) (file_a file_b : List ℕ) (turns : List Turn) → IsMild script path file_a file_b → Also script turns
       → AreLawful k turns (opened script file_a file_b) → IsEnough enough script path file_a file_b turns (rounds_in turns)
       → let w = run_of script file_a file_b turns in (outcome_of w.crew ≡ Delivered) ⊎ AnEndDied 0 w
+
+  -- of all
+  abbrev pub OnePathEnds : Patience → Type 0
+  OnePathEnds = OnePathEndsWhere (λ script turns. Unit {0})
+
+  -- by turns so few that no count of segments ends
+  abbrev pub OneBriefPathEnds : Patience → Type 0
+  OneBriefPathEnds = OnePathEndsWhere IsBrief
 
   -- with four harmed segments at most, and no line by which the path dies or its address is taken back, no end does
   abbrev pub FewLossesFinish : Patience → Type 0

@@ -13,7 +13,7 @@ ghost use Rattle.whole_paths.specs.EndRounds.{AnEndIsTold};
 ghost use Rattle.whole_paths.specs.EndedStreams.{WhatEndedIsAcknowledged};
 ghost use Rattle.whole_paths.specs.FewLossesDeliver.{BriefFewLossesFinish};
 ghost use Rattle.whole_paths.specs.FewLossesEnd.{BriefLossesEndNone};
-ghost use Rattle.whole_paths.specs.Finish.{HarmsUseLines, BriefPathsDeliver};
+ghost use Rattle.whole_paths.specs.Finish.{HarmsUseLines, BriefPathsDeliver, OneBriefPathEnds};
 ghost use Rattle.whole_paths.specs.FirstLost.{LostRecordsAreAwaited, LostRecordsAreMended};
 ghost use Rattle.whole_paths.specs.GoingOn.{RoundsBeginToGoOn, RoundsGoOn, StepsLetItGoOn, EndsGoOn};
 ghost use Rattle.whole_paths.specs.FirstSigns.{EachFirstSignComes};
@@ -31,7 +31,7 @@ ghost use Rattle.whole_paths.specs.OnlyPaths.{long_patience, news_within};
 ghost use Rattle.whole_paths.specs.OpenAsks.{OpenAsksAreInTime, OpenAsksGoOn, OpenEndsHardlyGoAwry};
 ghost use Rattle.whole_paths.specs.OverOctets.{FewLossesFinishAsOverValues, OctetsAreAsFarAsValues, OnePathEndsAsOverValues, BriefPathsDeliverAsOverValues, WholePathsDeliverAsOverValues};
 ghost use Rattle.whole_paths.specs.OpenCourses.{WhatHoldsUpCounts};
-ghost use Rattle.whole_paths.specs.OpeningCourses.{opening_patience, DeliversWithin, FirmPathsEnd, OpensWithin};
+ghost use Rattle.whole_paths.specs.OpeningCourses.{opening_patience, DeliversWithin, OpensWithin};
 ghost use Rattle.whole_paths.specs.OpeningWaits.{EndsOpenOrArePast, LivingEndsOpenOrArePast, OpeningsAreAwaited};
 ghost use Rattle.whole_paths.specs.Outstanding.{WhatIsOutstandingIsAwaited};
 ghost use Rattle.whole_paths.specs.Overruns.{NoEndOverruns};
@@ -136,7 +136,7 @@ pub fn each_rise_ends_the_row()
 /// It is said of mild scripts of one path without a line by which the path dies or its address is taken back (`die`, `remove` of id 0), and of fewer
 /// than 2^64 - 1 turns. A segment is harmed where it is lost, or comes later than 400 ticks. The sixth expiry in a row ends an end; each of the five
 /// before it, but for the last one, stands for a harmed segment, since what the end sends again is answered within 800 ticks, and its timer waits
-/// for 1,000 at least (RFC 6298, section 2). Rounds enough are as many as where no loss is counted, for the segments that are harmed.
+/// for 1,000 at least (RFC 6298, section 2). Rounds enough are as many as in `one_path_ends`, for the segments that are harmed.
 pub fn few_losses_finish()
     ensures none_octets { BriefLossesEndNone octets }
     ensures none_values { BriefLossesEndNone values }
@@ -612,20 +612,18 @@ pub fn b_is_idle_before()
     ensures { BIsIdleBefore }
 {}
 
-/// A law: over one path both files are delivered, or an end of the path died, after rounds enough from the beginning of the connection, where its
-/// ends open firmly, however much is lost, late or repeated (`delivers`).
+/// A law: over one path both files are delivered, or an end of the path died, after rounds enough from the beginning of the connection, however much
+/// is lost, late or repeated (`octets`, `values`).
 ///
-/// After half of these rounds the path is whole, or all of both streams is with the peers, or an end died (`opens`). That the ends open firmly is
-/// a premise: A may send a DSS only once B may; A's first piece waits while B, past the handshake, may send none; and until A may, an end of B's
-/// without a record was granted nothing and knows of no shut window (RFC 8684, section 3.1). What else it needs is so: an end that may send a DSS
-/// is past the handshake, and until A may, A's end hasn't finished, and its side knows no end of B's stream (`clear_ends_are_past`). It is said
-/// of mild connections over one path with buffers of 4,096 octets at least, and of fewer than 2^64 - 1 turns; and of scripts of one path, over
-/// segments as values and over octets (`values`, `octets`). Enough rounds are as many as in `whole_paths_deliver`, twice.
-pub fn firm_openings_deliver()
+/// It is said of mild scripts, by which no option is taken away, no payload is altered and no side closes at once, and of fewer than 2^64 - 1 turns:
+/// the link counts the segments of each side below that. After half of these rounds the path is whole, or all of both streams is with the peers, or
+/// an end died (`opens`); then they go on as in `whole_paths_deliver` (`delivers`), whose rounds are enough twice. Both are said of connections over
+/// one path with buffers of 4,096 octets at least.
+pub fn one_path_ends()
     ensures opens { OpensWithin (for_all_news news_within) }
     ensures delivers { DeliversWithin (for_all_news news_within) }
-    ensures octets { FirmPathsEnd octets opening_patience }
-    ensures values { FirmPathsEnd values opening_patience }
+    ensures octets { OneBriefPathEnds octets opening_patience }
+    ensures values { OneBriefPathEnds values opening_patience }
 {}
 
 /// A law: on a lane that loses segments all is acknowledged, or the end gave up, after five rounds or so for each segment and two

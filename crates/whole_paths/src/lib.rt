@@ -17,7 +17,7 @@
 //! one path all is acknowledged then that was written as the round began (`what_was_written_is_acknowledged`).
 //!
 //! Over one path that stays whole, or whose ends don't die early, all this ends: both files are delivered (`whole_paths_deliver`). So it is from the
-//! beginning of the connection, where its ends open firmly (`firm_openings_deliver`).
+//! beginning of the connection (`one_path_ends`).
 #![tactic(auto)]
 
 mod delivery_laws;
@@ -39,7 +39,6 @@ pub use delivery_laws::each_round_writes_and_reads;
 pub use delivery_laws::each_window_has_room;
 pub use delivery_laws::few_losses_finish;
 pub use delivery_laws::fins_are_last;
-pub use delivery_laws::firm_openings_deliver;
 pub use delivery_laws::first_addresses_stay;
 pub use delivery_laws::first_records_are_passed;
 pub use delivery_laws::first_signs_are_awaited;
@@ -64,6 +63,7 @@ pub use delivery_laws::no_round_counts;
 pub use delivery_laws::nothing_comes_before;
 pub use delivery_laws::octets_are_passed;
 pub use delivery_laws::octets_finish_as_values_do;
+pub use delivery_laws::one_path_ends;
 pub use delivery_laws::open_asks_are_answered;
 pub use delivery_laws::open_asks_go_on;
 pub use delivery_laws::open_ends_hardly_go_awry;
