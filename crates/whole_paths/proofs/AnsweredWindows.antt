@@ -1,8 +1,8 @@
 -- A's side knows the window that B's SYN/ACK told, which isn't shut, before A's end asks for bytes. So as long as its end was granted none it was
 -- refused none for a window that is shut.
-use Rattle.std.proofs.Common.{◌≡◌, refl, sym, subst, ap, ◌∙◌, ◌⊎◌, inl, inr, ⊎_elim, ℕ, ◌+◌, ◌-◌, ◌<◌, ◌≤◌, ◌&&◌, ◌||◌, ◌==◌, arith, nat_lt, nat_le, max, Bool, true, false, true≢false, if◌then◌else◌, Option, Some, None, IfSome, Result, Ok, Err, List, [], ◌∷◌, length}
-use Rattle.std.specs.List.{position, slice_get}
-use Rattle.std.proofs.lemmas.Bool.{and_parts, both_ways, cases_lt, leb-true, ltb-true}
+use Rattle.std.proofs.Common.{◌≡◌, refl, sym, subst, ap, ◌∙◌, ◌⊎◌, inl, inr, ⊎_elim, ℕ, ◌+◌, ◌<◌, ◌≤◌, ◌&&◌, ◌==◌, arith, Bool, true, false, true≢false, if◌then◌else◌, Option, Some, None, IfSome, Result, Ok, Err, List, [], ◌∷◌}
+use Rattle.std.specs.List.{slice_get}
+use Rattle.std.proofs.lemmas.Bool.{and_parts, both_ways, cases_lt}
 use Rattle.std.proofs.lemmas.Option.{same_Some}
 use Rattle.path_segments.specs.Heard.{HeardSegment}
 use Rattle.path_segments.specs.Laws.{meant, window_told}
@@ -13,16 +13,10 @@ use Rattle.sides.specs.Side.{peer}
 use Rattle.link_script.specs.Places.{same_side}
 use Rattle.link_model.specs.Steps.{after_delivery, arriving, is_due}
 use Rattle.link_model.specs.declared.flight.Flight.{Flight}
-use Rattle.stream_lanes.specs.Duo.{Duo, after_events}
-use Rattle.stream_lanes.specs.Lane.{Cell, Lane}
 use Rattle.stream_lanes.specs.Words.{Every}
-use Rattle.send_book.specs.State.{Sending, acked_len}
 use Rattle.send_book.specs.Steps as booking
-use Rattle.send_book.specs.Marks.{is_free_for}
-use Rattle.send_book.specs.declared.call.SendCall.TheVariants as send_calls
 use Rattle.send_book.specs.declared.call.Span.{Span}
 use Rattle.send_book.specs.declared.call.Why.{Why}
-use Rattle.send_book.specs.declared.call.Why.TheVariants.{Backup, Ended, NothingFree, WindowShut}
 use Rattle.reassembly_book.specs.State.{received}
 use Rattle.reassembly_book.specs.Steps.{is_end, next_wanted}
 use Rattle.subflow_send.specs.Records.{Record}
@@ -43,30 +37,17 @@ use Rattle.path_agenda.specs.Agenda.{start_of_turn}
 use Rattle.path_agenda.specs.declared.duty.Duty.{Duty}
 use Rattle.path_agenda.specs.declared.duty.Duty.TheVariants as duties
 use Rattle.path_agenda.specs.declared.duty.AskDuty.TheVariants as ask_duties
-use Rattle.path_agenda.specs.declared.duty.SendDuty.TheVariants as send_duties
-use Rattle.path_agenda.specs.declared.duty.SilentDuty.TheVariants as silent_duties
 use Rattle.path_agenda.specs.declared.duty.StepDuty.TheVariants as step_duties
-use Rattle.path_agenda.specs.declared.heard.Heard.{Heard}
-use Rattle.path_agenda.specs.declared.heard.Heard.TheVariants as says
-use Rattle.path_agenda.specs.declared.notice.OwnNotice.{OwnNotice}
-use Rattle.path_core.specs.DssIn.{is_clash}
-use Rattle.path_core.specs.Fallback.{breaks_by_ack}
-use Rattle.path_core.specs.Treating.{item_of}
-use Rattle.path_agenda.specs.Words.{first_of}
-use Rattle.path_store.specs.declared.granted_piece.GrantedPiece.{GrantedPiece}
 use Rattle.path_core.specs.Arrival.{after_judged, copy_of, heard_at, heard_in, judged_in, template_of, told_at}
-use Rattle.path_core.specs.DataFin.{is_data_fin_owed, is_shut}
 use Rattle.path_core.specs.Duties.{answered, ask_for, passed}
-use Rattle.path_core.specs.Emission.{answered_data, answered_grant, data_ask, data_stands, first_record, first_unsent, grant_ask, grant_in, payload_size}
+use Rattle.path_core.specs.Emission.{answered_data, answered_grant, data_ask, data_stands, first_unsent, grant_ask, grant_in, payload_size}
 use Rattle.path_core.specs.End.{PathEnd}
 use Rattle.path_core.specs.Events.{happens_if}
 use Rattle.path_core.specs.Judged.{judged_of}
-use Rattle.path_core.specs.Looking.{broken_by, duty_sends, first_sends, heard_sends, segment_sent, send_of, unsent_sends}
+use Rattle.path_core.specs.Looking.{first_sends, segment_sent}
 use Rattle.path_core.specs.MpJoin.{is_joined}
 use Rattle.path_core.specs.OptionsIn.{items_of, options_heard}
-use Rattle.path_core.specs.OptionsOut.{ack_said, carried_said, noted_said, record_or_ack, syn_ack_said}
-use Rattle.path_core.specs.Profile.{Profile}
-use Rattle.path_core.specs.Start.{waiting_path}
+use Rattle.path_core.specs.Start.{first_state, waiting_path}
 use Rattle.path_core.specs.State.{PathState, at_tick, end_at, goes_on, path_of, with_agenda}
 use Rattle.path_core.specs.Steps.{answers, asks_first, asks_of, begins_turn, next_round, settles_down, takes}
 use Rattle.path_core.specs.Turns.{FirstStands}
@@ -74,21 +55,16 @@ use Rattle.path_core.specs.Values.{Carried, as_arrived, values}
 use Rattle.path_core.specs.declared.events.Event.TheVariants as happenings
 use Rattle.path_core.specs.declared.judged.Judged.{Judged}
 use Rattle.path_core.specs.declared.judged.Judged.TheVariants as judged
-use Rattle.subflow_tcp.specs.State.{has_records}
 use Rattle.world_laws.specs.declared.member.Member.TheVariants.{App, Path}
 use Rattle.world_laws.specs.Actors.{Actor, ActorCrew}
 use Rattle.world_laws.specs.Openings.{PathPlan, Start, opened_world, path_begins}
-use Rattle.world_laws.specs.Promises.{HasRoom, arrived_at, written_by}
+use Rattle.world_laws.specs.Promises.{arrived_at, written_by}
 use Rattle.world_laws.specs.RoundDone.{reached}
 use Rattle.world_laws.specs.RoundNumbers.{taken_len}
 use Rattle.world_laws.specs.Worlds.{Turn, WorldState}
 use Rattle.world_laws.specs.Writes.{EndView, side_of, writes}
-use Rattle.world_laws.proofs.Lanes.Beginning.{each_run_shows}
-use Rattle.world_laws.proofs.Lanes.OfAWorld.{Links, WorldShows, anyhow, anyhow_free, first_duo, free_run}
-use Rattle.world_laws.proofs.Lanes.Showing.{IsGrantedTo, PathShows, is_unfinished}
 use Rattle.world_laws.proofs.Rounds.Lifting.{opened_lifted}
 use Rattle.world_laws.proofs.Whole.Ends.{MeansIs, means_so}
-use Rattle.world_laws.proofs.Worlds.CastLifting.{each_actor}
 use Rattle.world_laws.proofs.Worlds.Finding.{find_every, one_side}
 use Rattle.world_laws.proofs.Writes.Paths.{passes_no_more, writes_no_more}
 use Rattle.world_laws.proofs.Writes.Steps.{Lasts, begins_lasts, both_ends, settled_lasts, unwritten}
@@ -96,15 +72,12 @@ use Rattle.world_laws.proofs.Keys.WhatWakes.{next_happens}
 use Rattle.whole_paths.specs.AsFar.{stage}
 use Rattle.whole_paths.specs.Between.{EachPathBetween}
 use Rattle.whole_paths.specs.Brought.{Comes, IsTo}
-use Rattle.whole_paths.specs.Clear.{BIsIdleBefore, IsPastIfClear}
-use Rattle.whole_paths.specs.Came.{HasCome}
 use Rattle.whole_paths.specs.DataAcksNow.{KnowsWhatCame}
-use Rattle.whole_paths.specs.Delivery.{FinishedIsThere, HasFinished}
 use Rattle.whole_paths.specs.Finish.{IsPathAt}
 use Rattle.whole_paths.specs.Mild.{IsMildStart, LinkIsMild}
 use Rattle.whole_paths.specs.Offered.{Offers, OffersOn, OffersUpTo}
 use Rattle.whole_paths.specs.Opening.{opens_to}
-use Rattle.whole_paths.specs.OpeningStates.{GoByTheHandshake, IsOfB}
+use Rattle.whole_paths.specs.OpeningStates.{GoByTheHandshake}
 use Rattle.whole_paths.specs.OpeningStates.{IsOfA}
 use Rattle.whole_paths.specs.OpeningStates.{IsOfA as of_a}
 use Rattle.whole_paths.specs.OpeningWaits.{IsAlive}
@@ -113,21 +86,17 @@ use Rattle.whole_paths.specs.Rising.{OpensBy}
 use Rattle.whole_paths.specs.Rising.{OpensBy as opens_by}
 use Rattle.whole_paths.proofs.Books.{side_up}
 use Rattle.whole_paths.proofs.ByTurns.{Of, OfBooked, OfFirst, each_booked, each_first_moment}
-use Rattle.whole_paths.proofs.Came.{what_is_acknowledged_came}
-use Rattle.whole_paths.proofs.Clearing.{clear_ends_are_past, past_met}
+use Rattle.whole_paths.proofs.Clearing.{past_met}
 use Rattle.whole_paths.proofs.DataAcksNow.{each_data_ack_is_up_to_date}
 use Rattle.whole_paths.proofs.EdgesStay.{alive_before}
 use Rattle.whole_paths.proofs.EdgeRises.{edges_wait_for_the_handshake}
 use Rattle.whole_paths.proofs.FirstWindows.{AllTold, HasNothing, asks_for_bytes, each_nothing, first_told, never_shut, shut_unwritten, told_edge}
-use Rattle.whole_paths.proofs.EndsUntold.{a_is_told_no_end_before}
-use Rattle.whole_paths.proofs.FinishedThere.{what_is_finished_is_there}
 use Rattle.whole_paths.proofs.Handshaking.{AllFar, Given, PathMet, each_met, given, never_joins, never_waits, next_far, takes_far}
 use Rattle.whole_paths.proofs.Mild.{links_are_mild}
 use Rattle.whole_paths.proofs.Offered.{settled_offers, sizes_stay, start_asks, what_is_taken_is_offered}
 use Rattle.whole_paths.proofs.OpenCourses.{IsFirstPath, each_first}
 use Rattle.whole_paths.proofs.OpeningStates.{ends_go_by_the_handshake}
 use Rattle.whole_paths.proofs.PositionCounts.{positions_count_bytes}
-use Rattle.whole_paths.proofs.Reached.{EndsAreReached, each_is_reached, none_left}
 use Rattle.whole_paths.proofs.Rising.{begins_dead, next_dead, takes_open}
 use Rattle.whole_paths.proofs.Saying.{ToSend}
 use Rattle.whole_paths.proofs.Turns.{TellsSteps, paths_between}
@@ -518,6 +487,10 @@ module _ (start : Start) (plan : PathPlan) (one : start.paths ≡ plan ∷ []) (
     taken = λ few. subst (λ n. taken_len n (written_by A (reached values start turns)).marks ≡ 0) (sym (nothing_at turns p here).path) (let low = (counts turns p here A).taken in omega (arith, low, few));
   }
 
+  first_low : (o : Option ℕ) → stage (first_state o) < 2
+  first_low None = omega arith
+  first_low (Some tick) = omega arith
+
   -- as long as no end is dead
   abbrev Unshut : SixBooks → PathState Carried → Type 0
   Unshut six p = IsAlive p → IsUnshut six p
@@ -529,7 +502,7 @@ module _ (start : Start) (plan : PathPlan) (one : start.paths ≡ plan ∷ []) (
   opened_unshut = record {
     each = λ c there. (opened_lifted (λ c. Of (Unshut (books_in (opened_world {C = Carried} start).books)) c.member) start tt tt (λ number plan at alive.
         (let p : PathState Carried = waiting_path (path_begins start number plan) start.lines in record {
-          told = λ high. absurd (let dead = begins_dead 2 (omega arith) (omega arith) values A p (omega arith) high in both_ways (is_dead (begins_turn p).a.tcp.state) (alive.living A) dead);
+          told = λ high. absurd (let dead = begins_dead 2 (omega arith) (omega arith) values A p (first_low (path_begins start number plan).joined_at) high in both_ways (is_dead (begins_turn p).a.tcp.state) (alive.living A) dead);
           open_still = λ few. begins_lasts (λ p q. q.a.sending.shut ≡ p.a.sending.shut) shut_last p;
         }))).each 2 c there;
   }

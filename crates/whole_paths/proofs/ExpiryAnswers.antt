@@ -1,6 +1,5 @@
 -- Each expiry of an end is answered in time over the only path of a mild connection, but for segments that are harmed.
-use Rattle.std.proofs.Common.{◌≡◌, refl, sym, subst, ap, ◌∙◌, ◌⊎◌, inl, inr, ⊎_elim, ℕ, ◌+◌, ◌^◌, ◌<◌, ◌≤◌, arith, Bool, true, false, true≢false, if◌then◌else◌, Option, Some, None, List, [], ◌∷◌, ◌++◌, length}
-use Rattle.std.specs.List.{slice_get}
+use Rattle.std.proofs.Common.{◌≡◌, refl, sym, subst, ap, ◌∙◌, ◌⊎◌, inl, inr, ⊎_elim, ◌+◌, ◌<◌, ◌≤◌, arith, Bool, true, false, true≢false, None, List, [], ◌∷◌, ◌++◌}
 use Rattle.std.proofs.lemmas.Bool.{both_ways, cases_lt}
 use Rattle.sides.specs.declared.side.Side.{Side}
 use Rattle.sides.specs.declared.side.Side.TheVariants.{A, B}
@@ -19,7 +18,6 @@ use Rattle.path_agenda.specs.declared.duty.AskDuty.TheVariants as ask_duties
 use Rattle.path_agenda.specs.declared.duty.SendDuty.TheVariants as send_duties
 use Rattle.path_agenda.specs.declared.duty.StepDuty.TheVariants as step_duties
 use Rattle.path_core.specs.Arrival.{copy_of}
-use Rattle.path_core.specs.End.{PathEnd}
 use Rattle.path_core.specs.Handover.{handed}
 use Rattle.path_core.specs.OptionsOut.{ack_said, syn_ack_said}
 use Rattle.path_core.specs.State.{PathState, end_at}
@@ -42,7 +40,6 @@ use Rattle.whole_paths.specs.ExpiryMeanings.{IsWanted as wanted}
 use Rattle.whole_paths.specs.ExpirySegments.{AcksSomething}
 use Rattle.whole_paths.specs.ExpirySegments.{AsksForAnAck as asks}
 use Rattle.whole_paths.specs.Finish.{IsPathAt}
-use Rattle.whole_paths.specs.Mending.{LeavesRoomFor}
 use Rattle.whole_paths.specs.Mild.{IsMildStart}
 use Rattle.whole_paths.specs.Opening.{IsSyn}
 use Rattle.whole_paths.specs.OpeningStates.{IsOfA, IsOfB}
@@ -56,7 +53,7 @@ use Rattle.whole_paths.proofs.EdgeRises.{edges_wait_for_the_handshake}
 use Rattle.whole_paths.proofs.Exchanges.{Shown, each_shown}
 use Rattle.whole_paths.proofs.ExpiryMeanings.{Unless, a_opens_still, between, ends_on, far, known, met, then_there, wants_on}
 use Rattle.whole_paths.proofs.ExpiryResends.{what_goes_again_is_wanted}
-use Rattle.whole_paths.proofs.ExpirySegments.{comes, first_is_taken, half_is_asked, is_to, opening_ends_row, opening_is_asked, opens as syn_opens, past_is_asked, window_ends_row}
+use Rattle.whole_paths.proofs.ExpirySegments.{comes, first_is_taken, half_is_asked, opening_ends_row, opening_is_asked, opens as syn_opens, past_is_asked, window_ends_row}
 use Rattle.whole_paths.proofs.Flying.{Frames, FramesStay, frames_stay}
 use Rattle.whole_paths.proofs.MildDeaths.{living_path}
 use Rattle.whole_paths.proofs.OwedGoes.{what_is_owed_goes}

@@ -1,5 +1,5 @@
 -- What an end of the only path of a mild connection sends again is wanted by its peer.
-use Rattle.std.proofs.Common.{◌≡◌, refl, sym, subst, ap, ◌∙◌, ◌⊎◌, inl, inr, ⊎_elim, ℕ, zero, suc, ◌+◌, ◌-◌, ◌^◌, ◌<◌, ◌≤◌, ◌&&◌, arith, not, Bool, true, false, true≢false, if◌then◌else◌, Option, Some, None, IfSome, is_some, List, [], ◌∷◌, length}
+use Rattle.std.proofs.Common.{◌≡◌, refl, sym, subst, ap, ◌∙◌, inl, ⊎_elim, ℕ, zero, suc, ◌+◌, ◌-◌, ◌^◌, ◌<◌, ◌≤◌, ◌&&◌, arith, not, Bool, true, false, true≢false, if◌then◌else◌, Option, Some, None, IfSome, is_some, List, [], ◌∷◌, length}
 use Rattle.std.specs.List.{AllByRecursion, list_any, slice_get}
 use Rattle.std.proofs.lemmas.Bool.{and_parts, both_ways}
 use Rattle.sides.specs.declared.side.Side.{Side}
@@ -16,9 +16,6 @@ use Rattle.subflow_tcp.specs.Segments.{occupied, one_if}
 use Rattle.subflow_tcp.specs.States.{is_dead, is_opening}
 use Rattle.subflow_tcp.specs.declared.handshake.State.{State as EndPhase}
 use Rattle.subflow_tcp.specs.declared.handshake.State.TheVariants as phase
-use Rattle.path_agenda.specs.Agenda.{emission}
-use Rattle.path_agenda.specs.declared.duty.Duty.TheVariants as duties
-use Rattle.path_agenda.specs.declared.duty.SendDuty.TheVariants as send_duties
 use Rattle.path_store.specs.declared.granted_piece.GrantedPiece.{GrantedPiece}
 use Rattle.path_core.specs.Arrival.{copy_of}
 use Rattle.path_core.specs.DataFin.{is_data_fin_owed}
@@ -32,33 +29,30 @@ use Rattle.path_core.specs.State.{PathState, end_at}
 use Rattle.path_core.specs.Values.{Carried, values}
 use Rattle.world_laws.specs.Members.{HoldsOfKind}
 use Rattle.world_laws.specs.Openings.{PathPlan, Start}
-use Rattle.world_laws.specs.Promises.{arrived_at}
 use Rattle.world_laws.specs.RoundDone.{reached}
 use Rattle.world_laws.specs.Worlds.{Turn, WorldState}
 use Rattle.world_laws.proofs.Lanes.Showing.{is_unfinished}
-use Rattle.world_laws.proofs.Numbers.TellSmall.{EndTells, RecordKindTells}
+use Rattle.world_laws.proofs.Numbers.TellSmall.{RecordKindTells}
 use Rattle.whole_paths.specs.AsFar.{stage}
 use Rattle.whole_paths.specs.Came.{HasCome}
 use Rattle.whole_paths.specs.ClosingAsked.{OwesItsEnd}
 use Rattle.whole_paths.specs.Clear.{IsPastIfClear}
 use Rattle.whole_paths.specs.DataLeft.{HasDataLeft, IsData}
-use Rattle.whole_paths.specs.Delivery.{HasFinished}
-use Rattle.whole_paths.specs.Expiries.{IsSaidAt, IsSegmentOf, IsToSend, SendsAgain}
+use Rattle.whole_paths.specs.Expiries.{IsSegmentOf, IsToSend, SendsAgain}
 use Rattle.whole_paths.specs.ExpiryMeanings.{BothArePast, IsFirstBehindSyn, IsWanted}
 use Rattle.whole_paths.specs.ExpiryMeanings.{IsWanted as wanted}
-use Rattle.whole_paths.specs.ExpirySegments.{AcksSomething, AsksForAnAck}
+use Rattle.whole_paths.specs.ExpirySegments.{AcksSomething}
 use Rattle.whole_paths.specs.ExpirySegments.{AsksForAnAck as asks}
 use Rattle.whole_paths.specs.Finish.{IsPathAt}
 use Rattle.whole_paths.specs.Mild.{EndsGoByMappings, IsMildStart}
 use Rattle.whole_paths.specs.Opening.{IsSyn}
-use Rattle.whole_paths.specs.OpeningWaits.{IsAlive, IsOpening}
+use Rattle.whole_paths.specs.OpeningWaits.{IsOpening}
 use Rattle.whole_paths.specs.OpeningWaits.{IsOpening as opens}
 use Rattle.whole_paths.specs.PositionCounts.{CountsBytes}
 use Rattle.whole_paths.specs.Reasons.{IsOutstanding}
 use Rattle.whole_paths.specs.Reasons.{IsOutstanding as outstanding}
 use Rattle.whole_paths.specs.Received.{GrantedIsReceived}
 use Rattle.whole_paths.specs.Sent.{WasSent}
-use Rattle.whole_paths.specs.Syns.{IsToOpen}
 use Rattle.whole_paths.specs.Syns.{IsToOpen as to_open}
 use Rattle.whole_paths.proofs.ByTurns.{Of}
 use Rattle.whole_paths.proofs.Came.{what_is_acknowledged_came}

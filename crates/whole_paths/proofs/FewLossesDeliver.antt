@@ -1,25 +1,18 @@
 -- Each expiry is answered but for harmed segments, so both files are delivered over one path with four harmed segments at most.
-use Rattle.std.proofs.Common.{◌≡◌, subst, ⊎_elim, ℕ, ◌≤◌, arith, List}
-use Rattle.link_script.specs.declared.script.PathLine.{PathLine}
-use Rattle.link_script.specs.declared.script.Script.{Script}
+use Rattle.std.proofs.Common.{subst, ⊎_elim, ◌≤◌, arith}
 use Rattle.path_core.specs.Octets.{octets}
 use Rattle.path_core.specs.Values.{values}
-use Rattle.world_laws.specs.Openings.{PathPlan, Start, plan_of, start_of}
-use Rattle.world_laws.specs.Worlds.{Turn}
+use Rattle.world_laws.specs.Openings.{PathPlan, Start}
 use Rattle.whole_paths.specs.AnsweredExpiries.{IsAnsweredAt}
 use Rattle.whole_paths.specs.ExpiriesInARow.{ExpiriesAreAnswered}
 use Rattle.whole_paths.specs.ExpiryMeanings.{EndsTheRow, IsOpenedFor, IsWanted}
 use Rattle.whole_paths.specs.FewLossesDeliver.{BriefFewLossesFinish}
-use Rattle.whole_paths.specs.FewLossesEnd.{BriefLossesEndNone, HarmsNoEnd, RunsAlive}
+use Rattle.whole_paths.specs.FewLossesEnd.{BriefLossesEndNone, RunsAlive}
 use Rattle.whole_paths.specs.OnePathScripts.{BeginsWithOnePath}
 use Rattle.whole_paths.specs.OpeningCourses.{opening_patience}
 use Rattle.whole_paths.proofs.AnsweredExpiries.{expiries_are_answered_so}
 use Rattle.whole_paths.proofs.ExpiryAnswers.{segments_mean_so}
 use Rattle.whole_paths.proofs.FewLossesEnd.{few_losses_end_none_so}
-use Rattle.whole_paths.proofs.ClearFirst.{b_is_clear_first}
-use Rattle.whole_paths.proofs.KeysCome.{the_first_piece_waits}
-use Rattle.whole_paths.proofs.FirstWindows.{b_is_idle_before}
-use Rattle.whole_paths.proofs.OnePathScripts.{mild_scripts_begin_with_one_path}
 use Rattle.whole_paths.proofs.OpeningEnds.{one_path_ends, one_path_ends_in_octets}
 use Rattle.whole_paths.proofs.OverOctets.{as_far}
 

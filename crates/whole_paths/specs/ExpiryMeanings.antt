@@ -1,6 +1,6 @@
 -- What the exchange that an expiry begins is made of, by how far both ends are in the handshake: the SYN and the SYN/ACK, the first segment behind
 -- them, and what an end past the handshake sends again (RFC 9293, sections 3.5 and 3.10.7).
-use Rattle.std.specs.Prelude.{ℕ, ◌≡◌, ◌<◌, ◌≤◌, true, false, None, Some, List}
+use Rattle.std.specs.Prelude.{◌≡◌, ◌<◌, ◌≤◌, true, false, None}
 use Rattle.sides.specs.declared.side.Side.{Side}
 use Rattle.sides.specs.declared.side.Side.TheVariants.{A, B}
 use Rattle.sides.specs.Side.{peer}
@@ -9,18 +9,12 @@ use Rattle.path_segments.specs.Spelled.{PlainSegment}
 use Rattle.subflow_tcp.specs.Segments.{occupied}
 use Rattle.subflow_tcp.specs.declared.handshake.State.TheVariants.{SynReceived, SynSent}
 use Rattle.path_agenda.specs.Agenda.{syn_again, syn_came}
-use Rattle.path_agenda.specs.declared.duty.Duty.{Duty}
 use Rattle.path_core.specs.Arrival.{copy_of}
 use Rattle.path_core.specs.State.{PathState, end_at}
-use Rattle.path_core.specs.Values.{Carried, values}
-use Rattle.world_laws.specs.Openings.{Start}
-use Rattle.world_laws.specs.RoundDone.{reached}
-use Rattle.world_laws.specs.Worlds.{Turn}
+use Rattle.path_core.specs.Values.{Carried}
 use Rattle.whole_paths.specs.AsFar.{stage}
 use Rattle.whole_paths.specs.ExpirySegments.{AcksSomething, AsksForAnAck, IsHeardInWindow}
-use Rattle.whole_paths.specs.Finish.{IsPathAt}
 use Rattle.whole_paths.specs.Opening.{IsSyn}
-use Rattle.whole_paths.specs.OpeningWaits.{IsAlive}
 
 -- both ends are past the handshake
 abbrev pub BothArePast : PathState Carried → Type 0

@@ -4,7 +4,6 @@ use Rattle.link_script.specs.declared.script.PathLine.{PathLine}
 use Rattle.link_script.specs.declared.script.Script.{Script}
 use Rattle.path_core.specs.Codec.{Codec}
 use Rattle.world_laws.specs.declared.outcome.Outcome.TheVariants.{Delivered}
-use Rattle.world_laws.specs.Openings.{Start, start_of}
 use Rattle.world_laws.specs.Outcomes.{outcome_of}
 use Rattle.world_laws.specs.Worlds.{Turn, AreLawful}
 use Rattle.whole_paths.specs.FewLossesEnd.{HarmsNoEnd}
