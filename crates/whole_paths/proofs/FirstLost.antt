@@ -264,7 +264,7 @@ module _ (s : Side) (debts by_then : ℕ) (p q : PathState Carried) (records : R
         by : WaitsOn s by_then p q → Goes
         by (wait.runs runs) = runs_on runs
         by (wait.runs_out at out) = ran_out at out
-        by (wait.news news) = first_or_acked (λ first. mending.news h.first first news)
+        by (wait.news news) = first_or_acked (λ first. mending.news h.first h.is_first first news)
         by (wait.gone dead) = absurd (true≢false (sym dead ∙ living))
 
   -- ---- the first record goes again

@@ -1,3 +1,4 @@
+pub mod AckedData
 pub mod Acking
 pub mod Acknowledged
 pub mod Agendas
@@ -39,6 +40,8 @@ pub mod ExpirySegments
 pub mod AnsweredExpiries
 pub mod FewLossesDeliver
 pub mod HarmlessDeaths
+pub mod HeardBelow
+pub mod HeardSaid
 pub mod KeptAddresses
 pub mod NoRemovals
 pub mod RemovedItems
@@ -53,6 +56,7 @@ pub mod OpenCopies
 pub mod ComingCopies
 pub mod OwedGoes
 pub mod SetTimers
+pub mod ToldHeard
 pub mod ToldResets
 pub mod OpensAtOnce
 pub mod MildDeaths
@@ -147,6 +151,8 @@ pub mod ThereInTime
 pub mod Timing
 pub mod ToldSoon
 pub mod Treating
+pub mod UnaSaid
+pub mod WideWindows
 pub mod Unharmed
 pub mod Unmended
 pub mod Unmapped
@@ -222,6 +228,15 @@ pub mod DataFinsClear
 pub mod ExpiryMeanings
 pub mod ExpiryResends
 pub mod ExpiryAnswers
+pub mod DebtKinds
+pub mod Directions
+pub mod ComesAgain
+pub mod DirectionTurns
+pub mod DirectionRounds
+pub mod DirectionsMended
+pub mod CutRecords
+pub mod OpenFirst
+pub mod SharpPaths
 pub mod Signless
 pub mod ClearFirst
 pub mod EdgesStay

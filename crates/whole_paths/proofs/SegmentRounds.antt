@@ -6,7 +6,7 @@ use Rattle.std.proofs.lemmas.Option.{same_Some}
 use Rattle.sides.specs.declared.side.Side.{Side}
 use Rattle.sides.specs.declared.side.Side.TheVariants.{A, B}
 use Rattle.sides.specs.Side.{peer}
-use Rattle.stream_lanes.specs.Words.{Has}
+use Rattle.stream_lanes.specs.Words.{Every, Has}
 use Rattle.dss_mapping.specs.Mappings.{mapping_at}
 use Rattle.subflow_recv.specs.Receiving.{octet_at}
 use Rattle.subflow_send.specs.Records.{Record, end_of, occupied, span_of}
@@ -41,7 +41,7 @@ use Rattle.whole_paths.specs.Delivery.{FinishedIsThere, HasFinished, IsAllThere}
 use Rattle.whole_paths.specs.Finish.{IsPathAt}
 use Rattle.whole_paths.specs.Kept.{AreKept, EndsKeepWhatWaits, IsSameRecord, KeepsWhatWaits}
 use Rattle.whole_paths.specs.Mapped.{EndsAreLive, IsMapped, IsToLearn}
-use Rattle.whole_paths.specs.Mending.{IsAllThereOf, IsMended, IsThereBy, IsToldBy, IsToldSoon, IsWell}
+use Rattle.whole_paths.specs.Mending.{IsAllThereOf, IsThereBy, IsToldBy, IsToldSoon, IsWell}
 use Rattle.whole_paths.specs.Mending.{IsThereBy as there_by, IsToldBy as told_by, IsToldSoon as told_soon, IsWell as well_by}
 use Rattle.whole_paths.specs.Mild.{EndsGoByMappings}
 use Rattle.whole_paths.specs.OnePathScripts.{BeginsWithOnePath}
@@ -253,7 +253,7 @@ module _ (start : Start) (plan : PathPlan) (x : BeginsWithOnePath start plan) wh
             (λ on. inl (record { at = on.at; item = on.item; there = on.there; holds = same_then r item on.item has.holds on.holds }, there))
             (kept_one _ (end_at s p).tcp.send.records (end_at s q).tcp.send.records kept.records has.at item has.there)
 
-  module _ (v u : List Turn) (rounds : Rounds start 4 v u) (s : Side) (p q : PathState Carried) (here : IsPathAt 0 (at v) p) (there : IsPathAt 0 (at u) q) (mended : IsMended p) where
+  module _ (v u : List Turn) (rounds : Rounds start 4 v u) (s : Side) (p q : PathState Carried) (here : IsPathAt 0 (at v) p) (there : IsPathAt 0 (at u) q) (mended : Every (IsWell s p) (end_at s p).tcp.send.records) where
     abbrev r : Side
     r = peer s
 
@@ -307,7 +307,7 @@ module _ (start : Start) (plan : PathPlan) (x : BeginsWithOnePath start plan) wh
               let high = found.high in omega (arith, zeroth, some, end, high, low))
 
       comes : IsThereBy s item (p.clock + 400) p
-      comes = of_well ((mended.records s).each found.at item found.there)
+      comes = of_well (mended.each found.at item found.there)
         where
           of_well : IsWell s p item → IsThereBy s item (p.clock + 400) p
           of_well (well_by.other none) = absurd (none of_data)

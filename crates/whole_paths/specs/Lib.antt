@@ -1,3 +1,4 @@
+pub mod AckedData
 pub mod Acknowledged
 pub mod AgendaSteps
 pub mod AnswerWaits
@@ -36,6 +37,8 @@ pub mod Deaths
 pub mod ExpirySegments
 pub mod AnsweredExpiries
 pub mod FewLossesDeliver
+pub mod HeardBelow
+pub mod HeardSaid
 pub mod KeptAddresses
 pub mod Debts
 pub mod FewLossesEnd
@@ -102,6 +105,7 @@ pub mod Waits
 pub mod WindowRoom
 pub mod WindowWaits
 pub mod WindowsHeard
+pub mod WideWindows
 pub mod Writers
 pub mod EndedStreams
 pub mod Ends
@@ -136,3 +140,9 @@ pub mod OpeningCourses
 pub mod UnaSaid
 pub mod EdgeRises
 pub mod ExpiryMeanings
+pub mod DebtKinds
+pub mod Directions
+pub mod DirectionWaits
+pub mod CutRecords
+pub mod OpenFirst
+pub mod SharpPaths

@@ -1,6 +1,7 @@
 //! What mild connections do whose path stays whole, as clauses of functions that do nothing.
 ghost use Rattle.path_core.specs.Octets.{octets};
 ghost use Rattle.path_core.specs.Values.{values};
+ghost use Rattle.whole_paths.specs.AckedData.{FourRoundsAcknowledge, PositionsAreAckedAsBytes};
 ghost use Rattle.whole_paths.specs.AnswerWaits.{AnswersAreAwaitedAlways};
 ghost use Rattle.whole_paths.specs.AskStages.{OpenAsksAreAnswered};
 ghost use Rattle.whole_paths.specs.AwaitedThere.{WhatIsAwaitedIsThere};
@@ -19,6 +20,8 @@ ghost use Rattle.whole_paths.specs.GoingOn.{RoundsBeginToGoOn, RoundsGoOn, Steps
 ghost use Rattle.whole_paths.specs.FirstSigns.{EachFirstSignComes};
 ghost use Rattle.whole_paths.specs.Halted.{WhoHaltsGoesOnHalting};
 ghost use Rattle.whole_paths.specs.Lanes.Laws.{LossyLanesEnd, LossyLanesFinish};
+ghost use Rattle.whole_paths.specs.HeardBelow.{HeardLiesBelow};
+ghost use Rattle.whole_paths.specs.HeardSaid.{WhatIsHeardWasSaid};
 ghost use Rattle.whole_paths.specs.KeptAddresses.{FirstAddressesStay, HarmlessEndsDieOfExpiries};
 ghost use Rattle.whole_paths.specs.LastFin.{FinsAreLast};
 ghost use Rattle.whole_paths.specs.Mending.{EachAnswerComesSoon, EachRecordStaysWell};
@@ -59,6 +62,7 @@ ghost use Rattle.whole_paths.specs.Unstopped.{MildPathsAreNeverStopped};
 ghost use Rattle.whole_paths.specs.WindowRoom.{EachWindowHasRoom, LivingWindowsHaveRoom, NoWindowIsShutBefore};
 ghost use Rattle.whole_paths.specs.WindowWaits.{WindowsAreAwaitedAlways};
 ghost use Rattle.world_laws.specs.Promises.{HoldsAnyway};
+ghost use Rattle.whole_paths.specs.WideWindows.{WideWindowsStay};
 
 /// A law: where no line takes options away, alters payload or lets a side close at once, both sides go by mappings of pieces, always.
 ///
@@ -737,4 +741,38 @@ pub fn lost_records_are_first()
 /// ends, or is acknowledged (`due`).
 pub fn records_come_in_time()
     ensures { RecordsComeInTime }
+{}
+
+/// A law: on the only path of a mild connection bytes are acknowledged as positions are (RFC 8684, section 3.3.2).
+///
+/// Where the path's turn is over, neither of its ends is dead, and a side's sent no FIN, as many bytes of its stream are acknowledged as positions of
+/// its subflow, but for that of the SYN: to its end, and in its send book. So in four rounds between open ends all is acknowledged that the peer's side had received, where the end was
+/// to be told soon how far its peer was; or all of the stream is there (`rounds`).
+pub fn positions_are_acked_as_bytes()
+    ensures positions { PositionsAreAckedAsBytes }
+    ensures rounds { FourRoundsAcknowledge }
+{}
+
+/// A law: what an end is to hear of a copy it was to hear before, or the copy says it that the end takes next; and no Data ACK counts but one that the
+/// end was to hear (RFC 8684, section 3.3.2).
+///
+/// By any turn. Where the side fell back to plain TCP, or sends by an infinite mapping, the subflow's acknowledgements count in its place.
+pub fn what_is_heard_was_said()
+    ensures octets { WhatIsHeardWasSaid octets }
+    ensures values { WhatIsHeardWasSaid values }
+{}
+
+/// A law: on the only path of a mild connection no more bytes are acknowledged to an end than positions of its subflow, but for that of the SYN, as
+/// long as neither end is dead; or all of the stream is with the peer (RFC 8684, section 3.3.2).
+pub fn heard_lies_below()
+    ensures { HeardLiesBelow }
+{}
+
+/// A law: a congestion window of two full segments holds two still, by any turn, unless the end's timer runs out (RFC 5681, section 3.1).
+///
+/// Acknowledgements widen it, or bring it back to its threshold, which is two segments at least; a fast retransmission leaves it above that; and an
+/// expiry alone takes it to one.
+pub fn wide_windows_stay()
+    ensures octets { WideWindowsStay octets }
+    ensures values { WideWindowsStay values }
 {}

@@ -355,7 +355,7 @@ pub fn each_confirmation_counts()
 /// as the end's reassembly book told it last (RFC 8684, section 3.3.2).
 ///
 /// Once the end may send a DSS, and as long as its side doesn't fall back to plain TCP, such are an acknowledgement, a record for the first
-/// time or again, a notice, a DATA_FIN and a FIN. A segment with a SYN has none, nor has a reset.
+/// time or again, a notice, a DATA_FIN and a FIN; before that each has such a DSS, or none. A segment with a SYN has none, nor has a reset.
 pub fn each_segment_has_a_data_ack()
     ensures octets { EachSegmentHasADataAck (List ℕ) }
     ensures values { EachSegmentHasADataAck Carried }

@@ -20,9 +20,14 @@
 //! beginning of the connection (`one_path_ends`), and four harmed segments let no end die early (`few_losses_finish`).
 #![tactic(auto)]
 
+mod debt_laws;
 mod delivery_laws;
 mod laws;
 
+pub use debt_laws::checked_records_are_passed_whole;
+pub use debt_laws::directions_are_mended;
+pub use debt_laws::directions_go_on;
+pub use debt_laws::few_as_it_opens_are_few;
 pub use delivery_laws::a_segment_is_read;
 pub use delivery_laws::a_unit_is_made;
 pub use delivery_laws::all_comes_up_to_lost;
@@ -47,6 +52,7 @@ pub use delivery_laws::harmless_ends_die_of_expiries;
 pub use delivery_laws::harms_alone_are_owed;
 pub use delivery_laws::harms_alone_lose_records;
 pub use delivery_laws::harms_use_lines;
+pub use delivery_laws::heard_lies_below;
 pub use delivery_laws::lossy_lanes_finish;
 pub use delivery_laws::lost_records_are_awaited;
 pub use delivery_laws::lost_records_are_first;
@@ -69,6 +75,7 @@ pub use delivery_laws::open_asks_go_on;
 pub use delivery_laws::open_ends_hardly_go_awry;
 pub use delivery_laws::open_ends_hardly_stray;
 pub use delivery_laws::openings_are_awaited;
+pub use delivery_laws::positions_are_acked_as_bytes;
 pub use delivery_laws::positions_count_bytes;
 pub use delivery_laws::records_are_awaited_always;
 pub use delivery_laws::records_are_sent_in_order;
@@ -84,6 +91,7 @@ pub use delivery_laws::what_has_room_is_sent;
 pub use delivery_laws::what_holds_up_counts;
 pub use delivery_laws::what_is_awaited_is_there;
 pub use delivery_laws::what_is_finished_is_there;
+pub use delivery_laws::what_is_heard_was_said;
 pub use delivery_laws::what_is_left_is_data;
 pub use delivery_laws::what_is_outstanding_is_awaited;
 pub use delivery_laws::what_is_owed_goes;
@@ -99,6 +107,7 @@ pub use delivery_laws::who_waits_for_nothing_goes_on;
 pub use delivery_laws::whole_paths_deliver;
 pub use delivery_laws::whole_paths_stay_whole;
 pub use delivery_laws::whole_records_are_passed;
+pub use delivery_laws::wide_windows_stay;
 pub use delivery_laws::windows_are_awaited_always;
 pub use laws::a_copy_leaves_by_arriving;
 pub use laws::clear_ends_are_past;
