@@ -6,6 +6,9 @@ mod Begun
 mod CameSent
 mod Carrying
 mod Counted
+mod EndMarks
+mod EndPaths
+mod EndRuns
 mod FateWords
 mod FineMoments
 mod FinePositions
@@ -23,6 +26,7 @@ mod KeptOptions
 mod KeyDuties
 mod KeyHears
 mod KeyRuns
+mod KeyedPieces
 mod KnownKeys
 mod LateJoins
 mod Learning
@@ -34,6 +38,8 @@ mod MomentFacts
 mod Moments
 mod NextGrows
 mod NextRuns
+mod NextSent
+mod NextTrace
 mod Nonces
 mod Numbered
 mod Offering
@@ -52,6 +58,7 @@ mod PayloadsPlaced
 mod Pending
 mod Placing
 mod Reached
+mod ReadEnds
 mod ReadingBack
 mod RecordsKept
 mod Sayings
@@ -60,6 +67,7 @@ mod SentGrows
 mod ShortOctets
 mod ShortPieces
 mod ShownAcks
+mod ShownSeen
 mod Speaking
 mod Syns
 mod Telling
@@ -73,4 +81,5 @@ mod Traces
 mod Values
 mod Wanted
 mod WasSent
+mod WholeSays
 mod Words

@@ -228,6 +228,11 @@ pub mod DataFinsClear
 pub mod ExpiryMeanings
 pub mod ExpiryResends
 pub mod ExpiryAnswers
+pub mod Signless
+pub mod ClearFirst
+pub mod EdgesStay
+pub mod KeysCome
+pub mod FirstWindows
 pub mod DebtKinds
 pub mod Directions
 pub mod ComesAgain
@@ -237,9 +242,4 @@ pub mod DirectionsMended
 pub mod CutRecords
 pub mod OpenFirst
 pub mod SharpPaths
-pub mod Signless
-pub mod ClearFirst
-pub mod EdgesStay
-pub mod KeysCome
-pub mod FirstWindows
 pub mod AnsweredWindows

@@ -19,6 +19,7 @@ use Rattle.whole_paths.proofs.DirectionsMended.{directions_are_mended}
 use Rattle.whole_paths.proofs.OpenFirst.{few_as_it_opens_are_few}
 use Rattle.whole_paths.proofs.SharpCourses.{sharp_exchanges_end}
 use Rattle.whole_paths.proofs.ShortWaits.{exchanges_go_on_so}
+use Rattle.whole_paths.proofs.ToldHeard.{where_all_is_well}
 
 module _ (start : Start) (plan : PathPlan) (most : ℕ) (Other : ℕ → List Turn → Type 0) (MendsOther : ℕ → ℕ → List Turn → Type 0) where
   abbrev pub MendsAll : ℕ → ℕ → List Turn → Type 0
@@ -43,7 +44,7 @@ module _ (start : Start) (plan : PathPlan) (most : ℕ) (Other : ℕ → List Tu
         of_side B = none_of (OwesAlong start B) h.owes_other.one h.other turns h.owes_other.few_one h.few_other h.owes_other.owes_one
 
     pub exchanges : SharpExchanges start plan most (AreMended start plan most (OwesAll start Other)) (AwaitsEither start plan most (OwesAll start Other) MendsAll (WaitsForAUnit start plan (OwesAll start Other)))
-    exchanges = exchanges_go_on_so start plan most (OwesAll start Other) MendsAll one all_mended all_well rest.hears
+    exchanges = exchanges_go_on_so start plan most (OwesAll start Other) MendsAll one all_mended all_well (where_all_is_well start plan (OwesAll start Other 0) one all_well rest.hears)
 
 pub sharp_paths_end_so : SharpPathsEndSo
 sharp_paths_end_so Other MendsOther rests = sharp_exchanges_end (λ start plan most. AreMended start plan most (OwesAll start (Other start)))

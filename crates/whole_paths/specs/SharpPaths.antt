@@ -14,21 +14,21 @@ use Rattle.whole_paths.specs.Directions.{DirectionIsWell, OwesAlong}
 use Rattle.whole_paths.specs.Finish.{patience}
 use Rattle.whole_paths.specs.OnePathScripts.{BeginsWithOnePath, BriefPathsEnd}
 use Rattle.whole_paths.specs.OpenFirst.{OpensWithFew}
-use Rattle.whole_paths.specs.UnitRounds.{IsAllWell, WhatIsToldIsHeard}
+use Rattle.whole_paths.specs.UnitRounds.{IsAllWell, WindowsAndEndsAreHeard}
 
 -- the debts along both directions, and others
 abbrev pub OwesAll : Start → (ℕ → List Turn → Type 0) → ℕ → List Turn → Type 0
 OwesAll start Other = OwesBoth (OwesAlong start A) (OwesBoth (OwesAlong start B) Other)
 
 -- What is left to be shown: the numbers of both directions agree, and there are few debts as the path opens; others are mended; without any of them all
--- is well, and what is told is heard.
+-- is well, the windows that are told are heard, and each DATA_FIN comes.
 pub record RestIsMended (start : Start) (plan : PathPlan) (most : ℕ) (Other : ℕ → List Turn → Type 0) (MendsOther : ℕ → ℕ → List Turn → Type 0)
     : Type 0 where
   pub numbers : (s : Side) → NumbersAgree start s
   pub opens : (s : Side) → OpensWithFew start plan most s
   pub others : DebtsAreMended start plan most Other MendsOther
   pub well : (turns : List Turn) → Other 0 turns → ((s : Side) → DirectionIsWell s (reached values start turns)) → IsAllWell start turns
-  pub hears : WhatIsToldIsHeard start plan (OwesAll start Other 0)
+  pub hears : WindowsAndEndsAreHeard start plan (OwesAll start Other 0)
 
 -- Where that is so by each start, whole paths deliver both files with `patience`, or an end died early.
 abbrev pub SharpPathsEndSo : Type 1
