@@ -6,15 +6,16 @@ use Rattle.world_laws.specs.Openings.{PathPlan, Start}
 use Rattle.whole_paths.specs.AnsweredExpiries.{IsAnsweredAt}
 use Rattle.whole_paths.specs.ExpiriesInARow.{ExpiriesAreAnswered}
 use Rattle.whole_paths.specs.ExpiryMeanings.{EndsTheRow, IsOpenedFor, IsWanted}
-use Rattle.whole_paths.specs.FewLossesDeliver.{BriefFewLossesFinish}
-use Rattle.whole_paths.specs.FewLossesEnd.{BriefLossesEndNone, RunsAlive}
+use Rattle.whole_paths.specs.FewLossesEnd.{RunsAlive}
+use Rattle.whole_paths.specs.Finish.{BriefLossesEndNone, BriefLossesFinish, IsBrief}
 use Rattle.whole_paths.specs.OnePathScripts.{BeginsWithOnePath}
 use Rattle.whole_paths.specs.OpeningCourses.{opening_patience}
 use Rattle.whole_paths.proofs.AnsweredExpiries.{expiries_are_answered_so}
 use Rattle.whole_paths.proofs.ExpiryAnswers.{segments_mean_so}
+use Rattle.whole_paths.proofs.FewLosses.{few_losses_finish_so}
 use Rattle.whole_paths.proofs.FewLossesEnd.{few_losses_end_none_so}
-use Rattle.whole_paths.proofs.OpeningEnds.{one_path_ends, one_path_ends_in_octets}
-use Rattle.whole_paths.proofs.OverOctets.{as_far}
+use Rattle.whole_paths.proofs.OpeningEnds.{one_path_ends}
+use Rattle.whole_paths.proofs.OverOctets.{end_none_where, finish_where}
 
 -- the exchange of each expiry
 answers : (start : Start) (plan : PathPlan) → BeginsWithOnePath start plan → ExpiriesAreAnswered values (RunsAlive start) (IsAnsweredAt IsWanted EndsTheRow IsOpenedFor)
@@ -24,19 +25,11 @@ answers start plan begins =
 pub few_losses_end_none : BriefLossesEndNone values
 few_losses_end_none = few_losses_end_none_so (λ start. IsAnsweredAt IsWanted EndsTheRow IsOpenedFor) answers
 
-pub few_losses_finish : BriefFewLossesFinish values opening_patience
-few_losses_finish script path file_a file_b turns h brief lawful few many = ⊎_elim
-    (λ delivered. delivered)
-    (λ died. absurd (few_losses_end_none script path file_a file_b turns h brief few died))
-    (one_path_ends script path file_a file_b turns h.mild brief lawful many)
+pub few_losses_finish : BriefLossesFinish values opening_patience
+few_losses_finish = few_losses_finish_so values IsBrief opening_patience one_path_ends few_losses_end_none
 
 pub few_losses_end_none_in_octets : BriefLossesEndNone octets
-few_losses_end_none_in_octets script path file_a file_b turns h brief few died =
-    let far = as_far script path file_a file_b h.mild turns in
-    few_losses_end_none script path file_a file_b turns h brief (subst (λ n. n ≤ 4) (far.harms 0) few) ((far.died 0).0 died)
+few_losses_end_none_in_octets = end_none_where IsBrief few_losses_end_none
 
-pub few_losses_finish_in_octets : BriefFewLossesFinish octets opening_patience
-few_losses_finish_in_octets script path file_a file_b turns h brief lawful few many = ⊎_elim
-    (λ delivered. delivered)
-    (λ died. absurd (few_losses_end_none_in_octets script path file_a file_b turns h brief few died))
-    (one_path_ends_in_octets script path file_a file_b turns h.mild brief lawful many)
+pub few_losses_finish_in_octets : BriefLossesFinish octets opening_patience
+few_losses_finish_in_octets = finish_where IsBrief opening_patience few_losses_finish

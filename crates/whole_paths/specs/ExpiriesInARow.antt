@@ -59,13 +59,3 @@ module _ {C : Type 0} where
 abbrev pub HoldsAlong : {C : Type 0} → Codec C → (WorldState C → Type 0) → List Turn → WorldState C → Type 0
 HoldsAlong k Holds [] w = Holds w
 HoldsAlong k Holds (turn ∷ turns) w = Holds w × HoldsAlong k Holds turns (after_turn k turn w)
-
--- ---- what is promised of few losses
-
-module _ {C : Type 0} (k : Codec C) where
-  -- with four harmed segments at most, and no line by which the path dies or its address is taken back, neither end of the only path of a mild
-  -- script is ever dead
-  abbrev pub FewLossesEndNone : Type 0
-  FewLossesEndNone = (script : Script) (path : PathLine) (file_a file_b : List ℕ) (turns : List Turn) → IsMild script path file_a file_b
-      → list_all is_harmless_to_ends script.lines ≡ true → harmed k 0 turns (opened script file_a file_b) ≤ 4
-      → AnEndDied 0 (run_of k script file_a file_b turns) → ⊥

@@ -26,8 +26,3 @@ pub record RunsAlive (start : Start) (w : WorldState Carried) : Type 0 where
 pub record HarmsNoEnd (script : Script) (path : PathLine) (file_a file_b : List ℕ) : Type 0 where
   pub mild : IsMild script path file_a file_b
   pub harmless : list_all is_harmless_to_ends script.lines ≡ true
-
--- with four harmed segments at most no end of the path is ever dead, by fewer than 2^64 - 1 turns
-abbrev pub BriefLossesEndNone : {C : Type 0} → Codec C → Type 0
-BriefLossesEndNone k = (script : Script) (path : PathLine) (file_a file_b : List ℕ) (turns : List Turn) → HarmsNoEnd script path file_a file_b → IsBrief script turns
-    → harmed k 0 turns (opened script file_a file_b) ≤ 4 → AnEndDied 0 (run_of k script file_a file_b turns) → ⊥

@@ -36,7 +36,6 @@ pub mod ExpiriesInARow
 pub mod Deaths
 pub mod ExpirySegments
 pub mod AnsweredExpiries
-pub mod FewLossesDeliver
 pub mod HeardBelow
 pub mod HeardSaid
 pub mod KeptAddresses

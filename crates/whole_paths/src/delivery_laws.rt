@@ -12,9 +12,7 @@ ghost use Rattle.whole_paths.specs.Delivery.{WhatIsFinishedIsThere, WhatIsThereI
 ghost use Rattle.whole_paths.specs.EdgeRises.{EachRiseEndsTheRow, EdgesWaitForTheHandshake};
 ghost use Rattle.whole_paths.specs.EndRounds.{AnEndIsTold};
 ghost use Rattle.whole_paths.specs.EndedStreams.{WhatEndedIsAcknowledged};
-ghost use Rattle.whole_paths.specs.FewLossesDeliver.{BriefFewLossesFinish};
-ghost use Rattle.whole_paths.specs.FewLossesEnd.{BriefLossesEndNone};
-ghost use Rattle.whole_paths.specs.Finish.{HarmsUseLines, BriefPathsDeliver, OneBriefPathEnds};
+ghost use Rattle.whole_paths.specs.Finish.{HarmsUseLines, BriefLossesEndNone, BriefLossesFinish, BriefPathsDeliver, OneBriefPathEnds};
 ghost use Rattle.whole_paths.specs.FirstLost.{LostRecordsAreAwaited, LostRecordsAreMended};
 ghost use Rattle.whole_paths.specs.GoingOn.{RoundsBeginToGoOn, RoundsGoOn, StepsLetItGoOn, EndsGoOn};
 ghost use Rattle.whole_paths.specs.FirstSigns.{EachFirstSignComes};
@@ -144,8 +142,8 @@ pub fn each_rise_ends_the_row()
 pub fn few_losses_finish()
     ensures none_octets { BriefLossesEndNone octets }
     ensures none_values { BriefLossesEndNone values }
-    ensures octets { BriefFewLossesFinish octets opening_patience }
-    ensures values { BriefFewLossesFinish values opening_patience }
+    ensures octets { BriefLossesFinish octets opening_patience }
+    ensures values { BriefLossesFinish values opening_patience }
 {}
 
 /// A law: in a mild connection over one path no send book is aborted, or given to one path alone, no reassembly book is aborted, and no reader
