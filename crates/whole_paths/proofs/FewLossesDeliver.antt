@@ -1,5 +1,5 @@
 -- Each expiry is answered but for harmed segments, so both files are delivered over one path with four harmed segments at most.
-use Rattle.std.proofs.Common.{subst, ⊎_elim, ◌≤◌, arith}
+use Rattle.std.proofs.Common.{arith}
 use Rattle.path_core.specs.Octets.{octets}
 use Rattle.path_core.specs.Values.{values}
 use Rattle.world_laws.specs.Openings.{PathPlan, Start}

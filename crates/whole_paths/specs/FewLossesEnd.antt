@@ -1,17 +1,16 @@
 -- What is known of each moment of a connection by a script of one path, as long as no end of the path is dead.
-use Rattle.std.specs.Prelude.{ℕ, ◌-◌, ◌^◌, ◌≡◌, ◌<◌, ◌≤◌, true, false, List, length}
+use Rattle.std.specs.Prelude.{ℕ, ◌-◌, ◌^◌, ◌≡◌, ◌<◌, true, false, List, length}
 use Rattle.std.specs.List.{list_all}
 use Rattle.sides.specs.declared.side.Side.{Side}
 use Rattle.link_script.specs.declared.script.PathLine.{PathLine}
 use Rattle.link_script.specs.declared.script.Script.{Script}
 use Rattle.subflow_tcp.specs.States.{is_dead}
-use Rattle.path_core.specs.Codec.{Codec}
 use Rattle.path_core.specs.State.{PathState, end_at}
 use Rattle.path_core.specs.Values.{Carried, values}
 use Rattle.world_laws.specs.Openings.{Start}
 use Rattle.world_laws.specs.RoundDone.{reached}
 use Rattle.world_laws.specs.Worlds.{WorldState, Turn}
-use Rattle.whole_paths.specs.Finish.{AnEndDied, IsBrief, IsMild, IsPathAt, harmed, is_harmless_to_ends, opened, run_of}
+use Rattle.whole_paths.specs.Finish.{IsMild, IsPathAt, is_harmless_to_ends}
 
 -- the moment is one after these turns, fewer than 2^64 - 1, and both ends of path 0 live
 pub record RunsAlive (start : Start) (w : WorldState Carried) : Type 0 where
