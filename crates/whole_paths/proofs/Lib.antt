@@ -232,6 +232,7 @@ pub mod Signless
 pub mod ClearFirst
 pub mod EdgesStay
 pub mod KeysCome
+pub mod KnownWindows
 pub mod FirstWindows
 pub mod DebtKinds
 pub mod Directions
