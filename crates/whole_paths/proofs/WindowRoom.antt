@@ -20,6 +20,7 @@ use Rattle.whole_paths.specs.News.{one_if}
 use Rattle.whole_paths.specs.Overruns.{StaysWithin}
 use Rattle.whole_paths.specs.PositionCounts.{CountsBytes}
 use Rattle.whole_paths.specs.WindowRoom.{EachWindowHasRoom, LivingWindowsHaveRoom}
+use Rattle.whole_paths.proofs.EdgesStay.{sent_fin}
 use Rattle.whole_paths.proofs.Arrivals.{sender_of}
 use Rattle.whole_paths.proofs.Came.{what_is_acknowledged_came}
 use Rattle.whole_paths.proofs.FinishedThere.{what_is_finished_is_there}
@@ -27,19 +28,9 @@ use Rattle.whole_paths.proofs.OpenCourses.{IsFirstPath, each_first}
 use Rattle.whole_paths.proofs.Overruns.{no_end_overruns}
 use Rattle.whole_paths.proofs.PositionCounts.{positions_count_bytes}
 
--- a living end that sent its FIN is behind it
-behind_so : (x : EndPhase) → is_unfinished x ≡ false → is_dead x ≡ false → is_behind_fin x ≡ true
-behind_so phase.Waiting none living = absurd (true≢false none)
-behind_so phase.Listen none living = absurd (true≢false none)
-behind_so phase.SynSent none living = absurd (true≢false none)
-behind_so phase.SynReceived none living = absurd (true≢false none)
-behind_so phase.Established none living = absurd (true≢false none)
-behind_so phase.CloseWait none living = absurd (true≢false none)
-behind_so _ none living = refl
-
--- so all of its stream is there, or it sent none
+-- of a living end that sent its FIN all of its stream is there
 pub sent_its_fin : (start : Start) (p : PathState Carried) → IsFirstPath start p → (s : Side) → is_dead (end_at s p).tcp.state ≡ false → (end_at s p).tcp.send.finished ≡ true → HasFinished (end_at s p)
-sent_its_fin start p first s living sent = HasFinished.sent_fin (behind_so (end_at s p).tcp.state (by (is_unfinished (end_at s p).tcp.state) refl) living) living
+sent_its_fin start p first s living sent = HasFinished.sent_fin (sent_fin (end_at s p).tcp.state (by (is_unfinished (end_at s p).tcp.state) refl) living) living
   where
     by : (b : Bool) → is_unfinished (end_at s p).tcp.state ≡ b → b ≡ false
     by false is = refl
