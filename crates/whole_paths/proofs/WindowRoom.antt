@@ -28,7 +28,7 @@ use Rattle.whole_paths.proofs.OpenCourses.{IsFirstPath, each_first}
 use Rattle.whole_paths.proofs.Overruns.{no_end_overruns}
 use Rattle.whole_paths.proofs.PositionCounts.{positions_count_bytes}
 
--- of a living end that sent its FIN all of its stream is there
+-- a living end that sent its FIN has finished
 pub sent_its_fin : (start : Start) (p : PathState Carried) → IsFirstPath start p → (s : Side) → is_dead (end_at s p).tcp.state ≡ false → (end_at s p).tcp.send.finished ≡ true → HasFinished (end_at s p)
 sent_its_fin start p first s living sent = HasFinished.sent_fin (sent_fin (end_at s p).tcp.state (by (is_unfinished (end_at s p).tcp.state) refl) living) living
   where
