@@ -1,5 +1,5 @@
 use Rattle.whole_paths.proofs.FewLossesDeliver as losses
-use Rattle.whole_paths.proofs.delivery_laws.few_losses_finish.Goals as goal
+use Rattle.whole_paths.proofs.expiry_laws.few_losses_finish.Goals as goal
 
 pub returns-clause-none_octets : goal.returns-clause-none_octets
 returns-clause-none_octets c = losses.few_losses_end_none_in_octets
