@@ -91,7 +91,9 @@ pub mod OpeningSyns
 pub mod NeverUnmapped
 pub mod News
 pub mod NewsBounds
+pub mod NumbersAgree
 pub mod Offered
+pub mod OpenQuiet
 pub mod OnePath
 pub mod OnlyBooks
 pub mod OctetsPassed
@@ -153,6 +155,11 @@ pub mod ToldSoon
 pub mod Treating
 pub mod UnaSaid
 pub mod WideWindows
+pub mod BareSegments
+pub mod FinsComing
+pub mod FinsSent
+pub mod FinRounds
+pub mod OneDebt
 pub mod Unharmed
 pub mod Unmended
 pub mod Unmapped
@@ -244,3 +251,6 @@ pub mod CutRecords
 pub mod OpenFirst
 pub mod SharpPaths
 pub mod AnsweredWindows
+pub mod SynsSoon
+pub mod FirstPiecesSoon
+pub mod AnswersSoon

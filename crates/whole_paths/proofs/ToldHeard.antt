@@ -1,5 +1,5 @@
 -- What is told is heard, where the windows are and each DATA_FIN comes: what the peer's side received is acknowledged in four rounds.
-use Rattle.std.proofs.Common.{◌≡◌, refl, sym, subst, ◌⊎◌, inl, inr, ⊎_elim, ℕ, ◌+◌, ◌-◌, ◌≤◌, arith, List}
+use Rattle.std.proofs.Common.{refl, ◌⊎◌, inl, inr, ⊎_elim, ◌≤◌, arith, List}
 use Rattle.sides.specs.declared.side.Side.{Side}
 use Rattle.sides.specs.Side.{peer}
 use Rattle.send_book.specs.State.{acked_len}
@@ -11,7 +11,7 @@ use Rattle.world_laws.specs.RoundDone.{reached}
 use Rattle.world_laws.specs.Worlds.{Turn, WorldState}
 use Rattle.whole_paths.specs.Delivery.{IsAllThere}
 use Rattle.whole_paths.specs.OnePathScripts.{BeginsWithOnePath}
-use Rattle.whole_paths.specs.SegmentRounds.{IsHeard, read_after}
+use Rattle.whole_paths.specs.SegmentRounds.{IsHeard}
 use Rattle.whole_paths.specs.UnitRounds.{AreToldSoon, IsAllWell, WellRounds, WhatIsToldIsHeard, WhatIsToldIsHeardSo, WindowsAndEndsAreHeard}
 use Rattle.whole_paths.proofs.AckedData.{four_rounds_acknowledge}
 use Rattle.whole_paths.proofs.RoundSteps.{between, far}

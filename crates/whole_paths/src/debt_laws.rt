@@ -1,22 +1,33 @@
 //! What is to be mended of a connection over one path, and how it is, as clauses of functions that do nothing.
 ghost use Rattle.whole_paths.specs.CutRecords.{CheckedRecordsArePassedWhole};
-ghost use Rattle.whole_paths.specs.DirectionWaits.{DirectionsAreMended};
-ghost use Rattle.whole_paths.specs.OpenFirst.{FewAsItOpensAreFew};
+ghost use Rattle.whole_paths.specs.DirectionWaits.{CheckedNumbersAgree, DirectionsAreMended, NumbersAgreeSo};
+ghost use Rattle.whole_paths.specs.OneDebt.{FinDebtsGoOn};
+ghost use Rattle.whole_paths.specs.OpenFirst.{AOwesRecordsFirst, BOwesNoneFirst, FewAsItOpensAreFew};
 ghost use Rattle.whole_paths.specs.Directions.{DirectionsGoOn, WhatOwesNoneIsWell, WhoIsToldButStaysSo};
 
-/// A law: with checksums RCV.NXT of an end lies inside no record of data of its peer's, on path 0 of a mild connection: each is passed whole (RFC 8684,
-/// section 3.3.1).
+/// A law: with checksums RCV.NXT of an end lies inside no record of data of its peer's, on path 0 of a mild connection: each is passed whole
+/// (RFC 8684, section 3.3.1).
 pub fn checked_records_are_passed_whole()
     ensures { CheckedRecordsArePassedWhole }
 {}
 
-/// A law: in one direction between open ends of the only path of a mild connection a segment that is harmed makes one debt at most (RFC 9293,
-/// section 3.10.7.4).
+/// A law: with checksums as many bytes of a side's stream are acknowledged by Data ACKs as positions of the only path of a mild connection, where a
+/// turn is over, and never more; and RCV.NXT of the peer lies inside no record of data (RFC 8684, sections 3.3.1 and 3.3.2; `checked`).
+///
+/// So it is at each moment at which the path is open, unless all of the side's stream is with the peer; without checksums, too, where records are
+/// passed whole (`so`).
+pub fn numbers_agree()
+    ensures so { NumbersAgreeSo }
+    ensures checked { CheckedNumbersAgree }
+{}
+
+/// A law: in one direction of the only path of a mild connection a segment that is harmed makes one debt at most (RFC 9293, section 3.10.7.4).
 ///
 /// Debts are records of data of a side that may be lost, and what harmed segments of its peer acknowledged and the side's end didn't hear: by each
 /// turn there are no more than before, but for one if a segment is harmed (`debts`). Until the peer is past the side's FIN the end is told soon how
-/// far the peer is, or that stands among them; and each segment under way to it acknowledges what it heard, is told soon, or stands there
-/// (`told`). Once all of the side's stream is with the peer, none is owed. Without debts each record of the side is well, and its end is told soon, or
+/// far the peer is, or that stands among them; and each segment under way to it acknowledges what it heard, is told soon, or stands there (`told`),
+/// by turns between ends past the handshake, B's of which may send a DSS.
+/// Once all of the side's stream is with the peer, none is owed. Without debts each record of the side is well, and its end is told soon, or
 /// all of its stream is with the peer (`free`).
 pub fn directions_go_on()
     ensures told { WhoIsToldButStaysSo }
@@ -27,15 +38,27 @@ pub fn directions_go_on()
 /// A law: of such debts one is mended within 62,000 ticks, unless a segment is harmed, over one path of a mild connection (RFC 6298, section 5).
 ///
 /// An end hears what it wasn't told: its timer runs out within a minute, its first record goes again, and the peer answers. A record that may be
-/// lost becomes the first one, since all before it comes within 400 ticks, and is acknowledged; then it goes again, as the timer runs out. Three
-/// facts of the direction's numbers are premises: no more is acknowledged by Data ACKs than SND.UNA is past, and no less where the turn is over, and
-/// RCV.NXT of the peer lies inside no record of data. That there are no more debts than harmed segments is another one.
+/// lost becomes the first one, since all before it comes within 400 ticks, and is acknowledged; then it goes again, as the timer runs out. That the
+/// direction's numbers agree, as they do with checksums (`numbers_agree`), is a premise, and that there are no more debts than harmed segments.
 pub fn directions_are_mended()
     ensures { DirectionsAreMended }
 {}
 
 /// A law: along a direction there are no more debts than harmed segments at any open moment of the only path of a mild connection, where there are no
-/// more as the path opens (RFC 8684, section 3.1).
+/// more as B's end may send a DSS first (RFC 8684, section 3.1; `opens`).
+///
+/// In B's direction there are none by the turn by which B's end may send one first (`b`): it sent nothing behind its SYN. And in A's there are as many
+/// as records may be lost (`a`): nothing came to B behind A's SYN.
 pub fn few_as_it_opens_are_few()
-    ensures { FewAsItOpensAreFew }
+    ensures opens { FewAsItOpensAreFew }
+    ensures b { BOwesNoneFirst }
+    ensures a { AOwesRecordsFirst }
+{}
+
+/// A law: a DATA_FIN that isn't told within 400 ticks is a debt of one harmed segment at most, over one path of a mild connection (RFC 8684,
+/// section 3.3.3).
+///
+/// Where it isn't owed the DATA_FIN wasn't sent yet, or the peer heard it, or it comes within 400 ticks, or more was sent behind it.
+pub fn fin_debts_go_on()
+    ensures { FinDebtsGoOn }
 {}

@@ -569,7 +569,8 @@ pub fn what_is_in_order_is_passed()
 /// A law: a copy of a piece that comes to an open end is taken in order, with its mapping, or it came before (RFC 9293, section 3.10.7.4;
 /// RFC 8684, section 3.3.1).
 ///
-/// The copy is neither stripped nor altered, on the path that opens the connection, and a DSS maps its bytes. Where
+/// The copy is neither stripped nor altered, on the path that opens the connection, and a DSS maps its bytes, or the option that shows both keys
+/// those of A's first piece. Where
 /// RCV.NXT is one of its positions, all of them lie in the window, what it acknowledges was sent, and the side didn't fall back to plain
 /// TCP, the end takes it. Where RCV.NXT is past it, it lies outside the window. `what_is_in_hand_is_acknowledged` says what follows of
 /// both. The segment of a record that an end sends with its own mapping is such a piece (`records`), and a copy of it that was under way
