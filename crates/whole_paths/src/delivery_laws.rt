@@ -270,7 +270,7 @@ pub fn each_answer_comes_soon()
 /// peer's window has room for all it sent, its FIN included.
 ///
 /// An unfinished end has no more outstanding than the window (`no_end_overruns`). Of one that sent its FIN all but the FIN is there
-/// (`what_is_finished_is_there`). Open ends live (`opened`). And until A's end sends something behind its SYN it knows of no window that is shut
+/// (`what_is_finished_is_there`). So it is past the handshake (`opened`). And until A's end sends something behind its SYN it knows of no window that is shut
 /// (`unshut`): B's SYN/ACK told it one that is open.
 pub fn each_window_has_room()
     ensures living { LivingWindowsHaveRoom }
