@@ -36,7 +36,6 @@ pub mod ExpiriesInARow
 pub mod Deaths
 pub mod ExpirySegments
 pub mod AnsweredExpiries
-pub mod FewLossesDeliver
 pub mod HeardBelow
 pub mod HeardSaid
 pub mod KeptAddresses
@@ -141,6 +140,8 @@ pub mod FirstSigns
 pub mod SignWaits
 pub mod OpeningCourses
 pub mod UnaSaid
+pub mod EdgeRises
+pub mod ExpiryMeanings
 pub mod DebtKinds
 pub mod Directions
 pub mod DirectionWaits
