@@ -240,3 +240,4 @@ pub mod FirstWindows
 pub mod SynsSoon
 pub mod FirstPiecesSoon
 pub mod AnswersSoon
+pub mod KeyedFirst
