@@ -106,6 +106,9 @@ pub mod WindowRoom
 pub mod WindowWaits
 pub mod WindowsHeard
 pub mod WideWindows
+pub mod BareSegments
+pub mod FinsComing
+pub mod OneDebt
 pub mod Writers
 pub mod EndedStreams
 pub mod Ends

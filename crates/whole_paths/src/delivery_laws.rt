@@ -3,10 +3,9 @@ ghost use Rattle.path_core.specs.Octets.{octets};
 ghost use Rattle.path_core.specs.Values.{values};
 ghost use Rattle.whole_paths.specs.AckedData.{FourRoundsAcknowledge, PositionsAreAckedAsBytes};
 ghost use Rattle.whole_paths.specs.AnswerWaits.{AnswersAreAwaitedAlways};
-ghost use Rattle.whole_paths.specs.AnswersSoon.{EachSynAckIsAnsweredSoon};
 ghost use Rattle.whole_paths.specs.AskStages.{OpenAsksAreAnswered};
 ghost use Rattle.whole_paths.specs.AwaitedThere.{WhatIsAwaitedIsThere};
-ghost use Rattle.whole_paths.specs.Clear.{AHasTheKeyFirst, BIsClearFirst, BIsIdleBefore, BSendsNothingBefore, NothingComesBefore, TheFirstPieceWaits};
+ghost use Rattle.whole_paths.specs.Clear.{BIsClearFirst, BIsIdleBefore, BSendsNothingBefore, NothingComesBefore, TheFirstPieceWaits};
 ghost use Rattle.whole_paths.specs.DataLeft.{WhatIsLeftIsData};
 ghost use Rattle.whole_paths.specs.Deliveries.{WhoIsToldHasAll};
 ghost use Rattle.whole_paths.specs.Delivery.{WhatIsFinishedIsThere, WhatIsThereIsDelivered, WhatIsThereStays};
@@ -15,7 +14,6 @@ ghost use Rattle.whole_paths.specs.EndedStreams.{WhatEndedIsAcknowledged};
 ghost use Rattle.whole_paths.specs.Finish.{HarmsUseLines, BriefPathsDeliver, OneBriefPathEnds};
 ghost use Rattle.whole_paths.specs.FirstLost.{LostRecordsAreAwaited, LostRecordsAreMended};
 ghost use Rattle.whole_paths.specs.GoingOn.{RoundsBeginToGoOn, RoundsGoOn, StepsLetItGoOn, EndsGoOn};
-ghost use Rattle.whole_paths.specs.FirstPiecesSoon.{EachFirstPieceComesSoon};
 ghost use Rattle.whole_paths.specs.FirstSigns.{EachFirstSignComes};
 ghost use Rattle.whole_paths.specs.Halted.{WhoHaltsGoesOnHalting};
 ghost use Rattle.whole_paths.specs.Lanes.Laws.{LossyLanesEnd, LossyLanesFinish};
@@ -54,7 +52,6 @@ ghost use Rattle.whole_paths.specs.ShutWindows.{ShutWindowsHaveRoom};
 ghost use Rattle.whole_paths.specs.SignWaits.{FirstSignsAreAwaited};
 ghost use Rattle.whole_paths.specs.StayingWhole.{WholePathsStayWhole};
 ghost use Rattle.whole_paths.specs.Straying.{OpenEndsHardlyStray, SendersHardlyStray, WholePathsAreOpen};
-ghost use Rattle.whole_paths.specs.SynsSoon.{EachSynComesSoon};
 ghost use Rattle.whole_paths.specs.ToldStays.{WhoIsToldStaysTold};
 ghost use Rattle.whole_paths.specs.Unmended.{DebtsGoOn, HarmsAloneAreOwed, HarmsAloneLoseRecords};
 ghost use Rattle.whole_paths.specs.UnitRounds.{AUnitIsMade, AllUnitsAreThere, ShortWaitsGoOn};
@@ -62,6 +59,8 @@ ghost use Rattle.whole_paths.specs.Unstopped.{MildPathsAreNeverStopped};
 ghost use Rattle.whole_paths.specs.WindowRoom.{EachWindowHasRoom};
 ghost use Rattle.whole_paths.specs.WindowWaits.{WindowsAreAwaitedAlways};
 ghost use Rattle.world_laws.specs.Promises.{HoldsAnyway};
+ghost use Rattle.whole_paths.specs.BareSegments.{BareSegmentsAreTaken};
+ghost use Rattle.whole_paths.specs.FinsComing.{DataFinsComeSoon, DataFinsStaySoon, FourRoundsEnd};
 ghost use Rattle.whole_paths.specs.WideWindows.{WideWindowsStay};
 
 /// A law: where no line takes options away, alters payload or lets a side close at once, both sides go by mappings of pieces, always.
@@ -562,30 +561,6 @@ pub fn whole_paths_deliver()
     ensures values { BriefPathsDeliver values long_patience }
 {}
 
-/// A law: a SYN that an end sends as it opens is harmed, or comes within 400 ticks (RFC 9293, section 3.5).
-///
-/// By each turn of a mild connection in which the link takes a SYN of A's for which B listens, or B's SYN/ACK for A: the segment is harmed, or the
-/// wait for it that `each_syn_comes` speaks of ends 400 ticks later, twice the longest delay.
-pub fn each_syn_comes_soon()
-    ensures { EachSynComesSoon }
-{}
-
-/// A law: an answer of A's to the SYN/ACK of a half-open B is harmed, or comes within 400 ticks (RFC 9293, section 3.10.7.4).
-///
-/// By each turn of a mild connection in which the link takes a segment of A's that acknowledges B's SYN and nothing more, while A is past the handshake:
-/// it is harmed, or the wait for it that `each_syn_ack_is_answered` speaks of ends 400 ticks later, twice the longest delay.
-pub fn each_syn_ack_is_answered_soon()
-    ensures { EachSynAckIsAnsweredSoon }
-{}
-
-/// A law: A's first piece that is sent with both keys is harmed, or comes within 400 ticks (RFC 8684, section 3.1).
-///
-/// By each turn of a mild connection in which the link takes it, while neither end may send a DSS, and nothing came to B behind the SYN: the segment is
-/// harmed, or the wait for it that `each_first_piece_comes` speaks of ends 400 ticks later, twice the longest delay.
-pub fn each_first_piece_comes_soon()
-    ensures { EachFirstPieceComesSoon }
-{}
-
 /// A law: over one path A's end may send a DSS only where B's may (RFC 8684, section 3.1).
 ///
 /// It may by a DSS that it heard, and B's end sends none before it may, and nothing behind its SYN (`quiet`). So it is on the only path of a mild
@@ -593,13 +568,6 @@ pub fn each_first_piece_comes_soon()
 pub fn b_is_clear_first()
     ensures first { BIsClearFirst }
     ensures quiet { BSendsNothingBefore }
-{}
-
-/// A law: where B's end may send a DSS A's is past the handshake, and knows B's key (RFC 8684, section 3.1).
-///
-/// While A treats the SYN/ACK B's end may send none. So it is on path 0 of a mild connection, at every moment at which no end is dead.
-pub fn a_has_the_key_first()
-    ensures { AHasTheKeyFirst }
 {}
 
 /// A law: over one path nothing comes to an end behind its peer's SYN until the end may send a DSS, while no end is dead (RFC 8684, section 3.1).
@@ -757,8 +725,8 @@ pub fn records_come_in_time()
 /// A law: on the only path of a mild connection bytes are acknowledged as positions are (RFC 8684, section 3.3.2).
 ///
 /// Where the path's turn is over, neither of its ends is dead, and a side's sent no FIN, as many bytes of its stream are acknowledged as positions of
-/// its subflow, but for that of the SYN: to its end, and in its send book. So in four rounds between open ends all is acknowledged that the peer's side had received, where the end was
-/// to be told soon how far its peer was; or all of the stream is there (`rounds`).
+/// its subflow, but for that of the SYN: to its end, and in its send book. So in four rounds between open ends all is acknowledged that the peer's
+/// side had received, where the end was to be told soon how far its peer was; or all of the stream is there (`rounds`).
 pub fn positions_are_acked_as_bytes()
     ensures positions { PositionsAreAckedAsBytes }
     ensures rounds { FourRoundsAcknowledge }
@@ -786,4 +754,25 @@ pub fn heard_lies_below()
 pub fn wide_windows_stay()
     ensures octets { WideWindowsStay octets }
     ensures values { WideWindowsStay values }
+{}
+
+/// A law: between open ends a segment without an octet is taken as it arrives, unless its end takes one before that goes past it (RFC 9293, section
+/// 3.10.7.4): then more was sent behind it.
+///
+/// It is said of turns of a mild connection, and of a segment before whose position all stands that the end has: so it is with each that an end sends
+/// at SND.NXT, and no reset; and one that is sent is harmed, or comes within 400 ticks, where the peer's window has room for what was sent before.
+pub fn bare_segments_are_taken()
+    ensures { BareSegmentsAreTaken }
+{}
+
+/// A law: past the handshake of a mild connection a DATA_FIN that is sent is harmed, or comes within 400 ticks and is heard, unless more is sent behind
+/// it (RFC 8684, section 3.3.3).
+///
+/// By each turn: one that comes by a tick comes by it still, or is heard; or more was sent behind it, so that it may be overtaken, and doesn't count
+/// then (`by_turn`). An end sends its DATA_FIN once its end is known, though bytes before it wait for a shut window. Over one path it stays so that the
+/// DATA_FIN wasn't sent, or comes so, but for a harm (`stays`); and in four rounds the peer's side knows where the stream ends (`rounds`).
+pub fn data_fins_come_soon()
+    ensures by_turn { DataFinsComeSoon }
+    ensures stays { DataFinsStaySoon }
+    ensures rounds { FourRoundsEnd }
 {}
