@@ -12,7 +12,6 @@ ghost use Rattle.whole_paths.specs.Delivery.{WhatIsFinishedIsThere, WhatIsThereI
 ghost use Rattle.whole_paths.specs.EndRounds.{AnEndIsTold};
 ghost use Rattle.whole_paths.specs.EndedStreams.{WhatEndedIsAcknowledged};
 ghost use Rattle.whole_paths.specs.Finish.{HarmsUseLines, BriefPathsDeliver, OneBriefPathEnds};
-ghost use Rattle.whole_paths.specs.FirstLost.{LostRecordsAreAwaited, LostRecordsAreMended};
 ghost use Rattle.whole_paths.specs.GoingOn.{RoundsBeginToGoOn, RoundsGoOn, StepsLetItGoOn, EndsGoOn};
 ghost use Rattle.whole_paths.specs.FirstSigns.{EachFirstSignComes};
 ghost use Rattle.whole_paths.specs.Halted.{WhoHaltsGoesOnHalting};
@@ -22,7 +21,6 @@ ghost use Rattle.whole_paths.specs.HeardSaid.{WhatIsHeardWasSaid};
 ghost use Rattle.whole_paths.specs.KeptAddresses.{FirstAddressesStay, HarmlessEndsDieOfExpiries};
 ghost use Rattle.whole_paths.specs.LastFin.{FinsAreLast};
 ghost use Rattle.whole_paths.specs.Mending.{EachAnswerComesSoon, EachRecordStaysWell};
-ghost use Rattle.whole_paths.specs.Mends.{WhatRunsOutIsMended};
 ghost use Rattle.whole_paths.specs.Mild.{IsPromisedMildly, KeysAreKnown, LinksAreMild, MappingIsKept, MildScriptsStartMildly, NeverBreaks};
 ghost use Rattle.whole_paths.specs.MildDeaths.{MildEndsDieOfExpiries};
 ghost use Rattle.whole_paths.specs.OwedGoes.{WhatIsOwedGoes};
@@ -41,7 +39,7 @@ ghost use Rattle.whole_paths.specs.Received.{HoldsOfOnlyPaths};
 ghost use Rattle.whole_paths.specs.RecordWaits.{NoRoundCounts, RecordsAreAwaitedAlways};
 ghost use Rattle.whole_paths.specs.RisesOwed.{WhatRisesIsOwed};
 ghost use Rattle.whole_paths.specs.SegmentRounds.{ASegmentIsRead, EachRoundReads, EachRoundWrites, FourRoundsBring, FourRoundsTell};
-ghost use Rattle.whole_paths.specs.ClearRounds.{EightRoundsClear, FourRoundsClear, LostRecordsAreFirst, LostRecordsStay, WhatIsReachedIsFirst};
+ghost use Rattle.whole_paths.specs.ClearRounds.{EightRoundsClear, FourRoundsClear};
 ghost use Rattle.whole_paths.specs.OctetsPassed.{AllComesUpToLost, OctetsArePassed, WellOctetsCome};
 ghost use Rattle.whole_paths.specs.RecordsPassed.{FirstRecordsArePassed, RecordsComeInTime, WholeRecordsArePassed};
 ghost use Rattle.whole_paths.specs.SenderWaits.{SendersAreAwaited};
@@ -53,7 +51,7 @@ ghost use Rattle.whole_paths.specs.SignWaits.{FirstSignsAreAwaited};
 ghost use Rattle.whole_paths.specs.StayingWhole.{WholePathsStayWhole};
 ghost use Rattle.whole_paths.specs.Straying.{OpenEndsHardlyStray, SendersHardlyStray, WholePathsAreOpen};
 ghost use Rattle.whole_paths.specs.ToldStays.{WhoIsToldStaysTold};
-ghost use Rattle.whole_paths.specs.Unmended.{DebtsGoOn, HarmsAloneAreOwed, HarmsAloneLoseRecords};
+ghost use Rattle.whole_paths.specs.Unmended.{HarmsAloneLoseRecords};
 ghost use Rattle.whole_paths.specs.UnitRounds.{AUnitIsMade, AllUnitsAreThere, ShortWaitsGoOn};
 ghost use Rattle.whole_paths.specs.Unstopped.{MildPathsAreNeverStopped};
 ghost use Rattle.whole_paths.specs.WindowRoom.{EachWindowHasRoom};
@@ -311,17 +309,6 @@ pub fn what_rises_is_owed()
 /// meanwhile the next answer is owed (`what_rises_is_owed`).
 pub fn who_is_told_stays_told()
     ensures { WhoIsToldStaysTold }
-{}
-
-/// A law: between open ends of the only path of a mild connection no more is to be mended of what a side sends, but for one if a segment of it is
-/// harmed.
-pub fn harms_alone_are_owed()
-    ensures { HarmsAloneAreOwed }
-{}
-
-/// A law: debts go on so, by each step and as a round begins.
-pub fn debts_go_on()
-    ensures { DebtsGoOn }
 {}
 
 /// A law: a wait for a record of data goes on between open ends of a mild connection until the record is acknowledged, or something is
@@ -626,31 +613,6 @@ pub fn harms_alone_lose_records()
     ensures { HarmsAloneLoseRecords }
 {}
 
-/// A law: what an end sent is mended as its timer runs out, unless a segment is harmed once more (RFC 6298, section 5, rule 5.4).
-///
-/// Once the timer ran out, by a turn between open ends of a mild connection, the first record alone may be lost, and is to go again. As it goes
-/// it is harmed, or each record of the end is well: the first one comes within 400 ticks, each other one is to be sent.
-pub fn what_runs_out_is_mended()
-    ensures { WhatRunsOutIsMended }
-{}
-
-/// A law: where the first record of a side may be lost, there is one less that may be by the tick to which its timer runs, unless a segment is
-/// harmed, between open ends (RFC 6298, section 5).
-///
-/// By each turn that stays so to the same tick; or fewer records may be lost: SND.UNA rose past it, or it went again; or a segment of the path
-/// is harmed. Or there is news by which the timer may have started anew, though SND.UNA isn't past the record.
-pub fn lost_records_are_mended()
-    ensures { LostRecordsAreMended }
-{}
-
-/// A law: such a wait begins where a turn is over, and ends within a minute (RFC 6298, section 2, rule 2.5).
-///
-/// Where path 0 is open, its turn is over, and the first record of a side is one that may be lost, its timer runs for 60,000 ticks at most; and
-/// no such wait ends before the round does.
-pub fn lost_records_are_awaited()
-    ensures { LostRecordsAreAwaited }
-{}
-
 /// A law: where a turn is over, a record that came whole, and begins at RCV.NXT or before it, lies below it (RFC 9293, section 3.10.7.4).
 ///
 /// It is said of a record of data on path 0 of a mild connection between open ends, which came, or was to come by a tick of the round that ends.
@@ -695,22 +657,6 @@ pub fn all_comes_up_to_lost()
 pub fn four_rounds_clear()
     ensures comes { FourRoundsClear }
     ensures told { EightRoundsClear }
-{}
-
-/// A law: where SND.UNA has reached a record that may be lost, that is the first one, or one less may be lost.
-///
-/// It is said of path 0 of a mild connection between open ends.
-pub fn what_is_reached_is_first()
-    ensures { WhatIsReachedIsFirst }
-{}
-
-/// A law: in eight rounds without a harm a record that may be lost becomes the first one, or one less may be lost (RFC 9293, section 3.4).
-///
-/// It is said of rounds of a mild connection over one path between open ends, where the end was to be told soon how far its peer was after the first
-/// four. By turns without a harm no more records may be lost (`stays`).
-pub fn lost_records_are_first()
-    ensures stays { LostRecordsStay }
-    ensures first { LostRecordsAreFirst }
 {}
 
 /// A law: a record of data that comes by a tick comes by that tick still, by each turn of a mild connection between open ends, until it is

@@ -1,5 +1,5 @@
 use Rattle.whole_paths.proofs.ClearRounds as rounds
-use Rattle.whole_paths.proofs.delivery_laws.lost_records_are_first.Goals as goal
+use Rattle.whole_paths.proofs.debt_laws.lost_records_are_first.Goals as goal
 
 pub returns-clause-stays : goal.returns-clause-stays
 returns-clause-stays c = rounds.lost_records_stay
