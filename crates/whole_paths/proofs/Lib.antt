@@ -254,3 +254,4 @@ pub mod AnsweredWindows
 pub mod SynsSoon
 pub mod FirstPiecesSoon
 pub mod AnswersSoon
+pub mod KeyedFirst
