@@ -109,6 +109,7 @@ pub mod WideWindows
 pub mod BareSegments
 pub mod FinsComing
 pub mod OneDebt
+pub mod WindowsComing
 pub mod Writers
 pub mod EndedStreams
 pub mod Ends

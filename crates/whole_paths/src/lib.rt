@@ -113,6 +113,7 @@ pub use delivery_laws::whole_paths_deliver;
 pub use delivery_laws::whole_paths_stay_whole;
 pub use delivery_laws::whole_records_are_passed;
 pub use delivery_laws::wide_windows_stay;
+pub use delivery_laws::windows_come_soon;
 pub use delivery_laws::windows_are_awaited_always;
 pub use laws::a_copy_leaves_by_arriving;
 pub use laws::clear_ends_are_past;
