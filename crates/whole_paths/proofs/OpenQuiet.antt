@@ -15,12 +15,13 @@ use Rattle.world_laws.specs.RoundDone.{reached}
 use Rattle.world_laws.specs.Worlds.{Turn}
 use Rattle.whole_paths.specs.AsFar.{stage}
 use Rattle.whole_paths.specs.Came.{AcksWhatCame, HasCome}
-use Rattle.whole_paths.specs.Directions.{AreHeardBut, IsToldBut, Owing}
+use Rattle.whole_paths.specs.Debts.{OwesAtMost}
+use Rattle.whole_paths.specs.Directions.{AreHeardBut, IsToldBut, OwesAlong, Owing}
 use Rattle.whole_paths.specs.Directions.{Owing as owing}
 use Rattle.whole_paths.specs.Finish.{IsPathAt}
 use Rattle.whole_paths.specs.Mending.{IsToldBy as told_by, IsToldSoon as told_soon, IsWell as well_by}
 use Rattle.whole_paths.specs.OnePathScripts.{BeginsWithOnePath}
-use Rattle.whole_paths.specs.OpenFirst.{AOwesRecordsFirst, BOwesNoneFirst}
+use Rattle.whole_paths.specs.OpenFirst.{AOwesRecordsFirst, BOwesNoneFirst, HasJustOpened, OpensByClearing, OpensWithFewLost, OpensWithFewSo}
 use Rattle.whole_paths.specs.Sent.{WasSent}
 use Rattle.whole_paths.specs.Straying.{IsOpenFrom}
 use Rattle.whole_paths.specs.Unmended.{AreWellBut}
@@ -104,3 +105,16 @@ a_owes_records_first start plan turns turn one p here unclear now lost well = re
   owing = owes_records start plan (turns ++ turn ∷ []) one now.path now.here now.is_open
       (λ none. edge_then start plan one.one one.mild turns turn p now.path here now.here (record { living = now.is_open.living }) B unclear none) lost well;
 }
+
+module _ (start : Start) (plan : PathPlan) (most : ℕ) (one : BeginsWithOnePath start plan) (turns : List Turn) (turn : Turn) (p : PathState Carried) (here : IsPathAt 0 (reached values start turns) p)
+    (unclear : p.b.modes.clear ≡ false) (h : HasJustOpened start (turns ++ turn ∷ [])) (few : OpensWithFewLost start (turns ++ turn ∷ []) h) where
+  at_side : (s : Side) → OwesAtMost start plan most (OwesAlong start s) (turns ++ turn ∷ [])
+  at_side A = record { debts = length few.lost; owes = a_owes_records_first start plan turns turn one p here unclear h.now few.lost few.well; few = few.few }
+  at_side B = record { debts = 0; owes = b_owes_none_first start plan turns turn one p here unclear h.now; few = omega arith }
+
+pub opens_with_few_so : OpensWithFewSo
+opens_with_few_so start plan most one clears records s turns h = by (clears turns h)
+  where
+    by : OpensByClearing start turns → OwesAtMost start plan most (OwesAlong start s) turns
+    by c = subst (λ ts. (now : HasJustOpened start ts) → OpensWithFewLost start ts now → OwesAtMost start plan most (OwesAlong start s) ts) (sym c.is)
+        (λ now few. at_side start plan most one c.before c.turn c.path c.here c.unclear now few s) h (records turns h)

@@ -1,5 +1,5 @@
 -- With debts along both directions, and others, whole paths deliver both files with `patience`.
-use Rattle.std.proofs.Common.{subst, ℕ, ◌≤◌, arith, List}
+use Rattle.std.proofs.Common.{◌≡◌, refl, subst, ℕ, ◌≤◌, arith, Bool, true, false, List}
 use Rattle.sides.specs.declared.side.Side.{Side}
 use Rattle.sides.specs.declared.side.Side.TheVariants.{A, B}
 use Rattle.path_core.specs.Values.{values}
@@ -8,7 +8,7 @@ use Rattle.world_laws.specs.RoundDone.{reached}
 use Rattle.world_laws.specs.Worlds.{Turn}
 use Rattle.whole_paths.specs.DebtKinds.{MendsBoth, OwesBoth}
 use Rattle.whole_paths.specs.Debts.{AreMended, AwaitsEither, DebtsAreMended}
-use Rattle.whole_paths.specs.DirectionWaits.{MendsAlong}
+use Rattle.whole_paths.specs.DirectionWaits.{MendsAlong, NumbersAgree}
 use Rattle.whole_paths.specs.Directions.{DirectionIsWell, OwesAlong}
 use Rattle.whole_paths.specs.OnePathScripts.{BeginsWithOnePath}
 use Rattle.whole_paths.specs.SharpCourses.{SharpExchanges}
@@ -18,8 +18,9 @@ use Rattle.whole_paths.specs.UnitRounds.{AreToldSoon, IsAllWell}
 use Rattle.whole_paths.proofs.DebtKinds.{kinds_are_mended_together}
 use Rattle.whole_paths.proofs.Directions.{what_owes_none_is_well}
 use Rattle.whole_paths.proofs.DirectionsMended.{directions_are_mended}
-use Rattle.whole_paths.proofs.NumbersAgree.{numbers_agree_so}
+use Rattle.whole_paths.proofs.NumbersAgree.{checked_numbers_agree, numbers_agree_so}
 use Rattle.whole_paths.proofs.OpenFirst.{few_as_it_opens_are_few}
+use Rattle.whole_paths.proofs.OpenQuiet.{opens_with_few_so}
 use Rattle.whole_paths.proofs.SharpCourses.{sharp_exchanges_end}
 use Rattle.whole_paths.proofs.ShortWaits.{exchanges_go_on_so}
 use Rattle.whole_paths.proofs.ToldHeard.{what_is_told_is_heard_so}
@@ -29,8 +30,15 @@ module _ (start : Start) (plan : PathPlan) (most : ℕ) (Other : ℕ → List Tu
   MendsAll = MendsBoth (OwesAlong start A) (MendsAlong start A) (OwesBoth (OwesAlong start B) Other) (MendsBoth (OwesAlong start B) (MendsAlong start B) Other MendsOther)
 
   module _ (one : BeginsWithOnePath start plan) (rest : RestIsMended start plan most Other MendsOther) where
+    numbers : (s : Side) → NumbersAgree start s
+    numbers s = by start.checksums refl
+      where
+        by : (b : Bool) → start.checksums ≡ b → NumbersAgree start s
+        by true checked = checked_numbers_agree start plan s one checked
+        by false none = numbers_agree_so start plan s one (rest.whole none s)
+
     along : (s : Side) → DebtsAreMended start plan most (OwesAlong start s) (MendsAlong start s)
-    along s = directions_are_mended start plan most s one (numbers_agree_so start plan s one (rest.whole s)) (few_as_it_opens_are_few start plan most s one (rest.opens s))
+    along s = directions_are_mended start plan most s one (numbers s) (few_as_it_opens_are_few start plan most s one (opens_with_few_so start plan most one rest.clears rest.records s))
 
     all_mended : DebtsAreMended start plan most (OwesAll start Other) MendsAll
     all_mended = kinds_are_mended_together start plan most (OwesAlong start A) (MendsAlong start A) (OwesBoth (OwesAlong start B) Other) (MendsBoth (OwesAlong start B) (MendsAlong start B) Other MendsOther) (along A)

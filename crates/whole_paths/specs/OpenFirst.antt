@@ -1,5 +1,5 @@
 -- Debts are few at each open moment, where they are as path 0 opens.
-use Rattle.std.specs.Prelude.{ℕ, ◌≡◌, false, List, [], ◌∷◌, ◌++◌, length}
+use Rattle.std.specs.Prelude.{ℕ, ◌≡◌, ◌≤◌, false, List, [], ◌∷◌, ◌++◌, length}
 use Rattle.sides.specs.declared.side.Side.{Side}
 use Rattle.sides.specs.declared.side.Side.TheVariants.{A, B}
 use Rattle.path_core.specs.State.{PathState}
@@ -7,6 +7,7 @@ use Rattle.path_core.specs.Values.{Carried, values}
 use Rattle.world_laws.specs.Openings.{PathPlan, Start}
 use Rattle.world_laws.specs.RoundDone.{reached}
 use Rattle.world_laws.specs.Worlds.{Turn}
+use Rattle.whole_paths.specs.Courses.{harmed_so_far}
 use Rattle.whole_paths.specs.Debts.{OwesAtMost}
 use Rattle.whole_paths.specs.Directions.{OwesAlong}
 use Rattle.whole_paths.specs.Finish.{IsPathAt}
@@ -41,3 +42,24 @@ AOwesRecordsFirst = (start : Start) (plan : PathPlan) (turns : List Turn) (turn 
     → (p : PathState Carried) → IsPathAt 0 (reached values start turns) p → p.b.modes.clear ≡ false
     → (now : IsNow (IsOpenFrom B) (reached values start (turns ++ turn ∷ []))) (lost : List ℕ) → AreWellBut A lost now.path
     → OwesAlong start A (length lost) (turns ++ turn ∷ [])
+
+-- the last turn before was one by which B's end may send a DSS first
+pub record OpensByClearing (start : Start) (turns : List Turn) : Type 0 where
+  pub before : List Turn
+  pub turn : Turn
+  pub is : turns ≡ before ++ turn ∷ []
+  pub path : PathState Carried
+  pub here : IsPathAt 0 (reached values start before) path
+  pub unclear : path.b.modes.clear ≡ false
+
+-- no more of A's records may be lost then than segments were harmed
+pub record OpensWithFewLost (start : Start) (turns : List Turn) (h : HasJustOpened start turns) : Type 0 where
+  pub lost : List ℕ
+  pub well : AreWellBut A lost h.now.path
+  pub few : length lost ≤ harmed_so_far values start turns
+
+-- Where both are so there are few debts as the path opens.
+abbrev pub OpensWithFewSo : Type 0
+OpensWithFewSo = (start : Start) (plan : PathPlan) (most : ℕ) → BeginsWithOnePath start plan
+    → ((turns : List Turn) → HasJustOpened start turns → OpensByClearing start turns)
+    → ((turns : List Turn) (h : HasJustOpened start turns) → OpensWithFewLost start turns h) → (s : Side) → OpensWithFew start plan most s

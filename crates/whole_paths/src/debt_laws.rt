@@ -2,7 +2,7 @@
 ghost use Rattle.whole_paths.specs.CutRecords.{CheckedRecordsArePassedWhole};
 ghost use Rattle.whole_paths.specs.DirectionWaits.{CheckedNumbersAgree, DirectionsAreMended, NumbersAgreeSo};
 ghost use Rattle.whole_paths.specs.OneDebt.{FinDebtsGoOn};
-ghost use Rattle.whole_paths.specs.OpenFirst.{AOwesRecordsFirst, BOwesNoneFirst, FewAsItOpensAreFew};
+ghost use Rattle.whole_paths.specs.OpenFirst.{AOwesRecordsFirst, BOwesNoneFirst, FewAsItOpensAreFew, OpensWithFewSo};
 ghost use Rattle.whole_paths.specs.Directions.{DirectionsGoOn, WhatOwesNoneIsWell, WhoIsToldButStaysSo};
 
 /// A law: with checksums RCV.NXT of an end lies inside no record of data of its peer's, on path 0 of a mild connection: each is passed whole
@@ -48,11 +48,13 @@ pub fn directions_are_mended()
 /// more as B's end may send a DSS first (RFC 8684, section 3.1; `opens`).
 ///
 /// In B's direction there are none by the turn by which B's end may send one first (`b`): it sent nothing behind its SYN. And in A's there are as many
-/// as records may be lost (`a`): nothing came to B behind A's SYN.
+/// as records may be lost (`a`): nothing came to B behind A's SYN. So there are few as that turn is the one before, and few of A's records may be lost
+/// (`first`).
 pub fn few_as_it_opens_are_few()
     ensures opens { FewAsItOpensAreFew }
     ensures b { BOwesNoneFirst }
     ensures a { AOwesRecordsFirst }
+    ensures first { OpensWithFewSo }
 {}
 
 /// A law: a DATA_FIN that isn't told within 400 ticks is a debt of one harmed segment at most, over one path of a mild connection (RFC 8684,

@@ -10,3 +10,6 @@ returns-clause-b c = quiet.b_owes_none_first
 
 pub returns-clause-a : goal.returns-clause-a
 returns-clause-a c = quiet.a_owes_records_first
+
+pub returns-clause-first : goal.returns-clause-first
+returns-clause-first c = quiet.opens_with_few_so
