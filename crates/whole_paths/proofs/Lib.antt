@@ -246,3 +246,4 @@ pub mod SharpPaths
 pub mod SynsSoon
 pub mod FirstPiecesSoon
 pub mod AnswersSoon
+pub mod KeyedFirst

@@ -6,7 +6,7 @@ ghost use Rattle.whole_paths.specs.AnswerWaits.{AnswersAreAwaitedAlways};
 ghost use Rattle.whole_paths.specs.AnswersSoon.{EachSynAckIsAnsweredSoon};
 ghost use Rattle.whole_paths.specs.AskStages.{OpenAsksAreAnswered};
 ghost use Rattle.whole_paths.specs.AwaitedThere.{WhatIsAwaitedIsThere};
-ghost use Rattle.whole_paths.specs.Clear.{BIsClearFirst, BIsIdleBefore, BSendsNothingBefore, NothingComesBefore, TheFirstPieceWaits};
+ghost use Rattle.whole_paths.specs.Clear.{AHasTheKeyFirst, BIsClearFirst, BIsIdleBefore, BSendsNothingBefore, NothingComesBefore, TheFirstPieceWaits};
 ghost use Rattle.whole_paths.specs.DataLeft.{WhatIsLeftIsData};
 ghost use Rattle.whole_paths.specs.Deliveries.{WhoIsToldHasAll};
 ghost use Rattle.whole_paths.specs.Delivery.{WhatIsFinishedIsThere, WhatIsThereIsDelivered, WhatIsThereStays};
@@ -596,6 +596,13 @@ pub fn each_first_piece_comes_soon()
 pub fn b_is_clear_first()
     ensures first { BIsClearFirst }
     ensures quiet { BSendsNothingBefore }
+{}
+
+/// A law: where B's end may send a DSS A's is past the handshake, and knows B's key (RFC 8684, section 3.1).
+///
+/// While A treats the SYN/ACK B's end may send none. So it is on path 0 of a mild connection, at every moment at which no end is dead.
+pub fn a_has_the_key_first()
+    ensures { AHasTheKeyFirst }
 {}
 
 /// A law: over one path nothing comes to an end behind its peer's SYN until the end may send a DSS, while no end is dead (RFC 8684, section 3.1).
