@@ -161,6 +161,7 @@ pub mod FinsSent
 pub mod FinRounds
 pub mod OneDebt
 pub mod WindowsComing
+pub mod WindowRounds
 pub mod Unharmed
 pub mod Unmended
 pub mod Unmapped
