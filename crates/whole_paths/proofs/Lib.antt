@@ -160,6 +160,8 @@ pub mod FinsComing
 pub mod FinsSent
 pub mod FinRounds
 pub mod OneDebt
+pub mod WindowsComing
+pub mod WindowRounds
 pub mod Unharmed
 pub mod Unmended
 pub mod Unmapped

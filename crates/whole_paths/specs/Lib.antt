@@ -108,6 +108,7 @@ pub mod WideWindows
 pub mod BareSegments
 pub mod FinsComing
 pub mod OneDebt
+pub mod WindowsComing
 pub mod Writers
 pub mod EndedStreams
 pub mod Ends

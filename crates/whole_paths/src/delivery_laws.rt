@@ -57,6 +57,7 @@ ghost use Rattle.whole_paths.specs.WindowWaits.{WindowsAreAwaitedAlways};
 ghost use Rattle.world_laws.specs.Promises.{HoldsAnyway};
 ghost use Rattle.whole_paths.specs.BareSegments.{BareSegmentsAreTaken};
 ghost use Rattle.whole_paths.specs.FinsComing.{DataFinsComeSoon, DataFinsStaySoon, FourRoundsEnd};
+ghost use Rattle.whole_paths.specs.WindowsComing.{FourRoundsOpen, WindowsComeSoon};
 ghost use Rattle.whole_paths.specs.WideWindows.{WideWindowsStay};
 
 /// A law: where no line takes options away, alters payload or lets a side close at once, both sides go by mappings of pieces, always.
@@ -700,4 +701,15 @@ pub fn data_fins_come_soon()
     ensures by_turn { DataFinsComeSoon }
     ensures stays { DataFinsStaySoon }
     ensures rounds { FourRoundsEnd }
+{}
+
+/// A law: past the handshake of a mild connection a window that a segment without an octet tells is harmed, or comes within 400 ticks and is heard,
+/// unless more is sent behind it (RFC 8684, section 3.3.5).
+///
+/// By each turn: one that comes by a tick comes by it still, or the side may send up to its edge; or more was sent behind it, so that it may be
+/// overtaken (`by_turn`). The window begins at the place of the Data ACK that the segment has. In four rounds over one path the side may send so far
+/// (`rounds`).
+pub fn windows_come_soon()
+    ensures by_turn { WindowsComeSoon }
+    ensures rounds { FourRoundsOpen }
 {}
