@@ -93,6 +93,7 @@ pub mod News
 pub mod NewsBounds
 pub mod NumbersAgree
 pub mod Offered
+pub mod OpenClears
 pub mod OpenQuiet
 pub mod OnePath
 pub mod OnlyBooks
@@ -234,6 +235,7 @@ pub mod OpenFirst
 pub mod SharpPaths
 pub mod Signless
 pub mod ClearFirst
+pub mod ClearMeets
 pub mod EdgesStay
 pub mod KeysCome
 pub mod FirstWindows

@@ -29,6 +29,7 @@ pub use debt_laws::directions_are_mended;
 pub use debt_laws::directions_go_on;
 pub use debt_laws::few_as_it_opens_are_few;
 pub use debt_laws::numbers_agree;
+pub use debt_laws::who_is_past_met_a;
 pub use delivery_laws::a_segment_is_read;
 pub use delivery_laws::a_unit_is_made;
 pub use delivery_laws::all_comes_up_to_lost;
