@@ -93,6 +93,7 @@ pub mod News
 pub mod NewsBounds
 pub mod NumbersAgree
 pub mod Offered
+pub mod OpenClears
 pub mod OpenQuiet
 pub mod OnePath
 pub mod OnlyBooks
@@ -257,3 +258,9 @@ pub mod SynsSoon
 pub mod FirstPiecesSoon
 pub mod AnswersSoon
 pub mod KeyedFirst
+pub mod Signless
+pub mod ClearFirst
+pub mod ClearMeets
+pub mod EdgesStay
+pub mod KeysCome
+pub mod FirstWindows

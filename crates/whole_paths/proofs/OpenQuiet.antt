@@ -31,6 +31,7 @@ use Rattle.whole_paths.proofs.DataLeft.{EndsAreBegun, each_is_begun}
 use Rattle.whole_paths.proofs.EdgesStay.{edge_then}
 use Rattle.whole_paths.proofs.Exchanges.{Shown, each_shown, under_way}
 use Rattle.whole_paths.proofs.MappedCopies.{EndBehind, each_behind}
+use Rattle.whole_paths.proofs.OpenClears.{paths_open_by_clearing}
 use Rattle.whole_paths.proofs.OpenCourses.{IsFirstPath, each_first}
 use Rattle.whole_paths.proofs.Reached.{EndsAreReached, each_is_reached}
 use Rattle.whole_paths.proofs.SegmentRounds.{if_may_so, of_path, unfinished}
@@ -113,7 +114,7 @@ module _ (start : Start) (plan : PathPlan) (most : ℕ) (one : BeginsWithOnePath
   at_side B = record { debts = 0; owes = b_owes_none_first start plan turns turn one p here unclear h.now; few = omega arith }
 
 pub opens_with_few_so : OpensWithFewSo
-opens_with_few_so start plan most one clears records s turns h = by (clears turns h)
+opens_with_few_so start plan most one records s turns h = by (paths_open_by_clearing start plan turns one h)
   where
     by : OpensByClearing start turns → OwesAtMost start plan most (OwesAlong start s) turns
     by c = subst (λ ts. (now : HasJustOpened start ts) → OpensWithFewLost start ts now → OwesAtMost start plan most (OwesAlong start s) ts) (sym c.is)

@@ -38,7 +38,7 @@ module _ (start : Start) (plan : PathPlan) (most : ℕ) (Other : ℕ → List Tu
         by false none = numbers_agree_so start plan s one (rest.whole none s)
 
     along : (s : Side) → DebtsAreMended start plan most (OwesAlong start s) (MendsAlong start s)
-    along s = directions_are_mended start plan most s one (numbers s) (few_as_it_opens_are_few start plan most s one (opens_with_few_so start plan most one rest.clears rest.records s))
+    along s = directions_are_mended start plan most s one (numbers s) (few_as_it_opens_are_few start plan most s one (opens_with_few_so start plan most one rest.records s))
 
     all_mended : DebtsAreMended start plan most (OwesAll start Other) MendsAll
     all_mended = kinds_are_mended_together start plan most (OwesAlong start A) (MendsAlong start A) (OwesBoth (OwesAlong start B) Other) (MendsBoth (OwesAlong start B) (MendsAlong start B) Other MendsOther) (along A)

@@ -12,6 +12,7 @@ pub mod AwaitedThere
 pub mod Brought
 pub mod Came
 pub mod Clear
+pub mod ClearMeets
 pub mod ClearRounds
 pub mod Closing
 pub mod ClosingAsked

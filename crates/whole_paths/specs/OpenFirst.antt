@@ -58,8 +58,7 @@ pub record OpensWithFewLost (start : Start) (turns : List Turn) (h : HasJustOpen
   pub well : AreWellBut A lost h.now.path
   pub few : length lost ≤ harmed_so_far values start turns
 
--- Where both are so there are few debts as the path opens.
+-- Where that is so there are few debts as the path opens.
 abbrev pub OpensWithFewSo : Type 0
 OpensWithFewSo = (start : Start) (plan : PathPlan) (most : ℕ) → BeginsWithOnePath start plan
-    → ((turns : List Turn) → HasJustOpened start turns → OpensByClearing start turns)
     → ((turns : List Turn) (h : HasJustOpened start turns) → OpensWithFewLost start turns h) → (s : Side) → OpensWithFew start plan most s

@@ -13,20 +13,18 @@ use Rattle.whole_paths.specs.DirectionWaits.{ArePassedWhole}
 use Rattle.whole_paths.specs.Directions.{DirectionIsWell, OwesAlong}
 use Rattle.whole_paths.specs.Finish.{patience}
 use Rattle.whole_paths.specs.OnePathScripts.{BeginsWithOnePath, BriefPathsEnd}
-use Rattle.whole_paths.specs.OpenFirst.{HasJustOpened, OpensByClearing, OpensWithFewLost}
+use Rattle.whole_paths.specs.OpenFirst.{HasJustOpened, OpensWithFewLost}
 use Rattle.whole_paths.specs.UnitRounds.{IsAllWell, WindowsAndEndsAreHeard}
 
 -- the debts along both directions, and others
 abbrev pub OwesAll : Start → (ℕ → List Turn → Type 0) → ℕ → List Turn → Type 0
 OwesAll start Other = OwesBoth (OwesAlong start A) (OwesBoth (OwesAlong start B) Other)
 
--- What is left to be shown: without checksums records of both directions are passed whole; the path opens by the turn by which B's end may send a DSS
--- first, with few of A's records that may be lost; others are mended; without any of them all is well, the windows that are told are heard, and each
--- DATA_FIN comes which is sent.
+-- What is left to be shown: without checksums records of both directions are passed whole; as B's end may send a DSS first few of A's records may be
+-- lost; others are mended; without any of them all is well, the windows that are told are heard, and each DATA_FIN comes which is sent.
 pub record RestIsMended (start : Start) (plan : PathPlan) (most : ℕ) (Other : ℕ → List Turn → Type 0) (MendsOther : ℕ → ℕ → List Turn → Type 0)
     : Type 0 where
   pub whole : start.checksums ≡ false → (s : Side) → ArePassedWhole start s
-  pub clears : (turns : List Turn) → HasJustOpened start turns → OpensByClearing start turns
   pub records : (turns : List Turn) (h : HasJustOpened start turns) → OpensWithFewLost start turns h
   pub others : DebtsAreMended start plan most Other MendsOther
   pub well : (turns : List Turn) → Other 0 turns → ((s : Side) → DirectionIsWell s (reached values start turns)) → IsAllWell start turns

@@ -30,7 +30,7 @@ pub use debt_laws::{
     checked_records_are_passed_whole, debts_go_on, directions_are_mended, directions_go_on,
     few_as_it_opens_are_few, fin_debts_go_on, harms_alone_are_owed, lost_records_are_awaited,
     lost_records_are_first, lost_records_are_mended, numbers_agree, what_is_reached_is_first,
-    what_runs_out_is_mended,
+    what_runs_out_is_mended, who_is_past_met_a,
 };
 pub use delivery_laws::{
     a_segment_is_read, a_unit_is_made, all_comes_up_to_lost, an_end_is_told,
