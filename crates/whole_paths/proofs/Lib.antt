@@ -258,9 +258,4 @@ pub mod SynsSoon
 pub mod FirstPiecesSoon
 pub mod AnswersSoon
 pub mod KeyedFirst
-pub mod Signless
-pub mod ClearFirst
 pub mod ClearMeets
-pub mod EdgesStay
-pub mod KeysCome
-pub mod FirstWindows
