@@ -2,7 +2,7 @@
 ghost use Rattle.whole_paths.specs.ClearMeets.{PathsOpenByClearing, WhoIsPastMetA};
 ghost use Rattle.whole_paths.specs.CutRecords.{CheckedRecordsArePassedWhole};
 ghost use Rattle.whole_paths.specs.DirectionWaits.{CheckedNumbersAgree, DirectionsAreMended, NumbersAgreeSo};
-ghost use Rattle.whole_paths.specs.OneDebt.{FinDebtsGoOn};
+ghost use Rattle.whole_paths.specs.OneDebt.{FinDebtsAreKnown, FinDebtsGoOn};
 ghost use Rattle.whole_paths.specs.OpenFirst.{AOwesRecordsFirst, BOwesNoneFirst, FewAsItOpensAreFew, OpensWithFewSo};
 ghost use Rattle.whole_paths.specs.Directions.{DirectionsGoOn, WhatOwesNoneIsWell, WhoIsToldButStaysSo};
 ghost use Rattle.whole_paths.specs.FirstLost.{LostRecordsAreAwaited, LostRecordsAreMended};
@@ -73,9 +73,11 @@ pub fn few_as_it_opens_are_few()
 /// A law: a DATA_FIN that isn't told within 400 ticks is a debt of one harmed segment at most, over one path of a mild connection (RFC 8684,
 /// section 3.3.3).
 ///
-/// Where it isn't owed the DATA_FIN wasn't sent yet, or the peer heard it, or it comes within 400 ticks, or more was sent behind it.
+/// Where it isn't owed the DATA_FIN wasn't sent yet, or the peer heard it, or it comes within 400 ticks, or more was sent behind it. There are no more
+/// such debts than harmed segments at any open moment, where none is owed as the path opens (`known`).
 pub fn fin_debts_go_on()
-    ensures { FinDebtsGoOn }
+    ensures goes_on { FinDebtsGoOn }
+    ensures known { FinDebtsAreKnown }
 {}
 
 /// A law: between open ends of the only path of a mild connection no more is to be mended of what a side sends, but for one if a segment of it is
