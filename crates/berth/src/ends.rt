@@ -69,6 +69,11 @@ pub fn open_berth<W: Drop, D: Deed<W>>(
 }
 
 impl<W: Drop, D: Deed<W>> Giver<W, D> {
+    /// Waits until the worker has come, for two seconds at most: whether it has. One for which no thread could be made doesn't come.
+    pub fn meet<R: Wait>(&self, rt: &R) -> bool {
+        self.berth.wait_until_come(rt)
+    }
+
     /// Gives the worker a job. Where the worker has not come yet, the job comes back as it was.
     pub fn offer(&mut self, job: W) -> Result<(), W>
         requires rests { self.old ≡ None }

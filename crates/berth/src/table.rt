@@ -7,6 +7,7 @@ use atomic_table::{Seat, Table};
 use std::alloc::Global;
 use std::marker::Model;
 use std::sync::{Arc, Wait};
+use std::time::Duration;
 
 /// Until the worker has come.
 pub(crate) const NOBODY: u64 = 4;
@@ -107,7 +108,7 @@ impl<W: Drop, D: Deed<W>> Berth<W, D> {
         self.table.shared.wake_one(0);
     }
 
-    /// The worker has come, unless no more work comes.
+    /// The worker has come, unless no more work comes. Wakes the giver.
     pub(crate) fn arrive(&self, seat: &mut BerthSeat<W>)
         requires table { seat.old.table_id ≡ self.now }
         requires free { seat.old.me ≡ (Free, []) }
@@ -117,6 +118,19 @@ impl<W: Drop, D: Deed<W>> Berth<W, D> {
         self.table
             .shared
             .compare_exchange::<Stay>(seat, 0, NOBODY, REST);
+        self.table.shared.wake_one(0);
+    }
+
+    /// Whether the worker has come.
+    pub(crate) fn has_come(&self) -> bool {
+        self.table.shared.peek(0) != NOBODY
+    }
+
+    /// Sleeps while the worker hasn't come, for a hundredth of a second at most; it may also return for no reason.
+    pub(crate) fn sleep_until_come<R: Wait>(&self, rt: &R) {
+        self.table
+            .shared
+            .park_timeout(rt, 0, NOBODY as u32, Duration::from_millis(10));
     }
 
     /// Whether there is work. Then the worker has the job.

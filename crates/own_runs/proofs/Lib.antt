@@ -1,11 +1,17 @@
 mod AckPositions
 mod Acking
 mod Acknowledged
+mod AnswersAsked
+mod AnswersShow
 mod Bearing
 mod Begun
 mod CameSent
 mod Carrying
 mod Counted
+mod DutiesFew
+mod EndMarks
+mod EndPaths
+mod EndRuns
 mod FateWords
 mod FineMoments
 mod FinePositions
@@ -23,6 +29,9 @@ mod KeptOptions
 mod KeyDuties
 mod KeyHears
 mod KeyRuns
+mod KeyedPieces
+mod KeysSaid
+mod KeysShown
 mod KnownKeys
 mod LateJoins
 mod Learning
@@ -34,6 +43,8 @@ mod MomentFacts
 mod Moments
 mod NextGrows
 mod NextRuns
+mod NextSent
+mod NextTrace
 mod Nonces
 mod Numbered
 mod Offering
@@ -52,6 +63,7 @@ mod PayloadsPlaced
 mod Pending
 mod Placing
 mod Reached
+mod ReadEnds
 mod ReadingBack
 mod RecordsKept
 mod Sayings
@@ -60,6 +72,7 @@ mod SentGrows
 mod ShortOctets
 mod ShortPieces
 mod ShownAcks
+mod ShownSeen
 mod Speaking
 mod Syns
 mod Telling
@@ -73,4 +86,5 @@ mod Traces
 mod Values
 mod Wanted
 mod WasSent
+mod WholeSays
 mod Words

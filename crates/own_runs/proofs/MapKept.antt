@@ -1,7 +1,7 @@
 -- The packets of a connection of ours that never falls back break no rule on mappings and what they map: each position of a subflow has one
 -- place, and each place one octet. Where a reset of a dead end stands far behind all others, with number 0 (RFC 9293, section 3.10.7.1), later
 -- numbers may be read as positions that are 2^32 too high: all is said modulo 2^32.
-use Rattle.std.proofs.Common.{◌≡◌, refl, sym, ap, ◌∙◌, subst, ℕ, ◌+◌, ◌%◌, ◌<◌, ◌≤◌, ◌^◌, Bool, true, false, if◌then◌else◌, Option, Some, None, List, [], map, arith}
+use Rattle.std.proofs.Common.{◌≡◌, refl, sym, ap, ◌∙◌, subst, ℕ, ◌+◌, ◌%◌, ◌<◌, ◌≤◌, ◌^◌, Bool, true, false, if◌then◌else◌, Option, Some, None, List, [], length, map, arith}
 use Rattle.std.proofs.lemmas.Bool.{false≢true}
 use Rattle.std.specs.Prelude.{All, IfSome}
 use Rattle.std.specs.Option.{option_map}
@@ -31,6 +31,7 @@ use Rattle.rule_book.specs.Stream.{Left, gap_counted, judged_at, judged_from, ju
 use Rattle.capture_verdict.specs.Judging.{judged_packets}
 use Rattle.judge_laws.specs.GoesOn.{stream_in}
 use Rattle.judge_laws.proofs.Folds.{TellingKeeps, options_so as fields_so}
+use Rattle.own_runs.proofs.AckPositions.{IsCovered}
 use Rattle.own_runs.proofs.FinePositions.{TellsNoFail}
 use Rattle.own_runs.proofs.MapPositions.{Bears, LaneFine, OffersWell, StreamFine, Waits, at_so, is_mapping}
 use Rattle.own_runs.proofs.KeptOptions.{kept_so}
@@ -63,6 +64,8 @@ module _ (d : Drawn) (limit : Side → ℕ) (few : (s : Side) → limit s < 2 ^ 
     pub bears : (p : ℕ) → p % 2 ^ 32 ≡ at % 2 ^ 32 → Bears (λ q. content own.from (where_at own.path own.from q)) p seen.segment.payload
     pub offers : (p : ℕ) → p % 2 ^ 32 ≡ at % 2 ^ 32 → All (Well own.path own.from p) own.values
     pub calm : All TellsNoFail own.values
+    -- an option maps each of its octets
+    pub maps : (p : ℕ) → p % 2 ^ 32 ≡ at % 2 ^ 32 → (j : ℕ) → j < length seen.segment.payload → IsCovered (first_at own.from) p (p + j) own.values
 
   abbrev BookFine : BookValue → Type 0
   BookFine book = (s : Side) → StreamFine (limit s) (few s) (content s) (stream_at s book)

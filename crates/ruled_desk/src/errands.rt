@@ -83,6 +83,15 @@ pub fn open_turns<A: Actor + Drop>(
     (givers, workers)
 }
 
+/// Waits until the workers have come, each for two seconds at most, and for none after one that hasn't.
+pub fn meet_all<A: Actor + Drop, R: Wait>(rt: &R, givers: &[TurnGiver<A>]) {
+    for giver in givers {
+        if !giver.meet(rt) {
+            return;
+        }
+    }
+}
+
 /// No more turns come to the workers.
 pub fn dismiss_all<A: Actor + Drop>(givers: &mut Vec<TurnGiver<A>>)
     requires { All (λ giver. giver ≡ None) givers.old.items }

@@ -1,9 +1,8 @@
 -- Nothing is acknowledged that didn't come: each copy acknowledges what had come to its sender at most, and so does SND.UNA.
 use Rattle.std.proofs.Common.{◌≡◌, refl, sym, subst, ap, ◌∙◌, ◌⊎◌, inl, inr, ⊎_elim, ℕ, ◌+◌, ◌≤◌, arith, nat_lt, nat_le, ◌==◌, Bool, true, false, true≢false, ◌&&◌, if◌then◌else◌, Option, Some, None, is_some, List, [], ◌∷◌, le_refl}
-use Rattle.std.specs.List.{slice_get}
 use Rattle.std.specs.Prelude.{IfSome}
 use Rattle.std.specs.Option.{option_map}
-use Rattle.std.specs.List.{position}
+use Rattle.std.specs.List.{position, slice_get}
 use Rattle.std.proofs.lemmas.Bool.{and_parts}
 use Rattle.std.proofs.lemmas.Option.{same_Some}
 use Rattle.path_segments.specs.declared.position.HeardPosition.TheVariants.{At}

@@ -156,6 +156,11 @@ pub mod ToldSoon
 pub mod Treating
 pub mod UnaSaid
 pub mod WideWindows
+pub mod BareSegments
+pub mod FinsComing
+pub mod FinsSent
+pub mod FinRounds
+pub mod OneDebt
 pub mod Unharmed
 pub mod Unmended
 pub mod Unmapped
@@ -224,6 +229,11 @@ pub mod FirstSigns
 pub mod SignWaits
 pub mod OpeningCourses
 pub mod OpeningEnds
+pub mod Signless
+pub mod ClearFirst
+pub mod EdgesStay
+pub mod KeysCome
+pub mod FirstWindows
 pub mod DebtKinds
 pub mod Directions
 pub mod ComesAgain
@@ -233,9 +243,7 @@ pub mod DirectionsMended
 pub mod CutRecords
 pub mod OpenFirst
 pub mod SharpPaths
-pub mod Signless
-pub mod ClearFirst
 pub mod ClearMeets
-pub mod EdgesStay
-pub mod KeysCome
-pub mod FirstWindows
+pub mod SynsSoon
+pub mod FirstPiecesSoon
+pub mod AnswersSoon

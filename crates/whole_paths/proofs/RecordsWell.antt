@@ -179,13 +179,13 @@ module _ (start : Start) (mild : IsMildStart start) (turns : List Turn) (turn : 
     pub unbroken_p : is_joined p.profile ≡ false → IsUnbroken p
     unbroken_p first = (holds_p IsNeverBroken (never_breaks start turns mild).each) first
 
-    unbroken_q : is_joined q.profile ≡ false → IsUnbroken q
+    pub unbroken_q : is_joined q.profile ≡ false → IsUnbroken q
     unbroken_q first = (holds_q IsNeverBroken (never_breaks start later mild).each) first
 
-    mapped_p : EndsGoByMappings p
+    pub mapped_p : EndsGoByMappings p
     mapped_p = holds_p EndsGoByMappings (mapping_is_kept start turns mild).each
 
-    mapped_q : EndsGoByMappings q
+    pub mapped_q : EndsGoByMappings q
     mapped_q = holds_q EndsGoByMappings (mapping_is_kept start later mild).each
 
     reads_q : ReadsMappings q
@@ -194,7 +194,7 @@ module _ (start : Start) (mild : IsMildStart start) (turns : List Turn) (turn : 
     fin_q : FinIsLast q
     fin_q = holds_q FinIsLast (fins_are_last start later mild.plain.size).each
 
-    keys_q : is_joined q.profile ≡ false → EndsHaveKeys q
+    pub keys_q : is_joined q.profile ≡ false → EndsHaveKeys q
     keys_q first = (holds_q HasKeys (keys_are_known start later mild).each) first
 
     pub clock : p.clock ≤ q.clock
@@ -209,7 +209,7 @@ module _ (start : Start) (mild : IsMildStart start) (turns : List Turn) (turn : 
       abbrev t : Side
       t = peer s
 
-      keyless : (x : Side) → (end_at x q).modes.peer_key ≡ None → ⊥
+      pub keyless : (x : Side) → (end_at x q).modes.peer_key ≡ None → ⊥
       keyless A none = both_ways (is_some q.a.modes.peer_key) (ap is_some none) open_q.keyed
       keyless B none = both_ways (is_some q.b.modes.peer_key) (ap is_some none) ((keys_q open_q.first).b open_q.sure)
 

@@ -447,7 +447,7 @@ module _ (start : Start) (mild : IsMildStart start) (turns : List Turn) (turn : 
     owed_goes (owing.is_done is) = absurd (both_ways (end_at t p).tcp.due.ack ((holds_p start mild turns turn before after HasAnswered (copies_are_answered values start turns).each is t (open_p.living t)).ack) due)
     owed_goes (owing.rests same) = inl (subst (λ (y : PathState Carried). (end_at t y).tcp.due.ack ≡ true) (sym same) due)
 
-  says_soon : SaysSoon s p q
+  pub says_soon : SaysSoon s p q
   says_soon = record { acks = segment_acks; owed = λ room due x sends own rst. goes_soon room due x sends own rst }
 
   answers_stay : AnswersStay s p q

@@ -171,8 +171,10 @@ module _ (n : ℕ) where
   judged_kept : (c : Profile) (s : Side) (now : ℕ) (h : HeardSegment) (e : PathEnd) (m : Meaning) → Kept e (copy_judged (is_joined c) (held_of c s h) (reset_for c s h) s now h m e)
   judged_kept c s now h e m =
       let items : List Heard = items_of (is_joined c) s h in
-      record { many = λ many. owing_many (owes_by m items) (after_arrival m (hint_of items) now (copy_of h) (with_payload m h.payload e.tcp))
-          (arrival_many m (hint_of items) now (copy_of h) (with_payload m h.payload e.tcp) (held_many m h.payload e.tcp many)) }
+      record {
+        many = λ many. owing_many (owes_by m items) (after_arrival m (hint_of items) now (copy_of h) (with_payload m h.payload e.tcp))
+            (arrival_many m (hint_of items) now (copy_of h) (with_payload m h.payload e.tcp) (held_many m h.payload e.tcp many));
+      }
 
   died_kept : (e : PathEnd) → Kept e (died_unless_dead e)
   died_kept e = either_kept (is_dead e.tcp.state) e e (died e) (rests e) (kept e (died e) refl)
@@ -438,5 +440,5 @@ module _ {C : Type 0} where
   wide_windows_stay k start turns fit turn actor c there =
       let roomy : MemberRoomy c.member = (always_roomy k start fit turns).each actor c there in
       let found = turn_each k (λ c d. MemberRoomy c.member → PathsStayWide c.member d.member) (λ c h. member_stays_wide c.member)
-          (λ ask books c h. member_takes_wide k (answer_to books ask) c.member h) (λ stamp c over h. member_next_wide c.member h) turn (reached k start turns) actor c there in
+      (λ ask books c h. member_takes_wide k (answer_to books ask) c.member h) (λ stamp c over h. member_next_wide c.member h) turn (reached k start turns) actor c there in
       (found.0, found.1, found.2 roomy)

@@ -107,6 +107,9 @@ pub mod WindowRoom
 pub mod WindowWaits
 pub mod WindowsHeard
 pub mod WideWindows
+pub mod BareSegments
+pub mod FinsComing
+pub mod OneDebt
 pub mod Writers
 pub mod EndedStreams
 pub mod Ends
@@ -145,3 +148,6 @@ pub mod DirectionWaits
 pub mod CutRecords
 pub mod OpenFirst
 pub mod SharpPaths
+pub mod SynsSoon
+pub mod FirstPiecesSoon
+pub mod AnswersSoon

@@ -34,5 +34,5 @@ pub record RestIsMended (start : Start) (plan : PathPlan) (most : ℕ) (Other : 
 abbrev pub SharpPathsEndSo : Type 1
 SharpPathsEndSo = (Other : Start → ℕ → List Turn → Type 0) (MendsOther : Start → ℕ → ℕ → List Turn → Type 0)
     → ((start : Start) (plan : PathPlan) (most : ℕ) → BeginsWithOnePath start plan
-        → RestIsMended start plan most (Other start) (MendsOther start))
+    → RestIsMended start plan most (Other start) (MendsOther start))
     → BriefPathsEnd values patience × BriefPathsEnd octets patience

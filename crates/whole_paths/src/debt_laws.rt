@@ -2,8 +2,13 @@
 ghost use Rattle.whole_paths.specs.ClearMeets.{PathsOpenByClearing, WhoIsPastMetA};
 ghost use Rattle.whole_paths.specs.CutRecords.{CheckedRecordsArePassedWhole};
 ghost use Rattle.whole_paths.specs.DirectionWaits.{CheckedNumbersAgree, DirectionsAreMended, NumbersAgreeSo};
+ghost use Rattle.whole_paths.specs.OneDebt.{FinDebtsGoOn};
 ghost use Rattle.whole_paths.specs.OpenFirst.{AOwesRecordsFirst, BOwesNoneFirst, FewAsItOpensAreFew, OpensWithFewSo};
 ghost use Rattle.whole_paths.specs.Directions.{DirectionsGoOn, WhatOwesNoneIsWell, WhoIsToldButStaysSo};
+ghost use Rattle.whole_paths.specs.FirstLost.{LostRecordsAreAwaited, LostRecordsAreMended};
+ghost use Rattle.whole_paths.specs.Mends.{WhatRunsOutIsMended};
+ghost use Rattle.whole_paths.specs.ClearRounds.{LostRecordsAreFirst, LostRecordsStay, WhatIsReachedIsFirst};
+ghost use Rattle.whole_paths.specs.Unmended.{DebtsGoOn, HarmsAloneAreOwed};
 
 /// A law: with checksums RCV.NXT of an end lies inside no record of data of its peer's, on path 0 of a mild connection: each is passed whole
 /// (RFC 8684, section 3.3.1).
@@ -63,4 +68,64 @@ pub fn few_as_it_opens_are_few()
     ensures b { BOwesNoneFirst }
     ensures a { AOwesRecordsFirst }
     ensures first { OpensWithFewSo }
+{}
+
+/// A law: a DATA_FIN that isn't told within 400 ticks is a debt of one harmed segment at most, over one path of a mild connection (RFC 8684,
+/// section 3.3.3).
+///
+/// Where it isn't owed the DATA_FIN wasn't sent yet, or the peer heard it, or it comes within 400 ticks, or more was sent behind it.
+pub fn fin_debts_go_on()
+    ensures { FinDebtsGoOn }
+{}
+
+/// A law: between open ends of the only path of a mild connection no more is to be mended of what a side sends, but for one if a segment of it is
+/// harmed.
+pub fn harms_alone_are_owed()
+    ensures { HarmsAloneAreOwed }
+{}
+
+/// A law: debts go on so, by each step and as a round begins.
+pub fn debts_go_on()
+    ensures { DebtsGoOn }
+{}
+
+/// A law: where the first record of a side may be lost, there is one less that may be by the tick to which its timer runs, unless a segment is
+/// harmed, between open ends (RFC 6298, section 5).
+///
+/// By each turn that stays so to the same tick; or fewer records may be lost: SND.UNA rose past it, or it went again; or a segment of the path
+/// is harmed. Or there is news by which the timer may have started anew, though SND.UNA isn't past the record.
+pub fn lost_records_are_mended()
+    ensures { LostRecordsAreMended }
+{}
+
+/// A law: such a wait begins where a turn is over, and ends within a minute (RFC 6298, section 2, rule 2.5).
+///
+/// Where path 0 is open, its turn is over, and the first record of a side is one that may be lost, its timer runs for 60,000 ticks at most; and
+/// no such wait ends before the round does.
+pub fn lost_records_are_awaited()
+    ensures { LostRecordsAreAwaited }
+{}
+
+/// A law: in eight rounds without a harm a record that may be lost becomes the first one, or one less may be lost (RFC 9293, section 3.4).
+///
+/// It is said of rounds of a mild connection over one path between open ends, where the end was to be told soon how far its peer was after the first
+/// four. By turns without a harm no more records may be lost (`stays`).
+pub fn lost_records_are_first()
+    ensures stays { LostRecordsStay }
+    ensures first { LostRecordsAreFirst }
+{}
+
+/// A law: where SND.UNA has reached a record that may be lost, that is the first one, or one less may be lost.
+///
+/// It is said of path 0 of a mild connection between open ends.
+pub fn what_is_reached_is_first()
+    ensures { WhatIsReachedIsFirst }
+{}
+
+/// A law: what an end sent is mended as its timer runs out, unless a segment is harmed once more (RFC 6298, section 5, rule 5.4).
+///
+/// Once the timer ran out, by a turn between open ends of a mild connection, the first record alone may be lost, and is to go again. As it goes
+/// it is harmed, or each record of the end is well: the first one comes within 400 ticks, each other one is to be sent.
+pub fn what_runs_out_is_mended()
+    ensures { WhatRunsOutIsMended }
 {}

@@ -3,6 +3,7 @@ ghost use Rattle.path_core.specs.Octets.{octets};
 ghost use Rattle.path_core.specs.Values.{values};
 ghost use Rattle.whole_paths.specs.AckedData.{FourRoundsAcknowledge, PositionsAreAckedAsBytes};
 ghost use Rattle.whole_paths.specs.AnswerWaits.{AnswersAreAwaitedAlways};
+ghost use Rattle.whole_paths.specs.AnswersSoon.{EachSynAckIsAnsweredSoon};
 ghost use Rattle.whole_paths.specs.AskStages.{OpenAsksAreAnswered};
 ghost use Rattle.whole_paths.specs.AwaitedThere.{WhatIsAwaitedIsThere};
 ghost use Rattle.whole_paths.specs.Clear.{BIsClearFirst, BIsIdleBefore, BSendsNothingBefore, NothingComesBefore, TheFirstPieceWaits};
@@ -12,8 +13,8 @@ ghost use Rattle.whole_paths.specs.Delivery.{WhatIsFinishedIsThere, WhatIsThereI
 ghost use Rattle.whole_paths.specs.EndRounds.{AnEndIsTold};
 ghost use Rattle.whole_paths.specs.EndedStreams.{WhatEndedIsAcknowledged};
 ghost use Rattle.whole_paths.specs.Finish.{HarmsUseLines, BriefPathsDeliver, OneBriefPathEnds};
-ghost use Rattle.whole_paths.specs.FirstLost.{LostRecordsAreAwaited, LostRecordsAreMended};
 ghost use Rattle.whole_paths.specs.GoingOn.{RoundsBeginToGoOn, RoundsGoOn, StepsLetItGoOn, EndsGoOn};
+ghost use Rattle.whole_paths.specs.FirstPiecesSoon.{EachFirstPieceComesSoon};
 ghost use Rattle.whole_paths.specs.FirstSigns.{EachFirstSignComes};
 ghost use Rattle.whole_paths.specs.Halted.{WhoHaltsGoesOnHalting};
 ghost use Rattle.whole_paths.specs.Lanes.Laws.{LossyLanesEnd, LossyLanesFinish};
@@ -22,7 +23,6 @@ ghost use Rattle.whole_paths.specs.HeardSaid.{WhatIsHeardWasSaid};
 ghost use Rattle.whole_paths.specs.KeptAddresses.{FirstAddressesStay, HarmlessEndsDieOfExpiries};
 ghost use Rattle.whole_paths.specs.LastFin.{FinsAreLast};
 ghost use Rattle.whole_paths.specs.Mending.{EachAnswerComesSoon, EachRecordStaysWell};
-ghost use Rattle.whole_paths.specs.Mends.{WhatRunsOutIsMended};
 ghost use Rattle.whole_paths.specs.Mild.{IsPromisedMildly, KeysAreKnown, LinksAreMild, MappingIsKept, MildScriptsStartMildly, NeverBreaks};
 ghost use Rattle.whole_paths.specs.MildDeaths.{MildEndsDieOfExpiries};
 ghost use Rattle.whole_paths.specs.OwedGoes.{WhatIsOwedGoes};
@@ -41,7 +41,7 @@ ghost use Rattle.whole_paths.specs.Received.{HoldsOfOnlyPaths};
 ghost use Rattle.whole_paths.specs.RecordWaits.{NoRoundCounts, RecordsAreAwaitedAlways};
 ghost use Rattle.whole_paths.specs.RisesOwed.{WhatRisesIsOwed};
 ghost use Rattle.whole_paths.specs.SegmentRounds.{ASegmentIsRead, EachRoundReads, EachRoundWrites, FourRoundsBring, FourRoundsTell};
-ghost use Rattle.whole_paths.specs.ClearRounds.{EightRoundsClear, FourRoundsClear, LostRecordsAreFirst, LostRecordsStay, WhatIsReachedIsFirst};
+ghost use Rattle.whole_paths.specs.ClearRounds.{EightRoundsClear, FourRoundsClear};
 ghost use Rattle.whole_paths.specs.OctetsPassed.{AllComesUpToLost, OctetsArePassed, WellOctetsCome};
 ghost use Rattle.whole_paths.specs.RecordsPassed.{FirstRecordsArePassed, RecordsComeInTime, WholeRecordsArePassed};
 ghost use Rattle.whole_paths.specs.SenderWaits.{SendersAreAwaited};
@@ -52,13 +52,16 @@ ghost use Rattle.whole_paths.specs.ShutWindows.{ShutWindowsHaveRoom};
 ghost use Rattle.whole_paths.specs.SignWaits.{FirstSignsAreAwaited};
 ghost use Rattle.whole_paths.specs.StayingWhole.{WholePathsStayWhole};
 ghost use Rattle.whole_paths.specs.Straying.{OpenEndsHardlyStray, SendersHardlyStray, WholePathsAreOpen};
+ghost use Rattle.whole_paths.specs.SynsSoon.{EachSynComesSoon};
 ghost use Rattle.whole_paths.specs.ToldStays.{WhoIsToldStaysTold};
-ghost use Rattle.whole_paths.specs.Unmended.{DebtsGoOn, HarmsAloneAreOwed, HarmsAloneLoseRecords};
+ghost use Rattle.whole_paths.specs.Unmended.{HarmsAloneLoseRecords};
 ghost use Rattle.whole_paths.specs.UnitRounds.{AUnitIsMade, AllUnitsAreThere, ShortWaitsGoOn};
 ghost use Rattle.whole_paths.specs.Unstopped.{MildPathsAreNeverStopped};
 ghost use Rattle.whole_paths.specs.WindowRoom.{EachWindowHasRoom};
 ghost use Rattle.whole_paths.specs.WindowWaits.{WindowsAreAwaitedAlways};
 ghost use Rattle.world_laws.specs.Promises.{HoldsAnyway};
+ghost use Rattle.whole_paths.specs.BareSegments.{BareSegmentsAreTaken};
+ghost use Rattle.whole_paths.specs.FinsComing.{DataFinsComeSoon, DataFinsStaySoon, FourRoundsEnd};
 ghost use Rattle.whole_paths.specs.WideWindows.{WideWindowsStay};
 
 /// A law: where no line takes options away, alters payload or lets a side close at once, both sides go by mappings of pieces, always.
@@ -311,17 +314,6 @@ pub fn who_is_told_stays_told()
     ensures { WhoIsToldStaysTold }
 {}
 
-/// A law: between open ends of the only path of a mild connection no more is to be mended of what a side sends, but for one if a segment of it is
-/// harmed.
-pub fn harms_alone_are_owed()
-    ensures { HarmsAloneAreOwed }
-{}
-
-/// A law: debts go on so, by each step and as a round begins.
-pub fn debts_go_on()
-    ensures { DebtsGoOn }
-{}
-
 /// A law: a wait for a record of data goes on between open ends of a mild connection until the record is acknowledged, or something is
 /// counted, and it is never late.
 ///
@@ -559,6 +551,30 @@ pub fn whole_paths_deliver()
     ensures values { BriefPathsDeliver values long_patience }
 {}
 
+/// A law: a SYN that an end sends as it opens is harmed, or comes within 400 ticks (RFC 9293, section 3.5).
+///
+/// By each turn of a mild connection in which the link takes a SYN of A's for which B listens, or B's SYN/ACK for A: the segment is harmed, or the
+/// wait for it that `each_syn_comes` speaks of ends 400 ticks later, twice the longest delay.
+pub fn each_syn_comes_soon()
+    ensures { EachSynComesSoon }
+{}
+
+/// A law: an answer of A's to the SYN/ACK of a half-open B is harmed, or comes within 400 ticks (RFC 9293, section 3.10.7.4).
+///
+/// By each turn of a mild connection in which the link takes a segment of A's that acknowledges B's SYN and nothing more, while A is past the handshake:
+/// it is harmed, or the wait for it that `each_syn_ack_is_answered` speaks of ends 400 ticks later, twice the longest delay.
+pub fn each_syn_ack_is_answered_soon()
+    ensures { EachSynAckIsAnsweredSoon }
+{}
+
+/// A law: A's first piece that is sent with both keys is harmed, or comes within 400 ticks (RFC 8684, section 3.1).
+///
+/// By each turn of a mild connection in which the link takes it, while neither end may send a DSS, and nothing came to B behind the SYN: the segment is
+/// harmed, or the wait for it that `each_first_piece_comes` speaks of ends 400 ticks later, twice the longest delay.
+pub fn each_first_piece_comes_soon()
+    ensures { EachFirstPieceComesSoon }
+{}
+
 /// A law: over one path A's end may send a DSS only where B's may (RFC 8684, section 3.1).
 ///
 /// It may by a DSS that it heard, and B's end sends none before it may, and nothing behind its SYN (`quiet`). So it is on the only path of a mild
@@ -624,31 +640,6 @@ pub fn harms_alone_lose_records()
     ensures { HarmsAloneLoseRecords }
 {}
 
-/// A law: what an end sent is mended as its timer runs out, unless a segment is harmed once more (RFC 6298, section 5, rule 5.4).
-///
-/// Once the timer ran out, by a turn between open ends of a mild connection, the first record alone may be lost, and is to go again. As it goes
-/// it is harmed, or each record of the end is well: the first one comes within 400 ticks, each other one is to be sent.
-pub fn what_runs_out_is_mended()
-    ensures { WhatRunsOutIsMended }
-{}
-
-/// A law: where the first record of a side may be lost, there is one less that may be by the tick to which its timer runs, unless a segment is
-/// harmed, between open ends (RFC 6298, section 5).
-///
-/// By each turn that stays so to the same tick; or fewer records may be lost: SND.UNA rose past it, or it went again; or a segment of the path
-/// is harmed. Or there is news by which the timer may have started anew, though SND.UNA isn't past the record.
-pub fn lost_records_are_mended()
-    ensures { LostRecordsAreMended }
-{}
-
-/// A law: such a wait begins where a turn is over, and ends within a minute (RFC 6298, section 2, rule 2.5).
-///
-/// Where path 0 is open, its turn is over, and the first record of a side is one that may be lost, its timer runs for 60,000 ticks at most; and
-/// no such wait ends before the round does.
-pub fn lost_records_are_awaited()
-    ensures { LostRecordsAreAwaited }
-{}
-
 /// A law: where a turn is over, a record that came whole, and begins at RCV.NXT or before it, lies below it (RFC 9293, section 3.10.7.4).
 ///
 /// It is said of a record of data on path 0 of a mild connection between open ends, which came, or was to come by a tick of the round that ends.
@@ -695,22 +686,6 @@ pub fn four_rounds_clear()
     ensures told { EightRoundsClear }
 {}
 
-/// A law: where SND.UNA has reached a record that may be lost, that is the first one, or one less may be lost.
-///
-/// It is said of path 0 of a mild connection between open ends.
-pub fn what_is_reached_is_first()
-    ensures { WhatIsReachedIsFirst }
-{}
-
-/// A law: in eight rounds without a harm a record that may be lost becomes the first one, or one less may be lost (RFC 9293, section 3.4).
-///
-/// It is said of rounds of a mild connection over one path between open ends, where the end was to be told soon how far its peer was after the first
-/// four. By turns without a harm no more records may be lost (`stays`).
-pub fn lost_records_are_first()
-    ensures stays { LostRecordsStay }
-    ensures first { LostRecordsAreFirst }
-{}
-
 /// A law: a record of data that comes by a tick comes by that tick still, by each turn of a mild connection between open ends, until it is
 /// acknowledged (RFC 9293, section 3.10.7.4).
 ///
@@ -723,8 +698,8 @@ pub fn records_come_in_time()
 /// A law: on the only path of a mild connection bytes are acknowledged as positions are (RFC 8684, section 3.3.2).
 ///
 /// Where the path's turn is over, neither of its ends is dead, and a side's sent no FIN, as many bytes of its stream are acknowledged as positions of
-/// its subflow, but for that of the SYN: to its end, and in its send book. So in four rounds between open ends all is acknowledged that the peer's side had received, where the end was
-/// to be told soon how far its peer was; or all of the stream is there (`rounds`).
+/// its subflow, but for that of the SYN: to its end, and in its send book. So in four rounds between open ends all is acknowledged that the peer's
+/// side had received, where the end was to be told soon how far its peer was; or all of the stream is there (`rounds`).
 pub fn positions_are_acked_as_bytes()
     ensures positions { PositionsAreAckedAsBytes }
     ensures rounds { FourRoundsAcknowledge }
@@ -752,4 +727,25 @@ pub fn heard_lies_below()
 pub fn wide_windows_stay()
     ensures octets { WideWindowsStay octets }
     ensures values { WideWindowsStay values }
+{}
+
+/// A law: between open ends a segment without an octet is taken as it arrives, unless its end takes one before that goes past it (RFC 9293, section
+/// 3.10.7.4): then more was sent behind it.
+///
+/// It is said of turns of a mild connection, and of a segment before whose position all stands that the end has: so it is with each that an end sends
+/// at SND.NXT, and no reset; and one that is sent is harmed, or comes within 400 ticks, where the peer's window has room for what was sent before.
+pub fn bare_segments_are_taken()
+    ensures { BareSegmentsAreTaken }
+{}
+
+/// A law: past the handshake of a mild connection a DATA_FIN that is sent is harmed, or comes within 400 ticks and is heard, unless more is sent behind
+/// it (RFC 8684, section 3.3.3).
+///
+/// By each turn: one that comes by a tick comes by it still, or is heard; or more was sent behind it, so that it may be overtaken, and doesn't count
+/// then (`by_turn`). An end sends its DATA_FIN once its end is known, though bytes before it wait for a shut window. Over one path it stays so that the
+/// DATA_FIN wasn't sent, or comes so, but for a harm (`stays`); and in four rounds the peer's side knows where the stream ends (`rounds`).
+pub fn data_fins_come_soon()
+    ensures by_turn { DataFinsComeSoon }
+    ensures stays { DataFinsStaySoon }
+    ensures rounds { FourRoundsEnd }
 {}

@@ -12,7 +12,7 @@ use actor_desk::{Books, Crew, Notes};
 use actor_turn::OpenGate;
 use case_fields::Case;
 use octet_text::Text;
-use ruled_desk::{TurnGiver, dismiss_all, open_turns, round_at_tables, serve_all};
+use ruled_desk::{TurnGiver, dismiss_all, meet_all, open_turns, round_at_tables, serve_all};
 use send_book::{SendBook, SendCall, SendReply};
 use stamped_book::{Book, Pass, Refusal, Stamped};
 use std::alloc::{AllocError, Global};
@@ -74,7 +74,7 @@ fn beside_workers<'a, R: Threads + Wait + Sync>(
     books
 }
 
-/// All rounds over the books that wait: the books after them.
+/// All rounds over the books that wait, once the workers have come: the books after them.
 fn after_rounds<'a, R: Wait>(
     rt: &R,
     case: &mut Case<'a>,
@@ -91,6 +91,7 @@ fn after_rounds<'a, R: Wait>(
         unreachable!()
     };
     let mut known = known;
+    meet_all(rt, givers.as_slice());
     for round in rounds.split(" then ") {
         case.read(round, " ");
         books = after_round(rt, case, &mut known, books, givers);
