@@ -3,7 +3,6 @@ ghost use Rattle.path_core.specs.Octets.{octets};
 ghost use Rattle.path_core.specs.Values.{values};
 ghost use Rattle.whole_paths.specs.AckedData.{FourRoundsAcknowledge, PositionsAreAckedAsBytes};
 ghost use Rattle.whole_paths.specs.AnswerWaits.{AnswersAreAwaitedAlways};
-ghost use Rattle.whole_paths.specs.AnswersSoon.{EachSynAckIsAnsweredSoon};
 ghost use Rattle.whole_paths.specs.AskStages.{OpenAsksAreAnswered};
 ghost use Rattle.whole_paths.specs.AwaitedThere.{WhatIsAwaitedIsThere};
 ghost use Rattle.whole_paths.specs.Clear.{BIsClearFirst, BIsIdleBefore, BSendsNothingBefore, NothingComesBefore, TheFirstPieceWaits};
@@ -14,7 +13,6 @@ ghost use Rattle.whole_paths.specs.EndRounds.{AnEndIsTold};
 ghost use Rattle.whole_paths.specs.EndedStreams.{WhatEndedIsAcknowledged};
 ghost use Rattle.whole_paths.specs.Finish.{HarmsUseLines, BriefPathsDeliver, OneBriefPathEnds};
 ghost use Rattle.whole_paths.specs.GoingOn.{RoundsBeginToGoOn, RoundsGoOn, StepsLetItGoOn, EndsGoOn};
-ghost use Rattle.whole_paths.specs.FirstPiecesSoon.{EachFirstPieceComesSoon};
 ghost use Rattle.whole_paths.specs.FirstSigns.{EachFirstSignComes};
 ghost use Rattle.whole_paths.specs.Halted.{WhoHaltsGoesOnHalting};
 ghost use Rattle.whole_paths.specs.Lanes.Laws.{LossyLanesEnd, LossyLanesFinish};
@@ -52,7 +50,6 @@ ghost use Rattle.whole_paths.specs.ShutWindows.{ShutWindowsHaveRoom};
 ghost use Rattle.whole_paths.specs.SignWaits.{FirstSignsAreAwaited};
 ghost use Rattle.whole_paths.specs.StayingWhole.{WholePathsStayWhole};
 ghost use Rattle.whole_paths.specs.Straying.{OpenEndsHardlyStray, SendersHardlyStray, WholePathsAreOpen};
-ghost use Rattle.whole_paths.specs.SynsSoon.{EachSynComesSoon};
 ghost use Rattle.whole_paths.specs.ToldStays.{WhoIsToldStaysTold};
 ghost use Rattle.whole_paths.specs.Unmended.{HarmsAloneLoseRecords};
 ghost use Rattle.whole_paths.specs.UnitRounds.{AUnitIsMade, AllUnitsAreThere, ShortWaitsGoOn};
@@ -549,30 +546,6 @@ pub fn whole_paths_deliver()
     ensures ends_values { BriefPathsEnd values long_patience }
     ensures octets { BriefPathsDeliver octets long_patience }
     ensures values { BriefPathsDeliver values long_patience }
-{}
-
-/// A law: a SYN that an end sends as it opens is harmed, or comes within 400 ticks (RFC 9293, section 3.5).
-///
-/// By each turn of a mild connection in which the link takes a SYN of A's for which B listens, or B's SYN/ACK for A: the segment is harmed, or the
-/// wait for it that `each_syn_comes` speaks of ends 400 ticks later, twice the longest delay.
-pub fn each_syn_comes_soon()
-    ensures { EachSynComesSoon }
-{}
-
-/// A law: an answer of A's to the SYN/ACK of a half-open B is harmed, or comes within 400 ticks (RFC 9293, section 3.10.7.4).
-///
-/// By each turn of a mild connection in which the link takes a segment of A's that acknowledges B's SYN and nothing more, while A is past the handshake:
-/// it is harmed, or the wait for it that `each_syn_ack_is_answered` speaks of ends 400 ticks later, twice the longest delay.
-pub fn each_syn_ack_is_answered_soon()
-    ensures { EachSynAckIsAnsweredSoon }
-{}
-
-/// A law: A's first piece that is sent with both keys is harmed, or comes within 400 ticks (RFC 8684, section 3.1).
-///
-/// By each turn of a mild connection in which the link takes it, while neither end may send a DSS, and nothing came to B behind the SYN: the segment is
-/// harmed, or the wait for it that `each_first_piece_comes` speaks of ends 400 ticks later, twice the longest delay.
-pub fn each_first_piece_comes_soon()
-    ensures { EachFirstPieceComesSoon }
 {}
 
 /// A law: over one path A's end may send a DSS only where B's may (RFC 8684, section 3.1).
