@@ -12,6 +12,7 @@ use Rattle.subflow_send.specs.declared.record.RecordKind.TheVariants.{Data}
 use Rattle.subflow_tcp.specs.declared.handshake.State.{State as EndPhase}
 use Rattle.subflow_tcp.specs.declared.handshake.State.TheVariants as phase
 use Rattle.subflow_tcp.specs.States.{is_dead, is_half_open}
+use Rattle.subflow_tcp.specs.declared.verdicts.Meaning.TheVariants as means
 use Rattle.path_agenda.specs.declared.duty.Duty.{Duty}
 use Rattle.path_agenda.specs.declared.duty.Duty.TheVariants as duties
 use Rattle.path_agenda.specs.declared.duty.StepDuty.TheVariants as step_duties
@@ -131,7 +132,7 @@ module _ (start : Start) (turns : List Turn) (turn : Turn) (h : IsOpenTurn start
     arrives = ⊎_elim
         (λ same. inl (still (subst (IsUnderWay c.copy) (sym same) c.there)))
         (λ due. inr (subst (λ u. (end_at u q).tcp.due.ack ≡ true) again_to due))
-        (counts.acks again.copy again.outside (subst (λ u. is_half_open (end_at u p).tcp.state ≡ false) (sym again_to) (whole_open (end_at t p).tcp.state (h.before.is_open.past t))))
+        (counts.acks again.copy means.Outside again.outside refl (λ same. let other : means.Outside ≡ means.RepeatedSyn = same in cc) (subst (λ u. is_half_open (end_at u p).tcp.state ≡ false) (sym again_to) (whole_open (end_at t p).tcp.state (h.before.is_open.past t))))
 
   pub comes_again : Goes
   comes_again = by (with_both start turns turn h CopiesGoOn (copies_leave values w turn 2 h.before.here.crew h.before.here.there) c.copy c.there)

@@ -161,6 +161,8 @@ pub mod FinsComing
 pub mod FinsSent
 pub mod FinRounds
 pub mod OneDebt
+pub mod WindowsComing
+pub mod WindowRounds
 pub mod Unharmed
 pub mod Unmended
 pub mod Unmapped
@@ -229,10 +231,18 @@ pub mod FirstSigns
 pub mod SignWaits
 pub mod OpeningCourses
 pub mod OpeningEnds
+pub mod EdgeRises
+pub mod TimerReasons
+pub mod SynReplies
+pub mod DataFinsClear
+pub mod ExpiryMeanings
+pub mod ExpiryResends
+pub mod ExpiryAnswers
 pub mod Signless
 pub mod ClearFirst
 pub mod EdgesStay
 pub mod KeysCome
+pub mod KnownWindows
 pub mod FirstWindows
 pub mod DebtKinds
 pub mod Directions
@@ -243,6 +253,7 @@ pub mod DirectionsMended
 pub mod CutRecords
 pub mod OpenFirst
 pub mod SharpPaths
+pub mod AnsweredWindows
 pub mod SynsSoon
 pub mod FirstPiecesSoon
 pub mod AnswersSoon

@@ -36,7 +36,6 @@ pub mod ExpiriesInARow
 pub mod Deaths
 pub mod ExpirySegments
 pub mod AnsweredExpiries
-pub mod FewLossesDeliver
 pub mod HeardBelow
 pub mod HeardSaid
 pub mod KeptAddresses
@@ -109,6 +108,7 @@ pub mod WideWindows
 pub mod BareSegments
 pub mod FinsComing
 pub mod OneDebt
+pub mod WindowsComing
 pub mod Writers
 pub mod EndedStreams
 pub mod Ends
@@ -141,6 +141,8 @@ pub mod FirstSigns
 pub mod SignWaits
 pub mod OpeningCourses
 pub mod UnaSaid
+pub mod EdgeRises
+pub mod ExpiryMeanings
 pub mod DebtKinds
 pub mod Directions
 pub mod DirectionWaits

@@ -18,11 +18,9 @@ ghost use Rattle.whole_paths.specs.Halted.{WhoHaltsGoesOnHalting};
 ghost use Rattle.whole_paths.specs.Lanes.Laws.{LossyLanesEnd, LossyLanesFinish};
 ghost use Rattle.whole_paths.specs.HeardBelow.{HeardLiesBelow};
 ghost use Rattle.whole_paths.specs.HeardSaid.{WhatIsHeardWasSaid};
-ghost use Rattle.whole_paths.specs.KeptAddresses.{FirstAddressesStay, HarmlessEndsDieOfExpiries};
 ghost use Rattle.whole_paths.specs.LastFin.{FinsAreLast};
 ghost use Rattle.whole_paths.specs.Mending.{EachAnswerComesSoon, EachRecordStaysWell};
 ghost use Rattle.whole_paths.specs.Mild.{IsPromisedMildly, KeysAreKnown, LinksAreMild, MappingIsKept, MildScriptsStartMildly, NeverBreaks};
-ghost use Rattle.whole_paths.specs.MildDeaths.{MildEndsDieOfExpiries};
 ghost use Rattle.whole_paths.specs.OwedGoes.{WhatIsOwedGoes};
 ghost use Rattle.whole_paths.specs.OnePathScripts.{EndsAsItBegins, MildScriptsBeginWithOnePath, OnlyWaysStay, BriefPathsEnd, WaysStay, WhatIsThereInTimeIsDelivered, for_all_news};
 ghost use Rattle.whole_paths.specs.OnlyPaths.{long_patience, news_within};
@@ -54,11 +52,12 @@ ghost use Rattle.whole_paths.specs.ToldStays.{WhoIsToldStaysTold};
 ghost use Rattle.whole_paths.specs.Unmended.{HarmsAloneLoseRecords};
 ghost use Rattle.whole_paths.specs.UnitRounds.{AUnitIsMade, AllUnitsAreThere, ShortWaitsGoOn};
 ghost use Rattle.whole_paths.specs.Unstopped.{MildPathsAreNeverStopped};
-ghost use Rattle.whole_paths.specs.WindowRoom.{EachWindowHasRoom};
+ghost use Rattle.whole_paths.specs.WindowRoom.{EachWindowHasRoom, LivingWindowsHaveRoom, NoWindowIsShutBefore};
 ghost use Rattle.whole_paths.specs.WindowWaits.{WindowsAreAwaitedAlways};
 ghost use Rattle.world_laws.specs.Promises.{HoldsAnyway};
 ghost use Rattle.whole_paths.specs.BareSegments.{BareSegmentsAreTaken};
 ghost use Rattle.whole_paths.specs.FinsComing.{DataFinsComeSoon, DataFinsStaySoon, FourRoundsEnd};
+ghost use Rattle.whole_paths.specs.WindowsComing.{FourRoundsOpen, WindowsComeSoon};
 ghost use Rattle.whole_paths.specs.WideWindows.{WideWindowsStay};
 
 /// A law: where no line takes options away, alters payload or lets a side close at once, both sides go by mappings of pieces, always.
@@ -93,28 +92,6 @@ pub fn mild_links_change_nothing()
 pub fn mild_scripts_never_break()
     ensures values { IsPromisedMildly values (λ start w. NeverBreaks w) }
     ensures octets { IsPromisedMildly octets (λ start w. NeverBreaks w) }
-{}
-
-/// A law: in a mild connection an end of path 0 dies by its sixth expiry in a row, by the line by which the path dies, or as a side took the
-/// path's address back (RFC 8684, section 3.4.2), as long as its peer lives too.
-///
-/// By each turn by which one of them is dead that both lived before, one of these came next. Nothing else kills one: no reset is under way
-/// between two ends that live, none is refused, and no mapping clashes or is missing.
-pub fn mild_ends_die_of_expiries()
-    ensures { MildEndsDieOfExpiries }
-{}
-
-/// A law: no side counts the address of path 0 as removed, always, where no line of the script takes it back (RFC 8684, section 3.4.2) or lets
-/// a path die.
-///
-/// Neither book is told to take id 0 back, no path has it to note, no segment says so, and no end hears it.
-pub fn first_addresses_stay()
-    ensures { FirstAddressesStay }
-{}
-
-/// A law: in a mild connection without such lines an end of path 0 dies by its sixth expiry in a row alone, as long as its peer lives too.
-pub fn harmless_ends_die_of_expiries()
-    ensures { HarmlessEndsDieOfExpiries }
 {}
 
 /// A law: as long as both ends of path 0 of a mild connection live, what an end owes its peer goes: an acknowledgement of what came, at
@@ -285,13 +262,16 @@ pub fn each_answer_comes_soon()
     ensures { EachAnswerComesSoon }
 {}
 
-/// A law: once B's end of the only path of a mild connection may send a DSS no end past the handshake sent more than 2^20 positions past RCV.NXT of
-/// its peer, so that the peer's window has room for all it sent, its FIN included.
+/// A law: between living ends of the only path of a mild connection no end sent more than 2^20 positions past RCV.NXT of its peer, so that the
+/// peer's window has room for all it sent, its FIN included.
 ///
 /// An unfinished end has no more outstanding than the window (`no_end_overruns`). Of one that sent its FIN all but the FIN is there
-/// (`what_is_finished_is_there`).
+/// (`what_is_finished_is_there`). So it is past the handshake (`opened`). And until A's end sends something behind its SYN it knows of no window that is shut
+/// (`unshut`): B's SYN/ACK told it one that is open.
 pub fn each_window_has_room()
-    ensures { EachWindowHasRoom }
+    ensures living { LivingWindowsHaveRoom }
+    ensures opened { EachWindowHasRoom }
+    ensures unshut { NoWindowIsShutBefore }
 {}
 
 /// A law: an end of path 0 of a mild connection owes an acknowledgement as its RCV.NXT moves over octets.
@@ -721,4 +701,15 @@ pub fn data_fins_come_soon()
     ensures by_turn { DataFinsComeSoon }
     ensures stays { DataFinsStaySoon }
     ensures rounds { FourRoundsEnd }
+{}
+
+/// A law: past the handshake of a mild connection a window that a segment without an octet tells is harmed, or comes within 400 ticks and is heard,
+/// unless more is sent behind it (RFC 8684, section 3.3.5).
+///
+/// By each turn: one that comes by a tick comes by it still, or the side may send up to its edge; or more was sent behind it, so that it may be
+/// overtaken (`by_turn`). The window begins at the place of the Data ACK that the segment has. In four rounds over one path the side may send so far
+/// (`rounds`).
+pub fn windows_come_soon()
+    ensures by_turn { WindowsComeSoon }
+    ensures rounds { FourRoundsOpen }
 {}

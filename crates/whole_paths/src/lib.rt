@@ -17,11 +17,12 @@
 //! one path all is acknowledged then that was written as the round began (`what_was_written_is_acknowledged`).
 //!
 //! Over one path that stays whole, or whose ends don't die early, all this ends: both files are delivered (`whole_paths_deliver`). So it is from the
-//! beginning of the connection (`one_path_ends`).
+//! beginning of the connection (`one_path_ends`), and four harmed segments let no end die early (`few_losses_finish`).
 #![tactic(auto)]
 
 mod debt_laws;
 mod delivery_laws;
+mod expiry_laws;
 mod laws;
 mod opening_laws;
 
@@ -54,16 +55,13 @@ pub use delivery_laws::each_record_stays_well;
 pub use delivery_laws::each_round_writes_and_reads;
 pub use delivery_laws::each_window_has_room;
 pub use delivery_laws::fins_are_last;
-pub use delivery_laws::first_addresses_stay;
 pub use delivery_laws::first_records_are_passed;
 pub use delivery_laws::first_signs_are_awaited;
 pub use delivery_laws::four_rounds_clear;
-pub use delivery_laws::harmless_ends_die_of_expiries;
 pub use delivery_laws::harms_alone_lose_records;
 pub use delivery_laws::harms_use_lines;
 pub use delivery_laws::heard_lies_below;
 pub use delivery_laws::lossy_lanes_finish;
-pub use delivery_laws::mild_ends_die_of_expiries;
 pub use delivery_laws::mild_links_change_nothing;
 pub use delivery_laws::mild_paths_are_never_stopped;
 pub use delivery_laws::mild_scripts_end_as_they_begin;
@@ -113,6 +111,12 @@ pub use delivery_laws::whole_paths_stay_whole;
 pub use delivery_laws::whole_records_are_passed;
 pub use delivery_laws::wide_windows_stay;
 pub use delivery_laws::windows_are_awaited_always;
+pub use delivery_laws::windows_come_soon;
+pub use expiry_laws::each_rise_ends_the_row;
+pub use expiry_laws::few_losses_finish;
+pub use expiry_laws::first_addresses_stay;
+pub use expiry_laws::harmless_ends_die_of_expiries;
+pub use expiry_laws::mild_ends_die_of_expiries;
 pub use laws::a_copy_leaves_by_arriving;
 pub use laws::clear_ends_are_past;
 pub use laws::copies_arrive_as_sent;
