@@ -59,8 +59,8 @@ pub fn paths_open_by_clearing()
 /// A law: along a direction there are no more debts than harmed segments at any open moment of the only path of a mild connection, where there are no
 /// more as B's end may send a DSS first (RFC 8684, section 3.1; `opens`).
 ///
-/// In B's direction there are none by the turn by which B's end may send one first (`b`): it sent nothing behind its SYN. And in A's there are as many
-/// as records may be lost (`a`): nothing came to B behind A's SYN. So there are few as the path opens, where few of A's records may be lost then
+/// In B's direction there are none by the turn by which B's end may send one first (`b`): it sent nothing behind its SYN. In A's there are as many as
+/// records may be lost (`a`): nothing came to B behind A's SYN. So there are few as the path opens, where few of A's records may be lost then
 /// (`first`).
 pub fn few_as_it_opens_are_few()
     ensures opens { FewAsItOpensAreFew }
