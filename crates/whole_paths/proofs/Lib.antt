@@ -259,4 +259,3 @@ pub mod SynsSoon
 pub mod FirstPiecesSoon
 pub mod AnswersSoon
 pub mod KeyedFirst
-pub mod ClearMeets
