@@ -25,6 +25,7 @@ mod Handed
 mod Handing
 mod Ipv4
 mod Kept
+mod HeardKnows
 mod KeptOptions
 mod KeyDuties
 mod KeyHears
