@@ -149,7 +149,7 @@ copy_so B (Some heard) p q ds h same profile =
     let told : HeardSegment = options_heard q.b heard in
     inl (template_b (is_joined q.profile) (length (items_of (is_joined q.profile) B told)) (judged_in (is_joined q.profile) B told q.b))
 
-happens_so : (p : PathState Carried) (ds : List Duty) → PathIs ds p → (o : Option Event) (r : Reply) → none_heard (happens_if values o r p).agenda ⊎ HasKey p.a
+pub happens_so : (p : PathState Carried) (ds : List Duty) → PathIs ds p → (o : Option Event) (r : Reply) → none_heard (happens_if values o r p).agenda ⊎ HasKey p.a
 happens_so p ds h None r = inl refl
 happens_so p ds h (Some (Event.Joins tick)) r = inl (begun_none r (record (at_tick tick p) { joined_at = None }))
 happens_so p ds h (Some (Event.Takes line)) r = inl (line_none line.action _)
@@ -160,7 +160,7 @@ happens_so p ds h (Some (Event.Fires s tick)) r = inl (fired_none s (is_sixth (e
 -- ---- a path
 
 -- after a step the agenda has none, or the key was there before
-takes_none : (r : Reply) (p : PathState Carried) → Holds p → none_heard p.agenda → none_heard (takes values r p).agenda ⊎ HasKey p.a
+pub takes_none : (r : Reply) (p : PathState Carried) → Holds p → none_heard p.agenda → none_heard (takes values r p).agenda ⊎ HasKey p.a
 takes_none r p holds free = by p.agenda refl
   where
     settles : (q : PathState Carried) → none_heard q.agenda → none_heard (settled q.agenda q).agenda

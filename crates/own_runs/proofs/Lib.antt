@@ -7,6 +7,7 @@ mod Bearing
 mod Begun
 mod CameSent
 mod Carrying
+mod ClearKnows
 mod Counted
 mod DutiesFew
 mod EndMarks
