@@ -30,6 +30,7 @@ mod HeardKnows
 mod KeptOptions
 mod KeyDuties
 mod KeyHears
+mod KeyNext
 mod KeyRuns
 mod KeyedPieces
 mod KeysSaid
