@@ -30,10 +30,12 @@ mod HeardKnows
 mod KeptOptions
 mod KeyDuties
 mod KeyHears
+mod KeyMoments
 mod KeyNext
 mod KeyRuns
 mod KeyedPieces
 mod KeysSaid
+mod KeysSent
 mod KeysShown
 mod KnownKeys
 mod LateJoins
