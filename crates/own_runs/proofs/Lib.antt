@@ -4,7 +4,9 @@ mod Acknowledged
 mod AnswersAsked
 mod AnswersShow
 mod Bearing
+mod BearsKnow
 mod Begun
+mod BookMoments
 mod CameSent
 mod Carrying
 mod ClearKnows
