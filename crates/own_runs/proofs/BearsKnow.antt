@@ -65,7 +65,7 @@ module _ (R : Side → Type 0) where
     keys_none A None = refl
     keys_none B o = refl
 
-    ack_bears : (fin : Option ℕ) → None_in (ack_options c s fin e) ⊎ R s
+    pub ack_bears : (fin : Option ℕ) → None_in (ack_options c s fin e) ⊎ R s
     ack_bears fin = by e.modes.identity e.modes.clear refl e.modes.owes_third
       where
         by : (plain x : Bool) → e.modes.clear ≡ x → (third : Bool) → None_in (if plain then [] else (if x then Dss (Some e.receiving.next) (data_fin_mapping c s fin) ∷ fail_beside fin e.modes

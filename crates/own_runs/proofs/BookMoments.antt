@@ -26,9 +26,12 @@ module _ (start : Start) (plain : IsPlain start) (whole : IsWhole start) (fit : 
   abbrev pub world : List Turn → WorldState Carried
   world turns = world_run values turns (opened_world start)
 
-  -- path 0 is the third actor
-  pub second : (turns : List Turn) → IsSecond (world turns)
-  second turns i c there p member first = numbered i c there p member ∙ ap (λ (n : ℕ). suc (suc n)) (zero_so (subst (MemberSpeaks start) member (valued start turns plain.size fit i c there)))
+  -- a path is the actor of its number
+  pub numbered : (turns : List Turn) (i : ℕ) (c : ActorCrew Carried) → slice_get (world turns).crew i ≡ Some c → (q : PathState Carried) → c.member ≡ Path q → i ≡ suc (suc (path_of q))
+  numbered turns i c there = each_actor (λ i c. (q : PathState Carried) → c.member ≡ Path q → i ≡ suc (suc (path_of q))) k.shows.cast (λ q is. cc) (λ q is. cc)
+      (λ n x at q is. let path = k.shows.paths.each n n x (omega arith) at in
+      ap (λ (m : ℕ). suc (suc m)) (sym path.numbered ∙ ap (λ (o : PathState Carried). path_of o) (path_same is)))
+      i c (ap (λ (w : WorldState Carried). slice_get w.crew i) (sym k.shows.is) ∙ there)
     where
       k : Known start plain fit turns
       k = always_known start plain fit turns
@@ -36,12 +39,10 @@ module _ (start : Start) (plain : IsPlain start) (whole : IsWhole start) (fit : 
       path_same : {x y : PathState Carried} → (let one : Actor Carried = Path x in one) ≡ Path y → x ≡ y
       path_same e = cc
 
-      numbered : (i : ℕ) (c : ActorCrew Carried) → slice_get (world turns).crew i ≡ Some c → (q : PathState Carried) → c.member ≡ Path q → i ≡ suc (suc (path_of q))
-      numbered i c there = each_actor (λ i c. (q : PathState Carried) → c.member ≡ Path q → i ≡ suc (suc (path_of q))) k.shows.cast (λ q is. cc) (λ q is. cc)
-          (λ n x at q is. let path = k.shows.paths.each n n x (omega arith) at in
-          ap (λ (m : ℕ). suc (suc m)) (sym path.numbered ∙ ap (λ (o : PathState Carried). path_of o) (path_same is)))
-          i c (ap (λ (w : WorldState Carried). slice_get w.crew i) (sym k.shows.is) ∙ there)
-
+  -- path 0 is the third actor
+  pub second : (turns : List Turn) → IsSecond (world turns)
+  second turns i c there p member first = numbered turns i c there p member ∙ ap (λ (n : ℕ). suc (suc n)) (zero_so (subst (MemberSpeaks start) member (valued start turns plain.size fit i c there)))
+    where
       zero_so : PathSpeaks start p → path_of p ≡ 0
       zero_so speaks = by (path_of p) (sym (ap is_joined speaks.4 ∙ ap (nat_lt 0) (sym speaks.3)) ∙ first)
         where

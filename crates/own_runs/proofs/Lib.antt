@@ -30,6 +30,7 @@ mod Ipv4
 mod Kept
 mod HeardKnows
 mod KeptOptions
+mod KeyBears
 mod KeyDuties
 mod KeyHears
 mod KeyMoments
