@@ -38,15 +38,9 @@ use Rattle.subflow_send.specs.declared.record.RecordKind.{RecordKind}
 use Rattle.subflow_tcp.specs.Emitting.{fin_position}
 use Rattle.subflow_tcp.specs.State.{has_records}
 use Rattle.world_laws.proofs.Lanes.Records.{every_at, every_find}
+use Rattle.own_runs.specs.KeysShown.{bears_option}
 use Rattle.own_runs.proofs.KeyedPieces.{KindNeeds, Needs}
 use Rattle.own_runs.proofs.Speaking.{ToSend}
-
--- an option that maps octets or tells a DATA_FIN
-abbrev pub bears_option : PlainOption → Bool
-bears_option (Dss next (Some (Bytes place position len fin checksum))) = true
-bears_option (Dss next (Some (End place checksum))) = true
-bears_option (Capable flag_a flag_c (WithData sender receiver len checksum)) = true
-bears_option _ = false
 
 module _ (R : Side → Type 0) where
   abbrev pub Bears : Side → PlainSegment → Type 0

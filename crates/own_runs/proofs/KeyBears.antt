@@ -35,7 +35,8 @@ use Rattle.world_laws.specs.Openings.{Start, opened_world}
 use Rattle.world_laws.specs.Promises.{IsPlain, NumbersFit}
 use Rattle.world_laws.specs.Worlds.{Turn, WorldState, world_run}
 use Rattle.world_laws.specs.declared.member.Member.TheVariants.{App, Path}
-use Rattle.own_runs.proofs.BearsKnow.{ack_bears, bears_option, first_bears}
+use Rattle.own_runs.specs.KeysShown.{bears_option}
+use Rattle.own_runs.proofs.BearsKnow.{ack_bears, first_bears}
 use Rattle.own_runs.proofs.BookMoments.{always_book, numbered, second, world}
 use Rattle.own_runs.proofs.CameSent.{path_at}
 use Rattle.own_runs.proofs.KeyMoments.{DueAt, MemberSo, always_so}
@@ -156,7 +157,7 @@ module _ (start : Start) (plain : IsPlain start) (whole : IsWhole start) (fit : 
       some : 0 < length start.paths
       some = let s : PathSpeaks start p = subst (MemberSpeaks start) is (valued start turns plain.size fit i c there) in let within = slice_get_within start.paths s.0 s.1 s.2 in omega (arith, within)
 
-  abbrev NeedsKey : ℕ → Side → PlainSegment → Type 0
+  abbrev pub NeedsKey : ℕ → Side → PlainSegment → Type 0
   NeedsKey path s sg = s ≡ A → list_any bears_option sg.options ≡ true → K turns
 
   path_key : (i : ℕ) (c : ActorCrew Carried) → slice_get w.crew i ≡ Some c → (p : PathState Carried) → c.member ≡ Path p → PathAlso NeedsKey p

@@ -36,6 +36,7 @@ mod KeyHears
 mod KeyMoments
 mod KeyNext
 mod KeyRuns
+mod KeyTrace
 mod KeyedPieces
 mod KeysSaid
 mod KeysSent
