@@ -1,19 +1,16 @@
 -- Which segments map octets or tell a DATA_FIN: those of records with octets that were granted, and acknowledgements of an end that may send a DSS.
-use Rattle.std.proofs.Common.{◌≡◌, refl, sym, ap, ◌∙◌, ◌⊎◌, inl, inr, ⊎_elim, ◌-◌, ◌&&◌, ◌==◌, not, Bool, true, false, if◌then◌else◌, ℕ, Option, Some, None, List, [], ◌∷◌}
+use Rattle.std.proofs.Common.{◌≡◌, refl, ◌⊎◌, inl, inr, ◌-◌, ◌&&◌, not, Bool, true, false, if◌then◌else◌, ℕ, Option, Some, None, List, [], ◌∷◌}
 use Rattle.std.specs.List.{list_any}
 use Rattle.std.specs.Option.{IfSome}
-use Rattle.std.proofs.lemmas.Bool.{and_parts, false≢true}
-use Rattle.mptcp_options.specs.declared.capable.CapableKeys.TheVariants.{WithData}
 use Rattle.path_agenda.specs.Words.{first_of}
 use Rattle.path_agenda.specs.declared.duty.Duty.{Duty}
 use Rattle.path_agenda.specs.declared.duty.SendDuty.{SendDuty}
 use Rattle.path_agenda.specs.declared.duty.StepDuty.{StepDuty}
 use Rattle.path_agenda.specs.declared.heard.Heard.{Heard}
 use Rattle.path_agenda.specs.declared.notice.OwnNotice.{OwnNotice}
-use Rattle.path_core.specs.Choices.{is_side_a}
 use Rattle.path_core.specs.DataFin.{is_data_fin_owed}
 use Rattle.path_core.specs.DssIn.{is_clash}
-use Rattle.path_core.specs.DssOut.{data_fin_mapping, fail_beside, fail_options, fin_options, first_piece_options, infinite_or, is_first_piece, mapped_options, owes_mapping, piece_mapping, piece_options, plain_options}
+use Rattle.path_core.specs.DssOut.{data_fin_mapping, fail_beside, fin_options, infinite_or, owes_mapping, plain_options}
 use Rattle.path_core.specs.Emission.{ack_resent, answer_said, first_record, first_unsent, resend_said}
 use Rattle.path_core.specs.End.{PathEnd}
 use Rattle.path_core.specs.Fallback.{breaks_by_ack}
@@ -26,8 +23,8 @@ use Rattle.path_core.specs.Treating.{item_of}
 use Rattle.path_core.specs.Values.{Carried}
 use Rattle.path_segments.specs.Options.{PlainOption}
 use Rattle.path_segments.specs.Spelled.{PlainSegment}
-use Rattle.path_segments.specs.declared.segment.PathMapping.TheVariants.{Bytes, End, Infinite}
-use Rattle.path_segments.specs.declared.segment.PathOption.TheVariants.{Capable, Dss}
+use Rattle.path_segments.specs.declared.segment.PathMapping.TheVariants.{Infinite}
+use Rattle.path_segments.specs.declared.segment.PathOption.TheVariants.{Dss}
 use Rattle.sides.specs.declared.side.Side.TheVariants.{A, B}
 use Rattle.sides.specs.declared.side.Side.{Side}
 use Rattle.stream_lanes.specs.Words.{Every}

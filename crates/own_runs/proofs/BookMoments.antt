@@ -1,5 +1,5 @@
 -- By moments: A's control book has B's key only behind a segment of A on path 0 that shows both keys, or path 0 sends that next.
-use Rattle.std.proofs.Common.{◌≡◌, sym, ap, ◌∙◌, subst, ℕ, suc, nat_lt, Bool, true, false, Some, List, [], ◌∷◌, ◌++◌, append-nil, append_assoc, arith}
+use Rattle.std.proofs.Common.{◌≡◌, sym, ap, ◌∙◌, subst, ℕ, suc, nat_lt, false, Some, List, [], ◌∷◌, ◌++◌, append-nil, append_assoc, arith}
 use Rattle.std.specs.List.{slice_get}
 use Rattle.std.proofs.lemmas.Bool.{false≢true, ltb-false}
 use Rattle.path_core.specs.MpJoin.{is_joined}

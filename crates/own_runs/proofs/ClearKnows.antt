@@ -1,7 +1,6 @@
 -- On path 0 of a run that never falls back A may send a DSS only where its end has B's key.
-use Rattle.std.proofs.Common.{◌≡◌, refl, sym, ap, ◌∙◌, subst, ℕ, inl, inr, ◌⊎◌, ⊎_elim, not, ◌&&◌, Bool, true, false, if◌then◌else◌, Option, Some, None, is_some, List, [], ◌∷◌}
-use Rattle.std.specs.List.{slice_get}
-use Rattle.std.proofs.lemmas.Bool.{and_parts, both_ways, false≢true, not-true}
+use Rattle.std.proofs.Common.{◌≡◌, refl, sym, ap, ◌∙◌, inl, inr, ◌⊎◌, ⊎_elim, not, Bool, true, false, if◌then◌else◌, Option, Some, None, List, [], ◌∷◌}
+use Rattle.std.proofs.lemmas.Bool.{and_parts, false≢true, not-true}
 use Rattle.actor_desk.specs.Words.{tail_of}
 use Rattle.actor_desk.specs.declared.ask.Reply.{Reply}
 use Rattle.control_book.specs.declared.call.ControlReply.{ControlReply}
@@ -15,14 +14,13 @@ use Rattle.path_agenda.specs.declared.duty.SilentDuty.{SilentDuty}
 use Rattle.path_agenda.specs.declared.duty.StepDuty.{StepDuty}
 use Rattle.path_agenda.specs.declared.keys.KeyPair.{KeyPair}
 use Rattle.path_core.specs.Arrival.{asked_in, copy_heard, heard_in, judged_in}
-use Rattle.path_core.specs.Breaking.{died_unless_dead}
 use Rattle.path_core.specs.Duties.{answered, passed, stands}
 use Rattle.path_core.specs.End.{PathEnd, died}
 use Rattle.path_core.specs.Events.{after_line, happens_if, next_event}
-use Rattle.path_core.specs.Judged.{after_join, taken_as}
+use Rattle.path_core.specs.Judged.{taken_as}
 use Rattle.path_core.specs.MpCapable.{answered_opened}
 use Rattle.path_core.specs.MpJoin.{is_joined, is_never, join_begun, keys_begun, never_joined, opened_by}
-use Rattle.path_core.specs.OptionsIn.{items_of, options_heard}
+use Rattle.path_core.specs.OptionsIn.{options_heard}
 use Rattle.path_core.specs.State.{PathState, at_tick, end_at, goes_on, with_agenda}
 use Rattle.path_core.specs.Steps.{answers, begins_turn, settled, takes}
 use Rattle.path_core.specs.Values.{Carried, values}

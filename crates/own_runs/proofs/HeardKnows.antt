@@ -1,6 +1,5 @@
 -- On path 0 of a run that never falls back A's end has B's key where A is to treat what a copy said.
-use Rattle.std.proofs.Common.{◌≡◌, refl, sym, ap, ◌∙◌, subst, ℕ, suc, zero, ◌+◌, inl, inr, ◌⊎◌, ⊎_elim, Bool, true, false, if◌then◌else◌, Option, Some, None, is_some, List, [], ◌∷◌, ◌++◌, length}
-use Rattle.std.specs.List.{slice_get}
+use Rattle.std.proofs.Common.{◌≡◌, refl, sym, ap, ◌∙◌, subst, ℕ, suc, zero, ◌+◌, inl, inr, ◌⊎◌, ⊎_elim, Bool, true, false, if◌then◌else◌, Option, Some, None, List, [], ◌∷◌, ◌++◌, length}
 use Rattle.std.proofs.lemmas.Bool.{both_ways, false≢true}
 use Rattle.actor_desk.specs.declared.ask.Reply.{Reply}
 use Rattle.link_model.specs.Steps.{after_delivery, arriving}
@@ -14,7 +13,6 @@ use Rattle.path_core.specs.End.{PathEnd}
 use Rattle.path_core.specs.Events.{after_line, happens_if, next_event}
 use Rattle.path_core.specs.MpJoin.{is_joined, is_never, join_begun}
 use Rattle.path_core.specs.OptionsIn.{items_of, options_heard}
-use Rattle.path_core.specs.Start.{waiting_path}
 use Rattle.path_core.specs.State.{PathState, at_tick, end_at, with_agenda}
 use Rattle.path_core.specs.Steps.{answers, begins_turn, settled, takes}
 use Rattle.path_core.specs.Timer.{template_fired}
@@ -25,7 +23,6 @@ use Rattle.path_segments.specs.Heard.{HeardSegment}
 use Rattle.path_store.specs.declared.lines.LineAction.{LineAction}
 use Rattle.sides.specs.declared.side.Side.TheVariants.{A, B}
 use Rattle.sides.specs.declared.side.Side.{Side}
-use Rattle.stream_lanes.proofs.Lists.{in_map, in_set}
 use Rattle.subflow_tcp.specs.Expiring.{is_sixth}
 use Rattle.subflow_tcp.specs.Judging.{meaning_of}
 use Rattle.subflow_tcp.specs.States.{is_dead}
@@ -33,20 +30,9 @@ use Rattle.subflow_tcp.specs.declared.handshake.State.{State as EndPhase}
 use Rattle.subflow_tcp.specs.declared.verdicts.Meaning.{Meaning}
 use Rattle.world_laws.proofs.Keys.AnswerHeardFirst.{Fits, fits, is_apart, is_met}
 use Rattle.world_laws.proofs.Keys.AreDrawn.{is_past}
-use Rattle.world_laws.proofs.Rounds.Frame.{takes_keeps}
 use Rattle.world_laws.proofs.Whole.Ends.{Unmet, parts_of}
-use Rattle.world_laws.proofs.Whole.Falls.{EachUpright, MemberUpright, each_upright}
 use Rattle.world_laws.proofs.Whole.Happening.{Holds}
 use Rattle.world_laws.proofs.Whole.Paths.{PathIs}
-use Rattle.world_laws.proofs.Worlds.Opened.{opened_actors}
-use Rattle.world_laws.proofs.Worlds.Turns.{turn_so}
-use Rattle.world_laws.specs.Actors.{Actor, ActorCrew, member_next, member_takes}
-use Rattle.world_laws.specs.NeverFalls.{IsWhole}
-use Rattle.world_laws.specs.Openings.{Start, opened_world, path_begins}
-use Rattle.world_laws.specs.Promises.{IsPlain}
-use Rattle.world_laws.specs.StampedBooks.{answer_to}
-use Rattle.world_laws.specs.Worlds.{Turn, WorldState, after_turn, begins, crew_after, greatest, world_run}
-use Rattle.world_laws.specs.declared.member.Member.TheVariants.{App, Path}
 use Rattle.own_runs.proofs.AnswersAsked.{now_is}
 use Rattle.own_runs.proofs.DutiesFew.{IsNoEvent, duty_free, is_free, is_rare, settled_free}
 use Rattle.own_runs.proofs.EndPaths.{takes_key}

@@ -1,5 +1,5 @@
 -- At each moment of a run that never falls back a segment of A's that maps octets or tells a DATA_FIN comes behind one of A's on path 0 that shows both keys.
-use Rattle.std.proofs.Common.{◌≡◌, refl, sym, ap, ◌∙◌, subst, ℕ, suc, inl, inr, ◌⊎◌, ⊎_elim, nat_lt, Bool, true, false, Option, Some, None, is_some, List, [], ◌∷◌, ◌++◌, length, ◌<◌, arith}
+use Rattle.std.proofs.Common.{◌≡◌, refl, sym, ap, ◌∙◌, subst, ℕ, suc, ◌⊎◌, ⊎_elim, nat_lt, Bool, true, false, Option, Some, None, is_some, List, [], ◌∷◌, ◌++◌, length, ◌<◌, arith}
 use Rattle.std.specs.List.{list_any, slice_get}
 use Rattle.std.specs.Option.{IfSome}
 use Rattle.std.proofs.lemmas.Bool.{both_ways, false≢true}
@@ -14,7 +14,7 @@ use Rattle.path_core.specs.Octets.{octets}
 use Rattle.path_core.specs.Said.{said_by}
 use Rattle.path_core.specs.Shown.{shown_path}
 use Rattle.path_core.specs.State.{PathState, end_at, path_of}
-use Rattle.path_core.specs.Values.{Carried, values}
+use Rattle.path_core.specs.Values.{Carried}
 use Rattle.path_agenda.specs.declared.duty.Duty.{Duty}
 use Rattle.path_segments.specs.Spelled.{PlainSegment}
 use Rattle.sides.specs.declared.side.Side.TheVariants.{A, B}
@@ -40,7 +40,7 @@ use Rattle.own_runs.proofs.BearsKnow.{ack_bears, first_bears}
 use Rattle.own_runs.proofs.BookMoments.{always_book, numbered, second, world}
 use Rattle.own_runs.proofs.CameSent.{path_at}
 use Rattle.own_runs.proofs.KeyMoments.{DueAt, MemberSo, always_so}
-use Rattle.own_runs.proofs.KeyNext.{acking, living}
+use Rattle.own_runs.proofs.KeyNext.{acking}
 use Rattle.own_runs.proofs.KeyRuns.{TurnSays}
 use Rattle.own_runs.proofs.KeyedPieces.{EndBears, HasKey, KindNeeds, MayBear, MemberKeyed, Needs, always_bear, more}
 use Rattle.own_runs.proofs.KeysSent.{ShowsKeys}

@@ -1,6 +1,6 @@
 -- At each moment of a run that never falls back A's control book has B's key only behind a segment of A on path 0 that shows both keys, or path 0 sends
 -- that next.
-use Rattle.std.proofs.Common.{◌≡◌, refl, sym, ap, ◌∙◌, subst, ℕ, zero, suc, ◌+◌, inl, inr, ◌⊎◌, ⊎_elim, set, map, Bool, true, false, if◌then◌else◌, Option, Some, None, is_some, List, [], ◌∷◌, arith}
+use Rattle.std.proofs.Common.{◌≡◌, refl, sym, ap, ◌∙◌, subst, ℕ, zero, suc, ◌+◌, inl, inr, ◌⊎◌, ⊎_elim, set, map, Bool, true, false, if◌then◌else◌, Option, Some, None, List, [], ◌∷◌}
 use Rattle.std.specs.List.{slice_get}
 use Rattle.std.proofs.lemmas.Bool.{and_parts, both_ways, false≢true}
 use Rattle.std.proofs.lemmas.Option.{same_Some}
@@ -9,7 +9,6 @@ use Rattle.actor_desk.specs.Desk.{SixBooks, after_ask}
 use Rattle.actor_desk.specs.Words.{is_nil}
 use Rattle.actor_desk.specs.declared.ask.Ask.{Ask}
 use Rattle.actor_desk.specs.declared.ask.Reply.{Reply}
-use Rattle.path_agenda.specs.declared.duty.Duty.{Duty}
 use Rattle.path_core.specs.MpJoin.{is_joined}
 use Rattle.path_core.specs.Start.{waiting_path}
 use Rattle.path_core.specs.State.{PathState}
@@ -21,7 +20,7 @@ use Rattle.world_laws.proofs.Joins.TokensAgree.{WorldMet}
 use Rattle.world_laws.proofs.Keys.ToldAreOwn.{HasPeerKey, NoMore, PathKnows, member_asks_are}
 use Rattle.world_laws.proofs.Rounds.Frame.{takes_keeps}
 use Rattle.world_laws.proofs.Weaving.Journals.{books_after}
-use Rattle.world_laws.proofs.Whole.Falls.{EachUpright, MemberUpright, PathUpright, each_upright}
+use Rattle.world_laws.proofs.Whole.Falls.{EachUpright, MemberUpright, each_upright}
 use Rattle.world_laws.proofs.Worlds.Opened.{opened_actors}
 use Rattle.world_laws.proofs.Worlds.Turns.{turn_so}
 use Rattle.world_laws.specs.Actors.{Actor, ActorCrew, is_over, member_asks, member_next, member_takes}
@@ -29,11 +28,11 @@ use Rattle.world_laws.specs.NeverFalls.{IsWhole}
 use Rattle.world_laws.specs.Openings.{Start, opened_world, path_begins}
 use Rattle.world_laws.specs.Promises.{IsPlain}
 use Rattle.world_laws.specs.StampedBooks.{answer_to}
-use Rattle.world_laws.specs.Worlds.{Turn, WorldState, after_turn, all_over, asked, begins, crew_after, end_round, greatest, stepped, world_run, world_step}
+use Rattle.world_laws.specs.Worlds.{Turn, WorldState, after_turn, all_over, asked, begins, crew_after, greatest, stepped, world_run}
 use Rattle.world_laws.specs.declared.member.Member.TheVariants.{App, Path}
 use Rattle.own_runs.proofs.ClearKnows.{ClearKnows, begins_known, takes_known}
 use Rattle.own_runs.proofs.HeardKnows.{HeardKnows, begins_heard, takes_heard}
-use Rattle.own_runs.proofs.KeyNext.{KeyNext, acking, begins_next, living, takes_next}
+use Rattle.own_runs.proofs.KeyNext.{KeyNext, begins_next, takes_next}
 use Rattle.own_runs.proofs.KeyRuns.{ActorSays, MemberSays, TurnSays, app_tells, ask_tells, book_so, is_key_told}
 use Rattle.own_runs.proofs.KeyedPieces.{next_profile}
 use Rattle.own_runs.proofs.KeysSent.{IsDue, ShowsKeys, more_due, path_step, untold}

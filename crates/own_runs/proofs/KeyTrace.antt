@@ -1,5 +1,5 @@
 -- In the trace of a run that never falls back each segment of A that maps octets or tells a DATA_FIN comes behind one of A on path 0 that shows both keys.
-use Rattle.std.proofs.Common.{◌≡◌, refl, sym, ap, ◌∙◌, subst, ℕ, nat_lt, Bool, true, false, Option, Some, None, List, [], ◌∷◌, ◌++◌, append-nil, take, arith}
+use Rattle.std.proofs.Common.{◌≡◌, refl, sym, ap, ◌∙◌, subst, ℕ, nat_lt, false, Option, Some, None, List, [], ◌∷◌, ◌++◌, append-nil, arith}
 use Rattle.std.specs.List.{list_any, slice_get}
 use Rattle.std.specs.Option.{option_to_list}
 use Rattle.std.proofs.lemmas.Bool.{ltb-false}
