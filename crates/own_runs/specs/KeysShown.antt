@@ -78,4 +78,5 @@ pub record ComesBehindKeys (before : List Sent) (x : Sent) : Type 0 where
 abbrev pub EachComesBehindKeys : Type 0
 EachComesBehindKeys =
     (start : Start) (turns : List Turn) → IsPlain start → IsWhole start → NumbersFit start
-    → (i : ℕ) (x : Sent) → slice_get (trace_of turns (opened_world start)) i ≡ Some x → ComesBehindKeys (take i (trace_of turns (opened_world start))) x
+    → (i : ℕ) (x : Sent) → slice_get (trace_of turns (opened_world start)) i ≡ Some x
+    → ComesBehindKeys (take i (trace_of turns (opened_world start))) x
