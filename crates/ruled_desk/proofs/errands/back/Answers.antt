@@ -1,5 +1,4 @@
 use Rattle.ruled_desk.proofs.Words.{sym, ◌∙◌, ap, subst, Rode}
-use Rattle.std.specs.Box.{box_value}
 use Rattle.ruled_desk.proofs.SentOut.{fetched, not_sent, sent_out}
 use Rattle.ruled_desk.proofs.errands.back.Goals as goal
 
@@ -15,5 +14,5 @@ returns-in-Some-clause-rode g c rider sent has =
 
 pub returns-in-None-clause-rode : goal.returns-in-None-clause-rode
 returns-in-None-clause-rode g c rider sent has =
-    subst (λ back. Rode g.A.Actor.asks g.A.Actor.takes c.args.desk.now rider back) (sym (c.into_rider.ensures ∙ ap (λ errand. errand.rider) c.into_inner.ensures))
-    (fetched g.A.Actor.asks g.A.Actor.takes c.args.desk.now rider c.args.giver.now c.args.kept (box_value c.fetch.result).rider c.in-None.is sent c.fetch.ensures.done)
+    subst (λ back. Rode g.A.Actor.asks g.A.Actor.takes c.args.desk.now rider back) (sym c.into_rider.ensures)
+    (fetched g.A.Actor.asks g.A.Actor.takes c.args.desk.now rider c.args.giver.now c.args.kept c.fetch.result.rider c.in-None.is sent c.fetch.ensures.done)
