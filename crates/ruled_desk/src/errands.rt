@@ -1,6 +1,7 @@
 //! Turns as jobs of workers that stay from round to round.
-ghost use Rattle.std.specs.Prelude.{◌≡◌, ◌≤◌, None, All, vec_capacity};
+ghost use Rattle.std.specs.Prelude.{◌≡◌, ◌≤◌, None, Some, All, IfSome, vec_capacity};
 ghost use Rattle.std.specs.Arc.{arc_value};
+ghost use Rattle.ruled_desk.specs.declared.errands.Errand.{Errand};
 ghost use Rattle.ruled_desk.specs.declared.rider.Rider.{Rider};
 ghost use Rattle.ruled_desk.specs.Errands.{AllHave, AllRode, IsSent};
 ghost use Rattle.ruled_desk.specs.Riding.{HasPass, Rode};
@@ -201,7 +202,29 @@ fn send<A: Actor + Drop>(
     offer(giver, Errand { rider, desk })
 }
 
-// The rider back from its worker, or after a turn here where it wasn't sent.
+// The rider that is out: back from its worker, or after a turn here where the worker hasn't begun.
+fn come_home<A: Actor + Drop, G: Gate, R: Wait>(
+    rt: &R,
+    alloc: Global,
+    giver: &mut TurnGiver<A>,
+    gate: &G,
+) -> Mounted<A>
+    requires { (errand : Errand A) × (giver.old ≡ Some errand) ×
+        HasPass (arc_value errand.desk) errand.rider }
+    ensures rode { IfSome giver.old (λ errand.
+        Rode A.asks A.takes (arc_value errand.desk) errand.rider result) }
+    ensures rests { giver.new ≡ None }
+{
+    match giver.recall() {
+        Some(mut errand) => {
+            run(rt, alloc, &mut errand, gate);
+            errand.into_rider()
+        }
+        None => giver.fetch(rt).into_rider(),
+    }
+}
+
+// The rider back from its worker, or after a turn here where it wasn't sent, or the worker hasn't begun.
 fn back<A: Actor + Drop, G: Gate, R: Wait>(
     rt: &R,
     alloc: Global,
@@ -220,7 +243,7 @@ fn back<A: Actor + Drop, G: Gate, R: Wait>(
             ride(rt, alloc, &mut rider, desk, gate);
             rider
         }
-        None => giver.fetch(rt).into_rider(),
+        None => come_home(rt, alloc, giver, gate),
     }
 }
 
