@@ -17,7 +17,9 @@ pub struct Giver<W: Drop, D: Deed<W>> {
     recalled: u32,
 }
 
-// A worker that came too late for its last job is woken for each sixteenth only.
+// A worker that came too late for its last four jobs is woken for each sixteenth only.
+const LATE: u32 = 4;
+
 const SELDOM: u32 = 16;
 
 impl<W: Drop, D: Deed<W>> Model for Giver<W, D> {
@@ -82,7 +84,7 @@ impl<W: Drop, D: Deed<W>> Giver<W, D> {
 
     // The worker is woken, unless it came too late for its last jobs.
     fn wake(&self) {
-        if self.recalled % SELDOM == 0 {
+        if self.recalled < LATE || self.recalled % SELDOM == 0 {
             self.berth.wake();
         }
     }
