@@ -268,15 +268,15 @@ module _ {W : Type 0} where
     -- there is no work to begin
     no_work : (word : ℕ) (home : Home W) (u : View W) → word ≢ 1 → Stands may does word home u Free
         → WorkerStep (Free, []) (λ n. either (eqb n 1) 5 n) (IsTaken may (Free, [])) word home u
-    no_work word home u none stands = (
+    no_work word home u idle stands = (
       Free,
       keeps,
       home,
       tt,
       tt,
       refl,
-      exchanged word 1 5 (λ n. Stands may does n home u Free) (λ one. absurd (none one)) (λ other. stands),
-      subst (λ b. TakenWhere {W = W} may b (Free, []) (Free, [])) (sym (ne_eqb word 1 none)) refl,
+      exchanged word 1 5 (λ n. Stands may does n home u Free) (λ one. absurd (idle one)) (λ other. stands),
+      subst (λ b. TakenWhere {W = W} may b (Free, []) (Free, [])) (sym (ne_eqb word 1 idle)) refl,
     )
 
     -- the work is begun, where there is some

@@ -205,9 +205,10 @@ impl<W: Drop, D: Deed<W>> Berth<W, D> {
         let word = self.table.shared.peek(0);
         if word == WORK {
             self.wake();
+            self.table.shared.park(rt, 0, WORK as u32);
         }
-        if word != DONE {
-            self.table.shared.park(rt, 0, word as u32);
+        if word == BEGUN {
+            self.table.shared.park(rt, 0, BEGUN as u32);
         }
     }
 
