@@ -87,6 +87,10 @@ module _ {A : Type 0} where
       some_none : Some same ≡ None → ⊥
       some_none e = cc
 
+-- the one that is out
+pub same_out : {X : Type 0} (out : Option X) (one other : X) → out ≡ Some one → out ≡ Some other → one ≡ other
+same_out out one other is too = let both : Some one ≡ Some other = sym is ∙ too in cc
+
 -- of givers of which no turn is out, the first and the others
 pub first_rests : {X : Type 0} (all : List (Option X)) (first : Option X) (others : List (Option X)) → all ≡ first ∷ others → All (λ x. x ≡ None) all
     → (first ≡ None) × All (λ x. x ≡ None) others

@@ -1,6 +1,7 @@
-use Rattle.ruled_desk.proofs.Words.{◌≡◌, sym, ◌∙◌, subst, HasPass, Rode, Some}
+use Rattle.ruled_desk.proofs.Words.{refl, sym, ◌∙◌, subst, HasPass, Rode}
 use Rattle.std.specs.Arc.{arc_value}
 use Rattle.std.specs.Prelude.{IfSome}
+use Rattle.ruled_desk.proofs.SentOut.{same_out}
 use Rattle.ruled_desk.proofs.errands.come_home.Goals as goal
 
 pub recall-requires : goal.recall-requires
@@ -8,11 +9,11 @@ recall-requires g c = (c.requires.0, c.requires.1)
 
 pub run-requires : goal.run-requires
 run-requires g c =
-    let same : c.requires.0 ≡ c.in-Some.errand = cc in
-    subst (λ errand. HasPass (arc_value errand.desk) errand.rider) same c.requires.2
+    subst (λ errand. HasPass (arc_value errand.desk) errand.rider)
+    (same_out c.args.giver.now c.requires.0 c.in-Some.errand c.requires.1 c.in-Some.ensures.back) c.requires.2
 
 pub fetch-requires : goal.fetch-requires
-fetch-requires g c = (c.requires.0, c.in-None.ensures.still ∙ c.requires.1)
+fetch-requires g c = (c.requires.0, c.in-None.ensures.still refl ∙ c.requires.1)
 
 pub returns-in-Some-clause-rode : goal.returns-in-Some-clause-rode
 returns-in-Some-clause-rode g c =
@@ -21,5 +22,6 @@ returns-in-Some-clause-rode g c =
 
 pub returns-in-None-clause-rode : goal.returns-in-None-clause-rode
 returns-in-None-clause-rode g c =
-    subst (λ old. IfSome old (λ errand. Rode g.A.Actor.asks g.A.Actor.takes (arc_value errand.desk) errand.rider c.into_rider.result)) c.in-None.ensures.still
-    (subst (λ rider. IfSome c.recall.new.giver (λ errand. Rode g.A.Actor.asks g.A.Actor.takes (arc_value errand.desk) errand.rider rider)) (sym c.into_rider.ensures) c.fetch.ensures.done)
+    subst (λ old. IfSome old (λ errand. Rode g.A.Actor.asks g.A.Actor.takes (arc_value errand.desk) errand.rider c.into_rider-in-None.result)) (c.in-None.ensures.still refl)
+    (subst (λ rider. IfSome c.recall.new.self (λ errand. Rode g.A.Actor.asks g.A.Actor.takes (arc_value errand.desk) errand.rider rider)) (sym c.into_rider-in-None.ensures)
+    c.fetch.ensures.done)
