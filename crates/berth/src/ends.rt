@@ -17,10 +17,10 @@ pub struct Giver<W: Drop, D: Deed<W>> {
     recalled: u32,
 }
 
-// A worker that came too late for its last four jobs is woken for each sixteenth only.
-const LATE: u32 = 4;
+// A worker that came too late for its last two jobs is woken for each 64th only.
+const LATE: u32 = 2;
 
-const SELDOM: u32 = 16;
+const SELDOM: u32 = 64;
 
 impl<W: Drop, D: Deed<W>> Model for Giver<W, D> {
     ghost use Rattle.std.specs.Prelude.{◌≡◌, Option};
