@@ -2,7 +2,7 @@
 --
 -- `givers_step` and `workers_step` find the seat's place once; what is left of a step is a table by cases of what the other one knows.
 use Rattle.berth.proofs.Words.{◌≡◌, refl, sym, ◌∙◌, ap, subst, ℕ, zero, suc, ◌⊎◌, inl, inr, Bool, true, false, List, [], ◌∷◌, Option, Some, None, eqb, ◌≢◌, ne_eqb, set, ◌++◌, arith}
-use Rattle.berth.proofs.Words.{slice_index, some, none, some-injective, some-ne-none, get_elem?, either, State, Me, Act, keeps, takes, gives, Allows, Valid, homes_after, carried_after, opening, Splits, exchanged, rest, given, HasDone, HasJob}
+use Rattle.berth.proofs.Words.{slice_index, some, none, some-injective, some-ne-none, get_elem?, either, Act, keeps, takes, gives, Allows, Valid, homes_after, carried_after, opening, Splits, exchanged, rest, given, HasDone, HasJob}
 use Rattle.berth.proofs.Words.{View, Both, Rests, Opened, Awaits, Free, Works, Mine, Home, OpenedWhere, IsOpened, IsGiven, RecalledWhere, IsRecalled, HasBack, FetchedWhere, IsFetched, AtRest, IsSame, TakenWhere, IsTaken, IsFree, IsGivers, IsWorkers, IsWork, IsDone, Stands, AreSeated, IsBerthed}
 
 module _ {W : Type 0} where

@@ -1,6 +1,6 @@
 -- A round over six books, from what its desk promises of each rider.
 use Rattle.ruled_desk.proofs.Words.{◌≡◌, refl, sym, ◌∙◌, ap, subst, ℕ, zero, suc, ◌-◌, ◌^◌, ◌<◌, ◌≤◌, ◌⊎◌, ◌↔◌, inl, inr, Bool, true, false, ◌||◌, List, []}
-use Rattle.ruled_desk.proofs.Words.{◌∷◌, ◌++◌, length, map, take, drop, Option, Some, None, Result, Ok, Err, arith, get_or-map, length-map, map-append, append-nil, OnOk}
+use Rattle.ruled_desk.proofs.Words.{◌∷◌, ◌++◌, length, map, Option, Some, None, Result, Ok, Err, arith, get_or-map, length-map, map-append, append-nil, OnOk}
 use Rattle.ruled_desk.proofs.Words.{All, slice_index_or, list_any, Journaled, Entry, Refusal, Memory, Stamps, Ask, Note, Reply, send_note, reassembly_note}
 use Rattle.ruled_desk.proofs.Words.{control_note, Crew, is_refused, Turned, HasLastStamp, GainsJust, Rider, AreNumbered, HasPass, NotesFull, OneIsUsedUp, Rode}
 use Rattle.ruled_desk.proofs.Words.{all_joined, given_pass, is_rider_refused, known_with, pass_taken, SixLocked, SixKnown, Passed, nothing_known, AllGainJust}

@@ -1,5 +1,4 @@
 use Rattle.ruled_desk.proofs.Words.{sym, subst, HasPass, Rode}
-use Rattle.std.specs.Arc.{arc_value}
 use Rattle.ruled_desk.proofs.SentOut.{fetched, not_sent, sent_out}
 use Rattle.ruled_desk.proofs.errands.back.Goals as goal
 
