@@ -17,10 +17,8 @@ pub struct Giver<W: Drop, D: Deed<W>> {
     recalled: u32,
 }
 
-// A worker that came too late for its last two jobs is woken for each 64th only.
-const LATE: u32 = 2;
-
-const SELDOM: u32 = 64;
+// A worker that came too late for its last job is woken for each 256th only.
+const SELDOM: u32 = 256;
 
 impl<W: Drop, D: Deed<W>> Model for Giver<W, D> {
     ghost use Rattle.std.specs.Prelude.{◌≡◌, Option};
@@ -82,9 +80,9 @@ impl<W: Drop, D: Deed<W>> Giver<W, D> {
         self.berth.wait_until_come(rt)
     }
 
-    // The worker is woken, unless it came too late for its last jobs.
+    // The worker is woken, unless it came too late for its last job.
     fn wake(&self) {
-        if self.recalled < LATE || self.recalled % SELDOM == 0 {
+        if self.recalled % SELDOM == 0 {
             self.berth.wake();
         }
     }
