@@ -332,7 +332,7 @@ fn unshared<R: Wait>(rt: &R, desk: Arc<RuledDesk, Global>) -> RuledDesk
     unreachable!()
 }
 
-/// The turns of all riders at a desk, which comes back: each at a worker, as far as these go and have come, and else here.
+/// The turns of all riders at a desk, which comes back: each at a worker, as far as these go and begin in time, and else here.
 pub(crate) fn ride_out<A: Actor + Drop, G: Gate, R: Wait>(
     rt: &R,
     alloc: Global,

@@ -280,8 +280,8 @@ pub(crate) fn ride<A: Actor, G: Gate, R: Wait>(
     }
 }
 
-/// A round: the turns of all riders, each at a worker with a seat of its pass, as far as there are workers that have come, or else
-/// one after the other here, where the last one always is. The steps that were made so far stand, whatever the answer, each rider
+/// A round: the turns of all riders, each at a worker with a seat of its pass, as far as workers have come and begin before this
+/// thread is free, or else one after the other here, where the last one always is. The steps that were made so far stand, whatever the answer, each rider
 /// has its pass again, no rider is out, and the desk comes back as it was.
 ///
 /// # Errors
