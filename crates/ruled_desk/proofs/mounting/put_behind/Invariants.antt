@@ -1,13 +1,13 @@
 use Rattle.std.proofs.Common.{◌≡◌, ◌+◌, ◌≤◌, ◌++◌, reverse}
 use Rattle.std.specs.Prelude.{vec_len, vec_capacity}
 use Rattle.ruled_desk.specs.WholeRounds.{crew_of}
-use Rattle.ruled_desk.proofs.mounting.dismount.Given as goal
+use Rattle.ruled_desk.proofs.mounting.put_behind.Given as goal
 
--- the riders that are left and the actors so far, the last one first, are all
+-- the actors so far and those of the riders that are left, the last one first, are all
 abbrev pub invariant-loop-rider : goal.invariant-loop-rider
 invariant-loop-rider g l =
     record {
-      all : crew_of l.riders.items ++ reverse l.crew.items ≡ crew_of l.initial.riders.items;
+      all : l.crew.items ++ crew_of (reverse l.riders.items) ≡ l.initial.crew.items ++ crew_of (reverse l.initial.riders.items);
       room : vec_len l.crew + vec_len l.riders ≤ vec_capacity l.crew;
     }
 
