@@ -1,11 +1,14 @@
 mod AckPositions
 mod Acking
 mod Acknowledged
+mod AnswersAsked
+mod AnswersShow
 mod Bearing
 mod Begun
 mod CameSent
 mod Carrying
 mod Counted
+mod DutiesFew
 mod EndMarks
 mod EndPaths
 mod EndRuns
@@ -27,6 +30,8 @@ mod KeyDuties
 mod KeyHears
 mod KeyRuns
 mod KeyedPieces
+mod KeysSaid
+mod KeysShown
 mod KnownKeys
 mod LateJoins
 mod Learning

@@ -86,7 +86,7 @@ use Rattle.whole_paths.specs.Delivery.{FinishedIsThere, HasFinished}
 use Rattle.whole_paths.specs.EndSteps.{SubflowSteps}
 use Rattle.whole_paths.specs.Finish.{IsPathAt}
 use Rattle.whole_paths.specs.Mild.{EndsGoByMappings, IsMildStart, LinkIsMild}
-use Rattle.whole_paths.proofs.ByTurns.{Of, OfFirst, each_first_moment}
+use Rattle.whole_paths.proofs.ByTurns.{Becomes, Of, OfFirst, each_first_moment, then_path}
 use Rattle.whole_paths.proofs.Clearing.{died_clear, judged_clear, opened_clear, passed_same, same_clear}
 use Rattle.whole_paths.proofs.Duties.{answered_steps, passed_steps}
 use Rattle.whole_paths.proofs.EndsUntold.{a_is_told_no_end_before}
@@ -104,6 +104,7 @@ use Rattle.whole_paths.proofs.Pushing.{NextStays, answered_next, event_next, pas
 use Rattle.whole_paths.proofs.DataLeft.{joined_up}
 use Rattle.whole_paths.proofs.Reached.{EndsAreReached, Line, each_is_reached}
 use Rattle.whole_paths.proofs.Saying.{ToSend}
+use Rattle.whole_paths.proofs.RecordWaits.{path_is}
 use Rattle.whole_paths.proofs.Signless.{AllMute, IsSyn, SaysNone, first_mute, is_dss_option}
 use Rattle.whole_paths.proofs.UnderWay.{OfSent, next_all, none_begins, takes_all}
 use Rattle.whole_paths.proofs.WellOctets.{ends_before}
@@ -371,6 +372,16 @@ signs_last = record {
       (λ unclear. quiet_on (passed d p).clock p.b (passed d p).b (passed_steps d p).b.subflow (passed_next d p).b);
 }
 
+abbrev QuietStays : PathState Carried → PathState Carried → Type 0
+QuietStays p q = Quiet p.b → Quiet q.b
+
+quiet_last : Lasts {C = Carried} QuietStays
+quiet_last = record {
+  agenda = λ ds p h. h;
+  chains = λ p q r x y h. y (x h);
+  passes = λ d p h. quiet_on (passed d p).clock p.b (passed d p).b (passed_steps d p).b.subflow (passed_next d p).b h;
+}
+
 answered_signs : (d : Duty) (r : Reply) (p : PathState Carried) → is_joined p.profile ≡ false → p.b.modes.identity ≡ false → (p.b.modes.clear ≡ false → is_fin_due p.b ≡ true → ⊥) → Every (CopySure p) p.link.under_way
     → stands d p ≡ true → Signs p → Signs (answered values d r p)
 answered_signs d r p first mapped still copies due h = by (is_event d) refl
@@ -449,6 +460,16 @@ module _ (start : Start) where
             let y : PathState Carried = with_agenda (d ∷ ds) p in let q : PathState Carried = answered values d r y in
             settled_lasts (λ p q. Signs p → Signs q) signs_last q.agenda q (answered_signs d r y k.first (k.maps B).identity open_still (record { each = λ i f there. h.copies.each i f there }) due x)
 
+    -- so it is by the turn by which B's may send one, too
+    takes_quiet : (r : Reply) → p.b.modes.clear ≡ false → Quiet (takes values r p).b
+    takes_quiet r unclear = by p.agenda k.stood (h.signs.quiet unclear)
+      where
+        by : (ds : List Duty) → FirstStands ds (with_agenda ds p) → Quiet p.b → Quiet (takes values r (with_agenda ds p)).b
+        by [] due x = x
+        by (d ∷ ds) due x =
+            let y : PathState Carried = with_agenda (d ∷ ds) p in let q : PathState Carried = answered values d r y in
+            settled_lasts QuietStays quiet_last q.agenda q (quiet_on q.clock y.b q.b (answered_steps values d r y).b.subflow (b_next d r y unclear (k.maps B).identity (open_still unclear) due) x)
+
     takes_sure : (r : Reply) → IsSure (takes values r p)
     takes_sure r =
         let q : PathState Carried = takes values r p in let on = (takes_clear values r p).b.0 in
@@ -461,6 +482,9 @@ module _ (start : Start) where
         copies = next_all (CopySure q) p (all_later p q (next_clear p).b.0 p.link.under_way h.copies);
         signs = begins_lasts (λ p q. Signs p → Signs q) signs_last (record p { clock = p.until; until = p.until + 100 }) (record { items = h.signs.items; sure = h.signs.sure; quiet = h.signs.quiet });
       }
+
+  next_quiet : (p : PathState Carried) → Quiet p.b → Quiet (next_round p).b
+  next_quiet p h = begins_lasts QuietStays quiet_last (record p { clock = p.until; until = p.until + 100 }) h
 
 -- ---- the opening
 
@@ -535,6 +559,23 @@ module _ (start : Start) (plan : PathPlan) (one : start.paths ≡ plan ∷ []) (
 
   sure_at : (turns : List Turn) (p : PathState Carried) → IsPathAt 0 (reached values start turns) p → Signs p
   sure_at turns p here = (subst (Of IsSure) here.is ((each_sure turns).each here.crew here.there)).signs
+
+  -- as B's end may send a DSS first nothing behind its SYN was sent
+  pub quiet_then : (turns : List Turn) (turn : Turn) (p q : PathState Carried) → IsPathAt 0 (reached values start turns) p → IsPathAt 0 (reached values start (turns ++ turn ∷ [])) q → p.b.modes.clear ≡ false → Quiet q.b
+  quiet_then turns turn p q here there unclear =
+      let now = then_path values start turns turn p here in
+      subst (λ (z : PathState Carried). Quiet z.b) (path_is (reached values start (turns ++ turn ∷ [])) now.path q now.here there) (by now.path now.becomes)
+    where
+      known_p : Known start p
+      known_p = subst (Of (Known start)) here.is ((known turns).each here.crew here.there)
+
+      sure_p : IsSure p
+      sure_p = subst (Of IsSure) here.is ((each_sure turns).each here.crew here.there)
+
+      by : (z : PathState Carried) → Becomes values p z → Quiet z.b
+      by z Becomes.stays = sure_p.signs.quiet unclear
+      by z (Becomes.takes_a_reply r) = takes_quiet start p known_p sure_p r unclear
+      by z Becomes.begins_anew = next_quiet start p (sure_p.signs.quiet unclear)
 
 pub b_is_clear_first : BIsClearFirst
 b_is_clear_first start plan turns one mild p here = (sure_at start plan one mild turns p here).sure

@@ -12,6 +12,7 @@ use Rattle.subflow_send.specs.declared.record.RecordKind.TheVariants.{Data}
 use Rattle.subflow_tcp.specs.declared.handshake.State.{State as EndPhase}
 use Rattle.subflow_tcp.specs.declared.handshake.State.TheVariants as phase
 use Rattle.subflow_tcp.specs.States.{is_dead, is_half_open}
+use Rattle.subflow_tcp.specs.declared.verdicts.Meaning.TheVariants as means
 use Rattle.path_agenda.specs.declared.duty.Duty.{Duty}
 use Rattle.path_agenda.specs.declared.duty.Duty.TheVariants as duties
 use Rattle.path_agenda.specs.declared.duty.StepDuty.TheVariants as step_duties
@@ -26,7 +27,7 @@ use Rattle.world_laws.specs.Openings.{Start}
 use Rattle.world_laws.specs.RoundDone.{reached}
 use Rattle.world_laws.specs.Worlds.{Turn, WorldState, after_turn}
 use Rattle.whole_paths.specs.AgendaSteps.{event_side}
-use Rattle.whole_paths.specs.Arrivals.{Arrival, ComesAgain, IsPiece}
+use Rattle.whole_paths.specs.Arrivals.{Arrival, ComesAgain, IsMappedPiece}
 use Rattle.whole_paths.specs.AsFar.{stage}
 use Rattle.whole_paths.specs.ComingCopies.{CopiesCount, PathsHear}
 use Rattle.whole_paths.specs.Copies.{CopiesGoOn, GoesOnItsWay, IsUnderWay}
@@ -35,7 +36,7 @@ use Rattle.whole_paths.specs.Exchanges.{IsSentWhole}
 use Rattle.whole_paths.specs.Expiries.{IsSaidAt}
 use Rattle.whole_paths.specs.Mending.{ComesBy, IsOpenTurn}
 use Rattle.whole_paths.specs.OpenCourses.{IsOpenNow}
-use Rattle.whole_paths.proofs.Arrivals.{each_copy_arrives, each_mapped_record_is_a_piece, each_piece_comes_in_order}
+use Rattle.whole_paths.proofs.Arrivals.{each_copy_arrives, each_mapped_record_is_a_piece, each_piece_comes_in_order, sender_of}
 use Rattle.whole_paths.proofs.ComingCopies.{each_copy_that_comes_counts}
 use Rattle.whole_paths.proofs.Copies.{copies_leave}
 use Rattle.whole_paths.proofs.Exchanges.{Known, below_limit}
@@ -108,8 +109,8 @@ module _ (start : Start) (turns : List Turn) (turn : Turn) (h : IsOpenTurn start
     due_to : comes_now.due.to ≡ t
     due_to = sym (ap event_side comes_now.next) ∙ ap event_side next ∙ c.of_it.to
 
-    piece : IsPiece x
-    piece = each_mapped_record_is_a_piece p.profile s r c.of_it.sender x c.whole.mapped c.of_it.of_it c.of_it.says
+    piece : IsMappedPiece (peer comes_now.due.to) x
+    piece = subst (λ y. IsMappedPiece y x) (sym (ap peer due_to ∙ sender_of s)) (each_mapped_record_is_a_piece p.profile s r c.of_it.sender x c.whole.mapped c.of_it.of_it c.of_it.says)
 
     again : ComesAgain p
     again = (each_piece_comes_in_order x p comes_now piece).1 (record {
@@ -131,7 +132,7 @@ module _ (start : Start) (turns : List Turn) (turn : Turn) (h : IsOpenTurn start
     arrives = ⊎_elim
         (λ same. inl (still (subst (IsUnderWay c.copy) (sym same) c.there)))
         (λ due. inr (subst (λ u. (end_at u q).tcp.due.ack ≡ true) again_to due))
-        (counts.acks again.copy again.outside (subst (λ u. is_half_open (end_at u p).tcp.state ≡ false) (sym again_to) (whole_open (end_at t p).tcp.state (h.before.is_open.past t))))
+        (counts.acks again.copy means.Outside again.outside refl (λ same. let other : means.Outside ≡ means.RepeatedSyn = same in cc) (subst (λ u. is_half_open (end_at u p).tcp.state ≡ false) (sym again_to) (whole_open (end_at t p).tcp.state (h.before.is_open.past t))))
 
   pub comes_again : Goes
   comes_again = by (with_both start turns turn h CopiesGoOn (copies_leave values w turn 2 h.before.here.crew h.before.here.there) c.copy c.there)

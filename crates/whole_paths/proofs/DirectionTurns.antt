@@ -52,7 +52,7 @@ use Rattle.whole_paths.proofs.Losing.{harms_alone_lose_records}
 use Rattle.whole_paths.proofs.Mends.{first_goes_again}
 use Rattle.whole_paths.proofs.OctetsPassed.{octets_are_passed}
 use Rattle.whole_paths.proofs.OpenAsks.{EndsAskForThemselves, ends_ask_for_themselves}
-use Rattle.whole_paths.proofs.OpenTurns.{of_before, with_both}
+use Rattle.whole_paths.proofs.OpenTurns.{of_before, with_both, begun}
 use Rattle.whole_paths.proofs.Reached.{EndsAreReached, each_is_reached, first_reached, none_left}
 use Rattle.whole_paths.proofs.Resending.{what_runs_out_goes_again}
 use Rattle.whole_paths.proofs.Sent.{what_came_was_sent}
@@ -178,10 +178,10 @@ module _ (start : Start) (plan : PathPlan) (one : BeginsWithOnePath start plan) 
   edge z = (end_at t z).tcp.recv.edge
 
   told_stays : ToldStays s p q
-  told_stays = stays start plan one turns turn h s
+  told_stays = stays start plan one turns turn (begun start turns turn h) s
 
   clock_up : p.clock ≤ q.clock
-  clock_up = clock start plan one turns turn h s
+  clock_up = clock start plan one turns turn (begun start turns turn h) s
 
   abbrev crew : ActorCrew Carried
   crew = h.before.here.crew
@@ -190,10 +190,10 @@ module _ (start : Start) (plan : PathPlan) (one : BeginsWithOnePath start plan) 
   there = h.before.here.there
 
   una_later : una p ≤ una q
-  una_later = una_up start plan one turns turn h s s
+  una_later = una_up start plan one turns turn (begun start turns turn h) s s
 
   edge_later : edge p ≤ edge q
-  edge_later = edge_up start plan one turns turn h s t
+  edge_later = edge_up start plan one turns turn (begun start turns turn h) s t
 
   heard_later : (end_at s p).sending.heard ≤ (end_at s q).sending.heard
   heard_later = (with_both start turns turn h EndsKeepWhatWaits (what_waits_is_kept values w (turn ∷ []) 2 crew there) s).heard
@@ -250,7 +250,7 @@ module _ (start : Start) (plan : PathPlan) (one : BeginsWithOnePath start plan) 
       unless_moved : (EdgeIsUnheard s unheard q → Goes) → Goes
       unless_moved then_so = unless_heard (edge p) is_unheard.among (λ behind. ⊎_elim
           (rises (edge p) is_unheard.among behind edge_later bound)
-          (λ few. (let same : edge q ≡ edge p = omega (arith, few, edge_up start plan one turns turn h s t) in
+          (λ few. (let same : edge q ≡ edge p = omega (arith, few, edge_up start plan one turns turn (begun start turns turn h) s t) in
           then_so (record { behind = omega (arith, behind, same); among = subst (λ n. Has (λ m. m ≡ n) unheard) (sym same) is_unheard.among })))
           (cases_lt (edge p) (edge q)))
 
@@ -295,7 +295,7 @@ module _ (start : Start) (plan : PathPlan) (one : BeginsWithOnePath start plan) 
         stands = hears.waits is_unheard nothing tick runs level late bound
 
         nothing_later : NothingElseComes s unheard q
-        nothing_later = says_only_on start plan one turns turn h s (λ n. (n ≤ una p) ⊎ Has (λ m. m ≡ n) unheard) (λ n. (n ≤ una q) ⊎ Has (λ m. m ≡ n) unheard)
+        nothing_later = says_only_on start plan one turns turn (begun start turns turn h) s (λ n. (n ≤ una p) ⊎ Has (λ m. m ≡ n) unheard) (λ n. (n ≤ una q) ⊎ Has (λ m. m ≡ n) unheard)
             (λ n so. ⊎_elim (λ low. inl (let up = una_later in omega (arith, low, up))) (λ has. inr has) so) nothing (λ y is from rst. inr (inr is_unheard.among))
 
         ran_out : EdgeIsUnheard s unheard q → (at : ℕ) → RunsOut s at p → Goes
@@ -361,7 +361,7 @@ module _ (start : Start) (plan : PathPlan) (one : BeginsWithOnePath start plan) 
     hears_on (hears.comes n among behind by_then low told) = unless_heard n among (λ still. on (hears.comes n among still by_then low (told_stays.comes n by_then told)))
     hears_on (hears.owes n among behind low bound due) = unless_heard n among (λ still. is_owed n among still (let up = edge_later in omega (arith, low, up)) bound due)
     hears_on (hears.settles is_unheard by_then late bound heard) = unless_moved is_unheard (omega (arith, late, bound)) (λ still. on (hears.settles still by_then late bound
-        (says_only_on start plan one turns turn h s (λ n. IsToldBy s n by_then p ⊎ Has (λ m. m ≡ n) unheard) (λ n. IsToldBy s n by_then q ⊎ Has (λ m. m ≡ n) unheard)
+        (says_only_on start plan one turns turn (begun start turns turn h) s (λ n. IsToldBy s n by_then p ⊎ Has (λ m. m ≡ n) unheard) (λ n. IsToldBy s n by_then q ⊎ Has (λ m. m ≡ n) unheard)
         (λ n so. ⊎_elim (λ told. inl (told_stays.comes n by_then told)) (λ has. inr has) so) heard (λ y is from rst. inr (inr is_unheard.among)))))
     hears_on (hears.waits is_unheard nothing tick runs level late bound) = waits_on is_unheard nothing tick runs level late bound
     hears_on (hears.resends is_unheard again bound) = resends_on is_unheard again bound
@@ -401,7 +401,7 @@ module _ (start : Start) (plan : PathPlan) (one : BeginsWithOnePath start plan) 
     first_rises by_then (first_stage.waits f) up =
         let low = first_reached (end_at s p).tcp f.is_first.first f.is_first.others (is_lined_p s) f.is_first.records in let at = f.is_first.same.pos in let more = came in
         fewer_lost (without f.first.pos f.lost) (let few = f.few in let shorter_by = shorter f.first.pos f.lost f.among.at f.among.item f.among.there f.among.holds in omega (arith, few, shorter_by))
-        (past_it f.lost f.first.pos ((harms_alone_lose_records start turns turn h s).unharmed none f.lost f.well) (omega (arith, low, at, up, more)))
+        (past_it f.lost f.first.pos ((harms_alone_lose_records start turns turn (begun start turns turn h) s).unharmed none f.lost f.well) (omega (arith, low, at, up, more)))
       where
         is_lined_p : EndsAreReached p
         is_lined_p = of_before start turns turn h EndsAreReached ((each_is_reached values start turns).each 2 crew there)
@@ -415,10 +415,10 @@ module _ (start : Start) (plan : PathPlan) (one : BeginsWithOnePath start plan) 
         none_there (y ∷ rs) i r is at = cc
 
         by : (rs : List Record) → (end_at s p).tcp.send.records ≡ rs → MendsOnSo
-        by [] is = fewer_lost [] g.some ((harms_alone_lose_records start turns turn h s).unharmed none [] (λ r is_one. absurd (none_there (end_at s p).tcp.send.records is_one.at is_one.item is is_one.there)))
+        by [] is = fewer_lost [] g.some ((harms_alone_lose_records start turns turn (begun start turns turn h) s).unharmed none [] (λ r is_one. absurd (none_there (end_at s p).tcp.send.records is_one.at is_one.item is is_one.there)))
         by (r ∷ rs) is =
             let low = first_reached (end_at s p).tcp r rs (is_lined_p s) is in let more = came in
-            fewer_lost [] g.some (one_less (past_it (r.pos ∷ []) r.pos ((harms_alone_lose_records start turns turn h s).unharmed none (r.pos ∷ []) (g.mends.well r rs is)) (omega (arith, low, up, more))))
+            fewer_lost [] g.some (one_less (past_it (r.pos ∷ []) r.pos ((harms_alone_lose_records start turns turn (begun start turns turn h) s).unharmed none (r.pos ∷ []) (g.mends.well r rs is)) (omega (arith, low, up, more))))
           where
             one_less : AreWellBut s (without r.pos (r.pos ∷ [])) q → AreWellBut s [] q
             one_less well t is_one = ⊎_elim (λ so. inl so) (λ has. absurd (none_left_in has)) (well t is_one)

@@ -14,6 +14,7 @@ use Rattle.subflow_send.specs.Records.{Record, end_of}
 use Rattle.subflow_send.specs.declared.record.RecordKind.{RecordKind}
 use Rattle.subflow_send.specs.declared.record.RecordKind.TheVariants as kinds
 use Rattle.subflow_tcp.specs.State.{is_fin_passed}
+use Rattle.subflow_tcp.specs.States.{is_dead}
 use Rattle.path_core.specs.Looking.{first_sends, segment_sent}
 use Rattle.path_core.specs.State.{PathState, end_at}
 use Rattle.path_core.specs.Values.{Carried, values}
@@ -21,7 +22,7 @@ use Rattle.world_laws.specs.declared.member.Member.TheVariants.{Path}
 use Rattle.world_laws.specs.Openings.{PathPlan, Start, opened_world}
 use Rattle.world_laws.specs.RoundDone.{reached}
 use Rattle.world_laws.specs.Worlds.{Turn, WorldState, after_turn}
-use Rattle.whole_paths.specs.AsFar.{IsActorAsFar, IsPathAsFar}
+use Rattle.whole_paths.specs.AsFar.{IsActorAsFar, IsPathAsFar, stage}
 use Rattle.whole_paths.specs.Brought.{IsThere}
 use Rattle.whole_paths.specs.Copies.{IsUnderWay}
 use Rattle.whole_paths.specs.Courses.{harmed_so_far}
@@ -32,13 +33,13 @@ use Rattle.whole_paths.specs.Directions.{Owing as owing}
 use Rattle.whole_paths.specs.Finish.{IsPathAt, harms_between, harms_of, is_harmed}
 use Rattle.whole_paths.specs.Kept.{IsSameRecord}
 use Rattle.whole_paths.specs.Mapped.{IsMapped}
-use Rattle.whole_paths.specs.Mending.{IsOpenTurn, IsRecordOf, IsThereBy, IsToldBy, IsToldSoon, IsWell, LeavesRoomFor}
+use Rattle.whole_paths.specs.Mending.{IsRecordOf, IsThereBy, IsToldBy, IsToldSoon, IsWell, LeavesRoomFor, IsBegunTurn}
 use Rattle.whole_paths.specs.Mending.{IsThereBy as there_by, IsToldSoon as told_soon, IsWell as well_by}
 use Rattle.whole_paths.specs.News.{one_if}
 use Rattle.whole_paths.specs.OnePathScripts.{BeginsWithOnePath}
-use Rattle.whole_paths.specs.OpenCourses.{IsOpenAfter}
+use Rattle.whole_paths.specs.OpenCourses.{IsOpenAfter, IsNow}
 use Rattle.whole_paths.specs.PositionCounts.{CountsBytes}
-use Rattle.whole_paths.specs.Straying.{IsOpen}
+use Rattle.whole_paths.specs.Straying.{IsOpen, IsOpenFrom}
 use Rattle.whole_paths.specs.ToldStays.{ToldStays}
 use Rattle.whole_paths.specs.Unmended.{AreWellBut}
 use Rattle.whole_paths.specs.WholeMappings.{HasRecord}
@@ -53,11 +54,11 @@ use Rattle.whole_paths.proofs.Flying.{same_record}
 use Rattle.whole_paths.proofs.GoesOn.{goes_on_so}
 use Rattle.whole_paths.proofs.Losing.{harms_alone_lose_records}
 use Rattle.whole_paths.proofs.OpenCourses.{IsFirstPath, each_first}
-use Rattle.whole_paths.proofs.OpenTurns.{now, with_both}
+use Rattle.whole_paths.proofs.OpenTurns.{now, with_both, begun}
 use Rattle.whole_paths.proofs.RecordWaits.{path_is, unpassed}
 use Rattle.whole_paths.proofs.RecordsWell.{each_record_stays_well}
 use Rattle.whole_paths.proofs.Saying.{ToSend}
-use Rattle.whole_paths.proofs.SegmentRounds.{counts, if_may, of_path, unfinished}
+use Rattle.whole_paths.proofs.SegmentRounds.{counts, of_path, unfinished, if_may_so}
 use Rattle.whole_paths.proofs.ToldSoon.{SaysSoon, each_end_says_soon}
 use Rattle.whole_paths.proofs.ToldStays.{told_later, who_is_told_stays_told}
 use Rattle.whole_paths.proofs.WholeMappings.{long}
@@ -94,7 +95,7 @@ SaysOnly s Told p = (f : Flight Carried) (n : ℕ) → IsUnderWay f p → f.to �
 
 -- ---- a turn
 
-module _ (start : Start) (plan : PathPlan) (one : BeginsWithOnePath start plan) (turns : List Turn) (turn : Turn) (h : IsOpenTurn start turns turn) (s : Side) where
+module _ (start : Start) (plan : PathPlan) (one : BeginsWithOnePath start plan) (turns : List Turn) (turn : Turn) (h : IsBegunTurn start turns turn) (s : Side) where
   abbrev p : PathState Carried
   p = h.before.path
 
@@ -241,10 +242,13 @@ module _ (start : Start) (plan : PathPlan) (one : BeginsWithOnePath start plan) 
 
 module _ (start : Start) (plan : PathPlan) (one : BeginsWithOnePath start plan) (turns : List Turn) (p : PathState Carried) (here : IsPathAt 0 (reached values start turns) p) (s : Side) where
   -- past its FIN
-  pub past_is_there : IsOpen p → is_fin_passed (end_at (peer s) p).tcp ≡ true → IsAllThere s (reached values start turns)
-  past_is_there is_open past = if_may start plan one (IsAllThere s (reached values start turns)) turns p here is_open s (λ all. all) (λ may. absurd
+  pub past_is_there_so : 3 ≤ stage (end_at s p).tcp.state → is_dead (end_at s p).tcp.state ≡ false → is_fin_passed (end_at (peer s) p).tcp ≡ true → IsAllThere s (reached values start turns)
+  past_is_there_so high living past = if_may_so start plan one (IsAllThere s (reached values start turns)) turns p here s high living (λ all. all) (λ may. absurd
       (unpassed (end_at (peer s) p).tcp.fin_at (end_at (peer s) p).tcp.recv.edge
       ((of_path start plan one turns p (IsFirstPath start) here (each_first start turns one.mild.plain.size here.crew here.there)).fins s (unfinished start plan one turns p here s may)) past))
+
+  pub past_is_there : IsOpen p → is_fin_passed (end_at (peer s) p).tcp ≡ true → IsAllThere s (reached values start turns)
+  past_is_there is_open past = past_is_there_so (is_open.past s) (is_open.living s) past
 
   -- what RCV.NXT is past came
   pub passed_there : (r : Record) → end_of r ≤ (end_at (peer s) p).tcp.recv.edge → (by_then : ℕ) → IsThereBy s r by_then p
@@ -285,14 +289,17 @@ module _ (start : Start) (plan : PathPlan) (most : ℕ) (s : Side) (one : Begins
   abbrev On : ℕ → List Turn → List Turn → Type 0
   On = OwesOn start plan most (OwesAlong start s)
 
-  pub owes_then : (turns : List Turn) (turn : Turn) (debts : ℕ) → IsOpenAfter start turns → IsOpenAfter start (turns ++ turn ∷ []) → OwesAlong start s debts turns → On debts turns (turns ++ turn ∷ [])
-  owes_then turns turn debts before after h = by (subst (λ y. Owing s debts y (reached values start turns)) (path_is (reached values start turns) h.path before.path h.here before.here) h.owing)
+  pub owes_next : (turns : List Turn) (turn : Turn) (debts : ℕ) → IsBegunTurn start turns turn → OwesAlong start s debts turns → On debts turns (turns ++ turn ∷ [])
+  owes_next turns turn debts b h = by (subst (λ y. Owing s debts y (reached values start turns)) (path_is (reached values start turns) h.path before.path h.here before.here) h.owing)
     where
-      open_turn : IsOpenTurn start turns turn
-      open_turn = record { mild = one.mild; before = before; after = after }
+      before : IsNow (IsOpenFrom B) (reached values start turns)
+      before = b.before
+
+      after : IsNow (IsOpenFrom B) (reached values start (turns ++ turn ∷ []))
+      after = b.after
 
       harms_are_so : harmed_so_far values start (turns ++ turn ∷ []) ≡ harmed_so_far values start turns + (one_if (is_harmed s before.path after.path) + one_if (is_harmed (peer s) before.path after.path))
-      harms_are_so = harms_so start plan one turns turn open_turn s
+      harms_are_so = harms_so start plan one turns turn b s
 
       now_there : IsAllThere s (reached values start turns) → On debts turns (turns ++ turn ∷ [])
       now_there all = record {
@@ -306,13 +313,16 @@ module _ (start : Start) (plan : PathPlan) (most : ℕ) (s : Side) (one : Begins
       by (owing.these lost unheard x few) = by_fin (is_fin_passed (end_at (peer s) before.path).tcp) refl
         where
           by_fin : (b : Bool) → is_fin_passed (end_at (peer s) before.path).tcp ≡ b → On debts turns (turns ++ turn ∷ [])
-          by_fin true past = now_there (past_is_there start plan one turns before.path before.here s before.is_open past)
+          by_fin true past = now_there (past_is_there_so start plan one turns before.path before.here s (before.is_open.past s) (before.is_open.living s) past)
           by_fin false unpast =
-              let m = these_more start plan one turns turn open_turn s unpast lost unheard x in record {
+              let m = these_more start plan one turns turn b s unpast lost unheard x in record {
                 now = debts + (one_if (is_harmed s before.path after.path) + one_if (is_harmed (peer s) before.path after.path));
                 owes = record { path = after.path; here = after.here; owing = owing.these m.lost m.unheard m.these (let less = m.few in omega (arith, less, few)) };
                 few = omega (arith, harms_are_so);
               }
+
+  pub owes_then : (turns : List Turn) (turn : Turn) (debts : ℕ) → IsOpenAfter start turns → IsOpenAfter start (turns ++ turn ∷ []) → OwesAlong start s debts turns → On debts turns (turns ++ turn ∷ [])
+  owes_then turns turn debts before after h = owes_next turns turn debts (begun start turns turn (record { mild = one.mild; before = before; after = after })) h
 
 pub who_is_told_but_stays_so : WhoIsToldButStaysSo
 who_is_told_but_stays_so start plan turns turn one h s unpast unheard told = told_but_later start plan one turns turn h s unpast unheard told

@@ -44,6 +44,7 @@ use Rattle.whole_paths.proofs.RecordWaits.{path_is}
 use Rattle.whole_paths.proofs.RoundSteps.{early}
 use Rattle.whole_paths.proofs.ToldStays.{told_later}
 use Rattle.whole_paths.proofs.WellOctets.{all_comes_up_to_lost}
+use Rattle.whole_paths.proofs.OpenTurns.{begun}
 
 -- what comes up to a position by a tick does so by a later one
 comes_up_later : (s : Side) (last before later : ℕ) (p : PathState Carried) → before ≤ later → ComesUpTo s last before p → ComesUpTo s last later p
@@ -102,7 +103,7 @@ module _ (start : Start) (plan : PathPlan) (most : ℕ) (s : Side) (one : Begins
     in_round = let low = early start later q after.here in omega (arith, low)
 
     counted : harms later ≡ harms turns + (one_if (is_harmed s p q) + one_if (is_harmed (peer s) p q))
-    counted = harms_so start plan one turns turn open_turn s
+    counted = harms_so start plan one turns turn (begun start turns turn open_turn) s
 
     -- no segment is harmed, and the peer isn't past the FIN
     module _ (none : is_harmed s p q ≡ false) (none_back : is_harmed (peer s) p q ≡ false) (unpast : is_fin_passed (end_at (peer s) p).tcp ≡ false) where
@@ -119,7 +120,7 @@ module _ (start : Start) (plan : PathPlan) (most : ℕ) (s : Side) (one : Begins
       hears_then lost unheard these few stage = by (turned.hears_on start plan one turns turn open_turn s agree unpast none none_back x (until later) in_round lost unheard still stage)
         where
           still : OwesThese s lost unheard q
-          still = these_stay start plan one turns turn open_turn s unpast none none_back lost unheard these
+          still = these_stay start plan one turns turn (begun start turns turn open_turn) s unpast none none_back lost unheard these
 
           by : turned.Goes start plan one turns turn open_turn s agree unpast none none_back x (until later) in_round lost unheard still → On debts x turns later
           by (goes.on more) = quiet (record { path = q; here = after.here; some = some; mends = these_mend.hears lost unheard still few more })
@@ -130,7 +131,7 @@ module _ (start : Start) (plan : PathPlan) (most : ℕ) (s : Side) (one : Begins
       mends_then lost these few stage = by (turned.mends_on start plan one turns turn open_turn s agree unpast none none_back x (until later) in_round lost still stage)
         where
           still : OwesThese s lost [] q
-          still = these_stay start plan one turns turn open_turn s unpast none none_back lost [] these
+          still = these_stay start plan one turns turn (begun start turns turn open_turn) s unpast none none_back lost [] these
 
           by : turned.MendsOnSo start plan one turns turn open_turn s agree unpast none none_back x (until later) in_round lost still → On debts x turns later
           by (mends_so.goes_on_so more) = quiet (record { path = q; here = after.here; some = some; mends = these_mend.mends lost still few more })

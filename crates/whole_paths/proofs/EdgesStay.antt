@@ -70,7 +70,7 @@ use Rattle.whole_paths.specs.Delivery.{FinishedIsThere, HasFinished}
 use Rattle.whole_paths.specs.Finish.{IsPathAt}
 use Rattle.whole_paths.specs.Mild.{IsMildStart}
 use Rattle.whole_paths.specs.OpeningWaits.{IsAlive}
-use Rattle.whole_paths.proofs.ByTurns.{Becomes, Of, OfFirst, each_step}
+use Rattle.whole_paths.proofs.ByTurns.{Becomes, Of, OfFirst, each_step, then_path}
 use Rattle.whole_paths.proofs.ClearFirst.{b_is_clear_first}
 use Rattle.whole_paths.proofs.Clearing.{none_other}
 use Rattle.whole_paths.proofs.EndsUntold.{a_is_told_no_end_before}
@@ -80,6 +80,7 @@ use Rattle.whole_paths.proofs.Handshaking.{AllFar, living_before, next_far, take
 use Rattle.whole_paths.proofs.InTime.{is_event}
 use Rattle.whole_paths.proofs.OpenCourses.{IsFirstPath, each_first}
 use Rattle.whole_paths.proofs.Reached.{ack_recv, heard_recv}
+use Rattle.whole_paths.proofs.RecordWaits.{path_is}
 use Rattle.whole_paths.proofs.SendsEnds.{who_is_done_is_clear}
 use Rattle.whole_paths.proofs.Settling.{sides}
 use Rattle.whole_paths.proofs.Unpassed.{is_edge, own_holds, passed_holds}
@@ -186,7 +187,7 @@ other_edge d p q other x =
     let only : Only nothing e f = subst (λ v. Only v e f) (none_other d other) (record { same = ap (λ (v : PathView Carried). v.other) x.same }) in
     ap (λ (v : Receiving). v.edge) (unwritten false e.tcp.recv f.tcp.recv refl (ap (λ (v : EndView). v.recv) only.same))
 
-abbrev Low : PathEnd → Type 0
+abbrev pub Low : PathEnd → Type 0
 Low e = e.tcp.recv.edge ≤ 1
 
 module _ (d : Duty) (ds : List Duty) (r : Reply) (p : PathState Carried) where
@@ -329,13 +330,9 @@ unclear_at p q on B unclear = unclear_before p.b.modes.clear q.b.modes.clear on.
 pub alive_before : (p q : PathState Carried) → AllFar p q → IsAlive q → IsAlive p
 alive_before p q far alive = record { living = λ s. living_before (end_at s p) (end_at s q) (far.at s) (alive.living s) }
 
-takes_stays : (r : Reply) (p : PathState Carried) → Before p → After (takes values r p) → Stays p → Stays (takes values r p)
-takes_stays r p before after h = record {
-  low = λ alive t unclear.
-      let q : PathState Carried = takes values r p in
-      let was = unclear_at p q (takes_clear values r p) t unclear in
-      by p.agenda refl t was (after.fin alive t unclear) (h.low (alive_before p q (takes_far r p) alive) t was);
-}
+-- where it may send none before the turn
+takes_low : (r : Reply) (p : PathState Carried) → Before p → (t : Side) → (end_at t p).modes.clear ≡ false → (end_at t (takes values r p)).tcp.fin_at ≡ None → Low (end_at t p) → Low (end_at t (takes values r p))
+takes_low r p before t unclear none low = by p.agenda refl t unclear none low
   where
     there : (ds : List Duty) (t : Side) → Low (end_at t p) → Low (end_at t (with_agenda ds p))
     there ds A low = low
@@ -349,17 +346,31 @@ takes_stays r p before after h = record {
         low_then q (takes values r x) t (settled_lasts AllKeep keeps_last q.agenda q) none
         (answered_low d ds r p t (before.upright.holds before.first) is (before.upright.identity t) unclear (subst (λ es. FirstStands es p) is before.upright.passes.settled) (there (d ∷ ds) t low))
 
-next_stays : (p : PathState Carried) → After (next_round p) → Stays p → Stays (next_round p)
-next_stays p after h = record {
-  low = λ alive t unclear.
-      let q : PathState Carried = next_round p in let x : PathState Carried = record p { clock = p.until; until = p.until + 100 } in
-      let was = unclear_at p q (next_clear p) t unclear in
-      low_then x q t (begins_lasts AllKeep keeps_last x) (after.fin alive t unclear) (there t (h.low (alive_before p q (next_far p) alive) t was));
-}
+next_low : (p : PathState Carried) (t : Side) → (end_at t (next_round p)).tcp.fin_at ≡ None → Low (end_at t p) → Low (end_at t (next_round p))
+next_low p t none low = low_then x (next_round p) t (begins_lasts AllKeep keeps_last x) none (there t low)
   where
+    x : PathState Carried
+    x = record p { clock = p.until; until = p.until + 100 }
+
     there : (t : Side) → Low (end_at t p) → Low (end_at t (record p { clock = p.until; until = p.until + 100 }))
     there A low = low
     there B low = low
+
+takes_stays : (r : Reply) (p : PathState Carried) → Before p → After (takes values r p) → Stays p → Stays (takes values r p)
+takes_stays r p before after h = record {
+  low = λ alive t unclear.
+      let q : PathState Carried = takes values r p in
+      let was = unclear_at p q (takes_clear values r p) t unclear in
+      takes_low r p before t was (after.fin alive t unclear) (h.low (alive_before p q (takes_far r p) alive) t was);
+}
+
+next_stays : (p : PathState Carried) → After (next_round p) → Stays p → Stays (next_round p)
+next_stays p after h = record {
+  low = λ alive t unclear.
+      let q : PathState Carried = next_round p in
+      let was = unclear_at p q (next_clear p) t unclear in
+      next_low p t (after.fin alive t unclear) (h.low (alive_before p q (next_far p) alive) t was);
+}
 
 opened_stays : (start : Start) (number : ℕ) (plan : PathPlan) → Stays (begins_turn (waiting_path (path_begins start number plan) start.lines))
 opened_stays start number plan = record {
@@ -438,6 +449,28 @@ module _ (start : Start) (plan : PathPlan) (one : start.paths ≡ plan ∷ []) (
 
   stays_at : (turns : List Turn) (p : PathState Carried) → IsPathAt 0 (reached values start turns) p → Stays p
   stays_at turns p here = subst (Of Stays) here.is ((each_step values start Stays opened_first step_on turns).each here.crew here.there)
+
+  -- so it is by the turn by which the end may send one, too, unless the peer's FIN came
+  pub edge_then : (turns : List Turn) (turn : Turn) (p q : PathState Carried) → IsPathAt 0 (reached values start turns) p → IsPathAt 0 (reached values start (turns ++ turn ∷ [])) q → IsAlive q → (t : Side)
+      → (end_at t p).modes.clear ≡ false → (end_at t q).tcp.fin_at ≡ None → Low (end_at t q)
+  edge_then turns turn p q here there alive t unclear none =
+      let now = then_path values start turns turn p here in
+      let same = path_is (reached values start (turns ++ turn ∷ [])) now.path q now.here there in
+      subst (λ (z : PathState Carried). Low (end_at t z)) same (by now.path now.becomes (subst IsAlive (sym same) alive) (subst (λ (z : PathState Carried). (end_at t z).tcp.fin_at ≡ None) (sym same) none))
+    where
+      low : IsAlive p → Low (end_at t p)
+      low was = (stays_at turns p here).low was t unclear
+
+      before : Before p
+      before = record {
+        upright = subst MemberUpright here.is ((each_upright start turns mild.plain mild.strips).each 2 here.crew here.there);
+        first = (first turns p here).first;
+      }
+
+      by : (z : PathState Carried) → Becomes values p z → IsAlive z → (end_at t z).tcp.fin_at ≡ None → Low (end_at t z)
+      by z Becomes.stays alive still = low alive
+      by z (Becomes.takes_a_reply r) alive still = takes_low r p before t unclear still (low (alive_before p z (takes_far r p) alive))
+      by z Becomes.begins_anew alive still = next_low p t still (low (alive_before p z (next_far p) alive))
 
 pub nothing_comes_before : NothingComesBefore
 nothing_comes_before start plan turns one mild p here alive s unclear =

@@ -199,7 +199,7 @@ module _ (p : PathState Carried) (first : is_joined p.profile ≡ false) (copies
 -- what is known of it at a moment
 pub record Given (start : Start) (p : PathState Carried) : Type 0 where
   first : IsFirstPath start p
-  states : GoByTheHandshake p
+  pub states : GoByTheHandshake p
   reached : EndsAreReached p
   unbroken : IsUnbroken p
   clears : AllClear p.agenda p

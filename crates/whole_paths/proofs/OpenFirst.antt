@@ -1,5 +1,5 @@
 -- Whether path 0 is open can be told at each moment; and while it stays open debts are few.
-use Rattle.std.proofs.Common.{◌≡◌, refl, sym, subst, ap, ◌∙◌, ◌⊎◌, inl, inr, ⊎_elim, ℕ, ◌-◌, ◌^◌, ◌<◌, ◌≤◌, arith, Bool, true, false, true≢false, Option, Some, None, List, [], ◌∷◌, ◌++◌}
+use Rattle.std.proofs.Common.{◌≡◌, refl, sym, subst, ap, ◌∙◌, ◌⊎◌, inl, inr, ⊎_elim, ℕ, ◌-◌, ◌^◌, ◌<◌, ◌≤◌, arith, Bool, true, false, true≢false, Option, Some, None, is_some, List, [], ◌∷◌, ◌++◌}
 use Rattle.std.specs.List.{slice_get}
 use Rattle.std.proofs.lemmas.Bool.{cases_lt}
 use Rattle.std.proofs.lemmas.List.{append-nil, append_assoc}
@@ -22,12 +22,13 @@ use Rattle.whole_paths.specs.Directions.{OwesAlong}
 use Rattle.whole_paths.specs.Finish.{IsPathAt}
 use Rattle.whole_paths.specs.Mild.{IsMildStart, LinkIsMild}
 use Rattle.whole_paths.specs.OnePathScripts.{BeginsWithOnePath}
-use Rattle.whole_paths.specs.OpenCourses.{IsOpenAfter}
+use Rattle.whole_paths.specs.OpenCourses.{IsNow}
 use Rattle.whole_paths.specs.OpenFirst.{FewAsItOpensAreFew, OpensWithFew}
-use Rattle.whole_paths.specs.Straying.{IsOpen}
-use Rattle.whole_paths.proofs.Directions.{owes_then}
+use Rattle.whole_paths.specs.Straying.{IsOpenFrom}
+use Rattle.whole_paths.proofs.Directions.{owes_next}
 use Rattle.whole_paths.proofs.Mild.{links_are_mild}
 use Rattle.whole_paths.proofs.OpenCourses.{IsFirstPath, each_first}
+use Rattle.whole_paths.proofs.OpenTurns.{begun_now}
 use Rattle.whole_paths.proofs.RecordWaits.{path_is}
 
 -- ---- what can be told
@@ -64,11 +65,11 @@ module _ (start : Start) (mild : IsMildStart start) (turns : List Turn) where
   w = reached values start turns
 
   abbrev Opened : Type 0
-  Opened = OrNot (IsOpenAfter start turns)
+  Opened = OrNot (IsNow (IsOpenFrom B) w)
 
   of_path : (p : PathState Carried) → IsPathAt 0 w p → Opened
   of_path p here = by (of_both (λ s. 3 ≤ stage (end_at s p).tcp.state) (λ s. is_low 3 (stage (end_at s p).tcp.state))) (of_both (λ s. is_dead (end_at s p).tcp.state ≡ false) (λ s. is_false (is_dead (end_at s p).tcp.state)))
-      (of_both (λ s. (end_at s p).modes.clear ≡ true) (λ s. is_true (end_at s p).modes.clear)) (of_both (λ s. segments_sent s p.link < 2 ^ 64 - 1) (λ s. is_less (segments_sent s p.link) (2 ^ 64 - 1)))
+      (is_true p.b.modes.clear) (is_true (is_some p.a.modes.peer_key)) (of_both (λ s. segments_sent s p.link < 2 ^ 64 - 1) (λ s. is_less (segments_sent s p.link) (2 ^ 64 - 1)))
     where
       first : IsFirstPath start p
       first = subst (HoldsOfKind (λ app. Unit {0}) (IsFirstPath start)) here.is (each_first start turns mild.plain.size here.crew here.there)
@@ -76,22 +77,23 @@ module _ (start : Start) (mild : IsMildStart start) (turns : List Turn) where
       link : LinkIsMild start.lines p
       link = subst (HoldsOfKind (λ app. Unit {0}) (LinkIsMild start.lines)) here.is ((links_are_mild values start turns mild).each 2 here.crew here.there)
 
-      one : (h : IsOpenAfter start turns) → h.path ≡ p
+      one : (h : IsNow (IsOpenFrom B) w) → h.path ≡ p
       one h = path_is w h.path p h.here here
 
-      by : OrNot ((s : Side) → 3 ≤ stage (end_at s p).tcp.state) → OrNot ((s : Side) → is_dead (end_at s p).tcp.state ≡ false) → OrNot ((s : Side) → (end_at s p).modes.clear ≡ true)
+      by : OrNot ((s : Side) → 3 ≤ stage (end_at s p).tcp.state) → OrNot ((s : Side) → is_dead (end_at s p).tcp.state ≡ false) → OrNot (p.b.modes.clear ≡ true) → OrNot (is_some p.a.modes.peer_key ≡ true)
           → OrNot ((s : Side) → segments_sent s p.link < 2 ^ 64 - 1) → Opened
-      by (inl past) (inl living) (inl clear) (inl few) = inl (record {
+      by (inl past) (inl living) (inl clear) (inl keyed) (inl few) = inl (record {
         path = p;
         here = here;
-        is_open = record { first = first.first; past = past; living = living; clear = clear };
+        is_open = record { first = first.first; past = past; living = living; clear = clear; sure = clear; keyed = keyed };
         faithful = record { joined = first.first; whole = link.strips; plain = link.alters };
         few = few;
       })
-      by (inr never) living clear few = inr (λ h. never (subst IsOpen (one h) h.is_open).past)
-      by (inl past) (inr never) clear few = inr (λ h. never (subst IsOpen (one h) h.is_open).living)
-      by (inl past) (inl living) (inr never) few = inr (λ h. never (subst IsOpen (one h) h.is_open).clear)
-      by (inl past) (inl living) (inl clear) (inr never) = inr (λ h. never (subst (λ (z : PathState Carried). (s : Side) → segments_sent s z.link < 2 ^ 64 - 1) (one h) h.few))
+      by (inr never) living clear keyed few = inr (λ h. never (subst (IsOpenFrom B) (one h) h.is_open).past)
+      by (inl past) (inr never) clear keyed few = inr (λ h. never (subst (IsOpenFrom B) (one h) h.is_open).living)
+      by (inl past) (inl living) (inr never) keyed few = inr (λ h. never (subst (IsOpenFrom B) (one h) h.is_open).clear)
+      by (inl past) (inl living) (inl clear) (inr never) few = inr (λ h. never (subst (IsOpenFrom B) (one h) h.is_open).keyed)
+      by (inl past) (inl living) (inl clear) (inl keyed) (inr never) = inr (λ h. never (subst (λ (z : PathState Carried). (s : Side) → segments_sent s z.link < 2 ^ 64 - 1) (one h) h.few))
 
   pub open_or_not : Opened
   open_or_not = by (slice_get w.crew 2) refl
@@ -108,7 +110,7 @@ module _ (start : Start) (mild : IsMildStart start) (turns : List Turn) where
 
 module _ (start : Start) (plan : PathPlan) (most : ℕ) (s : Side) (one : BeginsWithOnePath start plan) (opens : OpensWithFew start plan most s) where
   abbrev Known : List Turn → Type 0
-  Known turns = IsOpenAfter start turns → OwesAtMost start plan most (OwesAlong start s) turns
+  Known turns = IsNow (IsOpenFrom B) (reached values start turns) → OwesAtMost start plan most (OwesAlong start s) turns
 
   known_first : Known []
   known_first now = opens [] (record { now = now; unopened = λ before turn is. absurd (empty before turn is) })
@@ -118,7 +120,7 @@ module _ (start : Start) (plan : PathPlan) (most : ℕ) (s : Side) (one : Begins
       empty (t ∷ ts) turn is = cc
 
   known_next : (turns : List Turn) (turn : Turn) → Known turns → Known (turns ++ turn ∷ [])
-  known_next turns turn known now = ⊎_elim going_on (λ never. opens (turns ++ turn ∷ []) (record { now = now; unopened = λ before last is was. never (subst (IsOpenAfter start) (same_start before turns last turn (sym is)) was) })) (open_or_not start one.mild turns)
+  known_next turns turn known now = ⊎_elim going_on (λ never. opens (turns ++ turn ∷ []) (record { now = now; unopened = λ before last is was. never (subst (λ ts. IsNow (IsOpenFrom B) (reached values start ts)) (same_start before turns last turn (sym is)) was) })) (open_or_not start one.mild turns)
     where
       -- the turns before the last one
       same_start : (xs ys : List Turn) (x y : Turn) → xs ++ x ∷ [] ≡ ys ++ y ∷ [] → xs ≡ ys
@@ -129,8 +131,8 @@ module _ (start : Start) (plan : PathPlan) (most : ℕ) (s : Side) (one : Begins
       same_start (a ∷ c ∷ xs) [] x y is = cc
       same_start (a ∷ xs) (b ∷ ys) x y is = (let first : a ≡ b = cc in let rest : xs ++ x ∷ [] ≡ ys ++ y ∷ [] = cc in rw (first, same_start xs ys x y rest) refl)
 
-      going_on : IsOpenAfter start turns → OwesAtMost start plan most (OwesAlong start s) (turns ++ turn ∷ [])
-      going_on was = let k = known was in let o = owes_then start plan most s one turns turn k.debts was now k.owes in record { debts = o.now; owes = o.owes; few = (let few = k.few in let more = o.few in omega (arith, few, more)) }
+      going_on : IsNow (IsOpenFrom B) (reached values start turns) → OwesAtMost start plan most (OwesAlong start s) (turns ++ turn ∷ [])
+      going_on was = let k = known was in let o = owes_next start plan most s one turns turn k.debts (record { mild = one.mild; before = was; after = now }) k.owes in record { debts = o.now; owes = o.owes; few = (let few = k.few in let more = o.few in omega (arith, few, more)) }
 
   known_on : (done more : List Turn) → Known done → Known (done ++ more)
   known_on done [] known = subst Known (sym (append-nil done)) known
@@ -140,4 +142,4 @@ module _ (start : Start) (plan : PathPlan) (most : ℕ) (s : Side) (one : Begins
   known_always turns = known_on [] turns known_first
 
 pub few_as_it_opens_are_few : FewAsItOpensAreFew
-few_as_it_opens_are_few start plan most s one opens turns = known_always start plan most s one opens turns
+few_as_it_opens_are_few start plan most s one opens turns now = known_always start plan most s one opens turns (begun_now start turns one.mild now)

@@ -1,5 +1,5 @@
 -- What is told is heard, where the windows are and each DATA_FIN comes: what the peer's side received is acknowledged in four rounds.
-use Rattle.std.proofs.Common.{◌≡◌, refl, sym, subst, ◌⊎◌, inl, inr, ⊎_elim, ℕ, ◌+◌, ◌-◌, ◌≤◌, arith, List}
+use Rattle.std.proofs.Common.{refl, ◌⊎◌, inl, inr, ⊎_elim, ◌≤◌, arith, List}
 use Rattle.sides.specs.declared.side.Side.{Side}
 use Rattle.sides.specs.Side.{peer}
 use Rattle.send_book.specs.State.{acked_len}
@@ -11,8 +11,8 @@ use Rattle.world_laws.specs.RoundDone.{reached}
 use Rattle.world_laws.specs.Worlds.{Turn, WorldState}
 use Rattle.whole_paths.specs.Delivery.{IsAllThere}
 use Rattle.whole_paths.specs.OnePathScripts.{BeginsWithOnePath}
-use Rattle.whole_paths.specs.SegmentRounds.{IsHeard, read_after}
-use Rattle.whole_paths.specs.UnitRounds.{AreToldSoon, IsAllWell, WellRounds, WhatIsToldIsHeard, WhatIsToldIsHeardSo, WindowsAndEndsAreHeard}
+use Rattle.whole_paths.specs.SegmentRounds.{IsHeard}
+use Rattle.whole_paths.specs.UnitRounds.{AreToldSoon, WellRounds, WhatIsToldIsHeardSo, WindowsAndEndsAreHeard}
 use Rattle.whole_paths.proofs.AckedData.{four_rounds_acknowledge}
 use Rattle.whole_paths.proofs.RoundSteps.{between, far}
 use Rattle.whole_paths.proofs.SegmentRounds.{stays_there}
@@ -47,9 +47,3 @@ module _ (start : Start) (plan : PathPlan) (Well : List Turn → Type 0) (x : Be
 
 pub what_is_told_is_heard_so : WhatIsToldIsHeardSo
 what_is_told_is_heard_so start plan Well x tells left = record { heard = λ s v u rounds. is_heard start plan Well x tells left s v u rounds; fins = left.fins }
-
--- and where all is well besides
-pub where_all_is_well : (start : Start) (plan : PathPlan) (Well : List Turn → Type 0) → BeginsWithOnePath start plan → ((turns : List Turn) → Well turns → IsAllWell start turns)
-    → WindowsAndEndsAreHeard start plan Well → WhatIsToldIsHeard start plan Well
-where_all_is_well start plan Well x well left =
-    what_is_told_is_heard_so start plan Well x (λ turns h s. let side = well turns h s in record { path = side.path; here = side.here; told = side.told }) left

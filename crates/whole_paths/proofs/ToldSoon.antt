@@ -9,7 +9,7 @@ use Rattle.path_segments.specs.Laws.{meant}
 use Rattle.path_segments.specs.Spelled.{PlainSegment}
 use Rattle.path_segments.specs.declared.position.HeardPosition.TheVariants.{At}
 use Rattle.sides.specs.declared.side.Side.{Side}
-use Rattle.sides.specs.declared.side.Side.TheVariants.{A}
+use Rattle.sides.specs.declared.side.Side.TheVariants.{A, B}
 use Rattle.sides.specs.Side.{peer}
 use Rattle.link_script.specs.Places.{same_side}
 use Rattle.link_model.specs.declared.flight.Flight.{Flight}
@@ -54,11 +54,11 @@ use Rattle.whole_paths.specs.Copies.{GoesOnItsWay as copy}
 use Rattle.whole_paths.specs.Finish.{is_harmed}
 use Rattle.whole_paths.specs.Hearing.{Counts, PathsCount}
 use Rattle.whole_paths.specs.LastFin.{FinIsLast}
-use Rattle.whole_paths.specs.Mending.{AnswersStay, EachAnswerComesSoon, IsAnswerFor, IsOpenTurn, IsSentSoon, IsToldBy, LeavesRoomFor}
+use Rattle.whole_paths.specs.Mending.{AnswersStay, EachAnswerComesSoon, IsAnswerFor, IsBegunTurn, IsSentSoon, IsToldBy, LeavesRoomFor}
 use Rattle.whole_paths.specs.Mending.IsToldBy.{heard, comes}
 use Rattle.whole_paths.specs.Mild.{IsMildStart, is_harsh}
 use Rattle.whole_paths.specs.News.{one_if}
-use Rattle.whole_paths.specs.OpenCourses.{IsOpenNow}
+use Rattle.whole_paths.specs.OpenCourses.{IsNow}
 use Rattle.whole_paths.specs.Owed.{IsToRefuse}
 use Rattle.whole_paths.specs.Owed.{IsToRefuse as refuse}
 use Rattle.whole_paths.specs.Saying.{HandsOver, PathsHandOver, SaysWhatCame}
@@ -80,6 +80,7 @@ use Rattle.whole_paths.proofs.Saying.{AllSpeak, Speaks, ToSend, duty_speaks, eac
 use Rattle.whole_paths.proofs.Saying.{Speaks as spoken}
 use Rattle.whole_paths.proofs.SentSoon.{numbered_so, segments_come_soon}
 use Rattle.whole_paths.proofs.SentWithin.{EndsWithin, SentWithin, all_sent_within}
+use Rattle.whole_paths.specs.Straying.{IsOpenFrom}
 
 not_opening : (state : EndPhase) → 3 ≤ stage state → is_opening state ≡ true → ⊥
 not_opening phase.SynSent high is = absurd (omega (arith, high))
@@ -105,7 +106,8 @@ pub record SaysSoon (s : Side) (p q : PathState Carried) : Type 0 where
   pub owed : LeavesRoomFor s p → (end_at (peer s) p).tcp.due.ack ≡ true → (x : ToSend) → first_sends p.agenda p ≡ Some x → x.from ≡ peer s → (segment_sent p x).rst ≡ false
       → (q ≡ p) ⊎ ((is_harmed (peer s) p q ≡ true) ⊎ IsToldBy s (end_at (peer s) p).tcp.recv.edge (p.clock + 400) q)
 
-module _ (start : Start) (mild : IsMildStart start) (turns : List Turn) (turn : Turn) (before : IsOpenNow (reached values start turns)) (after : IsOpenNow (after_turn values turn (reached values start turns))) (s : Side) where
+module _ (start : Start) (mild : IsMildStart start) (turns : List Turn) (turn : Turn) {Holds : PathState Carried → Type 0} (before : IsNow Holds (reached values start turns)) (after : IsNow Holds (after_turn values turn (reached values start turns)))
+    (open_p : IsOpenFrom B before.path) (open_q : IsOpenFrom B after.path) (s : Side) where
   abbrev w : WorldState Carried
   w = reached values start turns
 
@@ -143,7 +145,7 @@ module _ (start : Start) (mild : IsMildStart start) (turns : List Turn) (turn : 
   acks_first = holds_p start mild turns turn before after AcksGoFirst (copies_are_answered values start turns).first
 
   clears : (u : Side) → Clears u p.agenda (end_at u p)
-  clears = (subst MemberClears before.here.is ((each_clears values start turns).each 2 before.here.crew before.here.there)) before.is_open.first
+  clears = (subst MemberClears before.here.is ((each_clears values start turns).each 2 before.here.crew before.here.there)) open_p.first
 
   edge_later : (end_at s p).tcp.recv.edge ≤ (end_at s q).tcp.recv.edge
   edge_later = edge_up start mild turns turn before after s
@@ -165,7 +167,7 @@ module _ (start : Start) (mild : IsMildStart start) (turns : List Turn) (turn : 
     where
       says : (segment_sent p x).rst ≡ false → SaysWhatCame (end_at x.from p) (segment_sent p x) → (segment_sent p x).acknowledged ≡ Some (end_at t p).tcp.recv.edge
       says rst (said_so.acknowledges acks none) = acks ∙ ap (λ u. Some (end_at u p).tcp.recv.edge) from
-      says rst (said_so.opens state none) = absurd (not_opening (end_at t p).tcp.state (before.is_open.past t) (subst (λ u. is_opening (end_at u p).tcp.state ≡ true) from state))
+      says rst (said_so.opens state none) = absurd (not_opening (end_at t p).tcp.state (open_p.past t) (subst (λ u. is_opening (end_at u p).tcp.state ≡ true) from state))
       says rst (said_so.resets is) = absurd (true≢false (sym is ∙ rst))
       says rst (said_so.refuses answer some is) =
           let tells : AnswerTells answer = subst (λ (o : Option Outgoing). IfSome o AnswerTells) some (facts.tells x.from).treated.answer in absurd (true≢false (sym tells.rst ∙ sym is ∙ rst))
@@ -215,9 +217,9 @@ module _ (start : Start) (mild : IsMildStart start) (turns : List Turn) (turn : 
         acknowledged = h.up_to;
         taken = inl (
           at,
-          ap (λ j. judged_of j said.rst (items_of j listener said) (meaning_of (copy_of said) hearer.tcp) hearer) before.is_open.first
+          ap (λ j. judged_of j said.rst (items_of j listener said) (meaning_of (copy_of said) hearer.tcp) hearer) open_p.first
               ∙ ap (λ m. judged.As m) (taken_so (copy_of said) hearer.tcp at h.up_to
-              (subst (λ u. 2 ≤ stage (end_at u p).tcp.state) (sym h.to) (let past = before.is_open.past s in omega (arith, past))) (subst (λ u. is_dead (end_at u p).tcp.state ≡ false) (sym h.to) (before.is_open.living s))
+              (subst (λ u. 2 ≤ stage (end_at u p).tcp.state) (sym h.to) (let past = open_p.past s in omega (arith, past))) (subst (λ u. is_dead (end_at u p).tcp.state ≡ false) (sym h.to) (open_p.living s))
               (below_limit p facts listener) h.syn h.rst refl (ap (λ (o : Option ℕ). acknowledged_in (option_map (λ n. At n) o)) h.acknowledged) accepted some
               (subst (λ u. h.up_to ≤ (end_at u p).tcp.send.nxt) (sym h.to) (acked_sent f h.up_to here h.to h.rst h.acknowledged).1)),
         );
@@ -255,7 +257,7 @@ module _ (start : Start) (mild : IsMildStart start) (turns : List Turn) (turn : 
       words = options_heard taker over.brings.copy.segment
 
       is_meant : meaning_of (copy_of words) taker.tcp ≡ means.Taken over.brings.position over.brings.acknowledged
-      is_meant = ap taken_as (sym (ap (λ j. judged_of j words.rst (items_of j due_to words) (meaning_of (copy_of words) taker.tcp) taker) before.is_open.first) ∙ over.brings.taken)
+      is_meant = ap taken_as (sym (ap (λ j. judged_of j words.rst (items_of j due_to words) (meaning_of (copy_of words) taker.tcp) taker) open_p.first) ∙ over.brings.taken)
 
       means_it : MeansIs (copy_of words) taker.tcp (means.Taken over.brings.position over.brings.acknowledged)
       means_it = subst (MeansIs (copy_of words) taker.tcp) is_meant (means_so (copy_of words) taker.tcp)
@@ -332,9 +334,9 @@ module _ (start : Start) (mild : IsMildStart start) (turns : List Turn) (turn : 
     goes_on : GoesOnItsWay f p q → Told
     goes_on (copy.on on) = ⊎_elim (λ low. still low on) (λ over. overtaken over)
         (by_turn start mild turns turn before after (BelowTo values at) (ends_stay_below values at w turn 2 before.here.crew before.here.there) s
-        (record { recv = record { edge = h.from; kept = h.kept }; held = h.held; fin = h.heard }) (before.is_open.past s))
+        (record { recv = record { edge = h.from; kept = h.kept }; held = h.held; fin = h.heard }) (open_p.past s))
     goes_on (copy.arrives others first next) = arrives others first next
-    goes_on (copy.dies line next is dead) = absurd (both_ways (is_dead q.a.tcp.state) (after.is_open.living A) dead)
+    goes_on (copy.dies line next is dead) = absurd (both_ways (is_dead q.a.tcp.state) (open_q.living A) dead)
 
   told_on : (position tick : ℕ) → IsToldBy s position tick p → IsToldBy s position tick q
   told_on position tick (heard low) = heard (let up = una_up start mild turns turn before after s in omega (arith, low, up))
@@ -410,10 +412,10 @@ module _ (start : Start) (mild : IsMildStart start) (turns : List Turn) (turn : 
       is_taken acks rst link = ⊎_elim
           (λ low. ⊎_elim (λ harmed. inl harmed) (λ h. flies acks rst is_bare low h) (segments_come_soon values p q (numbered_so p facts.link) t sent (before.few t) link))
           (λ over. absurd (not_over over))
-          (by_turn start mild turns turn before after (BelowTo values next) (ends_stay_below values next w turn 2 before.here.crew before.here.there) s below (before.is_open.past s))
+          (by_turn start mild turns turn before after (BelowTo values next) (ends_stay_below values next w turn 2 before.here.crew before.here.there) s below (open_p.past s))
         where
           is_bare : IsBareAck p.profile t (end_at t p) (segment_sent p x)
-          is_bare = subst (λ (o : Option ToSend). IfSome o (λ y. y.from ≡ t → IsBareAck p.profile t (end_at t p) (segment_sent p y))) sends (acks_first t (before.is_open.living t) due) own
+          is_bare = subst (λ (o : Option ToSend). IfSome o (λ y. y.from ≡ t → IsBareAck p.profile t (end_at t p) (segment_sent p y))) sends (acks_first t (open_p.living t) due) own
 
       goes_soon : sent.rst ≡ false → (q ≡ p) ⊎ Heard
       goes_soon rst = ⊎_elim
@@ -424,11 +426,11 @@ module _ (start : Start) (mild : IsMildStart start) (turns : List Turn) (turn : 
 
       speaks_so : Speaks (end_at t p) sent → q.link ≡ handed values t sent p → Goes
       speaks_so (spoken.acks acks rst) link = inr (is_taken acks rst link)
-      speaks_so (spoken.syns state none) link = absurd (not_opening (end_at t p).tcp.state (before.is_open.past t) state)
+      speaks_so (spoken.syns state none) link = absurd (not_opening (end_at t p).tcp.state (open_p.past t) state)
 
       refused : IsToRefuse t p.agenda → Goes
-      refused (refuse.refuses rest is) = absurd (true≢false (sym (ap (λ ds. list_any is_harsh ds) is) ∙ (unbroken_p start mild turns turn before after).duties))
-      refused (refuse.answers rest is) = absurd (never_refuses p t clears (before.is_open.living t) rest is)
+      refused (refuse.refuses rest is) = absurd (true≢false (sym (ap (λ ds. list_any is_harsh ds) is) ∙ (unbroken_p start mild turns turn before after open_p.first).duties))
+      refused (refuse.answers rest is) = absurd (never_refuses p t clears (open_p.living t) rest is)
 
       is_sent : (d : Duty) (others : List Duty) → p.agenda ≡ d ∷ others → sends_on d ≡ true → side_of d ≡ t → Goes
       is_sent d others first on side = ⊎_elim (λ same. inl (subst (λ (y : PathState Carried). (end_at t y).tcp.due.ack ≡ true) (sym same) due)) (λ taken. by (resets_by d) refl (subst (λ u. q.link ≡ handed values u (segment_sent p x) p) own taken.0))
@@ -440,12 +442,12 @@ module _ (start : Start) (mild : IsMildStart start) (turns : List Turn) (turn : 
 
     owed_goes : StillOwed t p q → Goes
     owed_goes (owing.keeps d others first other h) = inl (h due)
-    owed_goes (owing.has_died gone) = absurd (both_ways (is_dead (end_at t q).tcp.state) (after.is_open.living t) gone)
+    owed_goes (owing.has_died gone) = absurd (both_ways (is_dead (end_at t q).tcp.state) (open_q.living t) gone)
     owed_goes (owing.is_sent d others first on side x sends own) = is_sent x sends own d others first on side
-    owed_goes (owing.is_done is) = absurd (both_ways (end_at t p).tcp.due.ack ((holds_p start mild turns turn before after HasAnswered (copies_are_answered values start turns).each is t (before.is_open.living t)).ack) due)
+    owed_goes (owing.is_done is) = absurd (both_ways (end_at t p).tcp.due.ack ((holds_p start mild turns turn before after HasAnswered (copies_are_answered values start turns).each is t (open_p.living t)).ack) due)
     owed_goes (owing.rests same) = inl (subst (λ (y : PathState Carried). (end_at t y).tcp.due.ack ≡ true) (sym same) due)
 
-  says_soon : SaysSoon s p q
+  pub says_soon : SaysSoon s p q
   says_soon = record { acks = segment_acks; owed = λ room due x sends own rst. goes_soon room due x sends own rst }
 
   answers_stay : AnswersStay s p q
@@ -453,8 +455,8 @@ module _ (start : Start) (mild : IsMildStart start) (turns : List Turn) (turn : 
 
 pub each_answer_comes_soon : EachAnswerComesSoon
 each_answer_comes_soon start turns turn h s =
-    subst (λ (u : WorldState Carried). (a : IsOpenNow u) → AnswersStay s h.before.path a.path) (sym (last start h.mild turns turn)) (λ a. answers_stay start h.mild turns turn h.before a s) h.after
+    subst (λ (u : WorldState Carried). (a : IsNow (IsOpenFrom B) u) → AnswersStay s h.before.path a.path) (sym (last start h.mild turns turn)) (λ a. answers_stay start h.mild turns turn h.before a h.before.is_open a.is_open s) h.after
 
-pub each_end_says_soon : (start : Start) (turns : List Turn) (turn : Turn) (h : IsOpenTurn start turns turn) (s : Side) → SaysSoon s h.before.path h.after.path
+pub each_end_says_soon : (start : Start) (turns : List Turn) (turn : Turn) (h : IsBegunTurn start turns turn) (s : Side) → SaysSoon s h.before.path h.after.path
 each_end_says_soon start turns turn h s =
-    subst (λ (u : WorldState Carried). (a : IsOpenNow u) → SaysSoon s h.before.path a.path) (sym (last start h.mild turns turn)) (λ a. says_soon start h.mild turns turn h.before a s) h.after
+    subst (λ (u : WorldState Carried). (a : IsNow (IsOpenFrom B) u) → SaysSoon s h.before.path a.path) (sym (last start h.mild turns turn)) (λ a. says_soon start h.mild turns turn h.before a h.before.is_open a.is_open s) h.after

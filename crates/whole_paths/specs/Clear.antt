@@ -1,5 +1,5 @@
 -- An end of a path that doesn't join may send a DSS only past the handshake: it may from the first copy on that it takes.
-use Rattle.std.specs.Prelude.{◌≡◌, ◌≤◌, ℕ, None, Some, List, [], ◌∷◌, false, true}
+use Rattle.std.specs.Prelude.{◌≡◌, ◌≤◌, ℕ, None, Some, is_some, List, [], ◌∷◌, false, true}
 use Rattle.std.specs.List.{slice_get}
 use Rattle.sides.specs.declared.side.Side.{Side}
 use Rattle.sides.specs.declared.side.Side.TheVariants.{A}
@@ -46,6 +46,11 @@ AIsToldNoEndBefore = (start : Start) (plan : PathPlan) (turns : List Turn) → s
 abbrev pub BIsClearFirst : Type 0
 BIsClearFirst = (start : Start) (plan : PathPlan) (turns : List Turn) → start.paths ≡ plan ∷ [] → IsMildStart start → (p : PathState Carried) → IsPathAt 0 (reached values start turns) p
     → p.a.modes.clear ≡ true → p.b.modes.clear ≡ true
+
+-- And where B's may A's is past the handshake, and knows B's key, as long as no end is dead, on path 0 of a mild connection.
+abbrev pub AHasTheKeyFirst : Type 0
+AHasTheKeyFirst = (start : Start) (turns : List Turn) → IsMildStart start → (p : PathState Carried) → IsPathAt 0 (reached values start turns) p
+    → IsAlive p → p.b.modes.clear ≡ true → (3 ≤ stage p.a.tcp.state) × (is_some p.a.modes.peer_key ≡ true)
 
 -- and until B's may it sent nothing behind its SYN
 abbrev pub BSendsNothingBefore : Type 0

@@ -86,17 +86,29 @@ pub record MendsAlong (start : Start) (s : Side) (debts x : ℕ) (turns : List T
 
 -- ---- what is left to be shown of its numbers
 
--- At each moment at which path 0 is open, unless all of the side's stream is with the peer: no more is acknowledged by Data ACKs than SND.UNA is
--- past, and where the turn is over no less; and RCV.NXT of the peer lies inside no record of data.
+-- At each moment at which path 0 is open RCV.NXT of the peer lies inside no record of data of the side's.
+abbrev pub ArePassedWhole : Start → Side → Type 0
+ArePassedWhole start s = (turns : List Turn) (h : IsOpenAfter start turns) (r : Record) → IsRecordOf (end_at s h.path) r → r.kind ≡ Data
+    → ((end_at (peer s) h.path).tcp.recv.edge ≤ r.pos) ⊎ (end_of r ≤ (end_at (peer s) h.path).tcp.recv.edge)
+
+-- And then, unless all of the side's stream is with the peer, no more is acknowledged by Data ACKs than SND.UNA is past, and where the turn is over
+-- no less.
 pub record NumbersAgree (start : Start) (s : Side) : Type 0 where
   pub below : (turns : List Turn) (h : IsOpenAfter start turns) → IsAllThere s (reached values start turns)
       ⊎ ((end_at s h.path).sending.heard < (end_at s h.path).tcp.send.una)
   pub level : (turns : List Turn) (h : IsOpenAfter start turns) → h.path.agenda ≡ [] → IsAllThere s (reached values start turns)
       ⊎ ((end_at s h.path).tcp.send.una ≤ suc (end_at s h.path).sending.heard)
-  pub whole : (turns : List Turn) (h : IsOpenAfter start turns) (r : Record) → IsRecordOf (end_at s h.path) r → r.kind ≡ Data
-      → ((end_at (peer s) h.path).tcp.recv.edge ≤ r.pos) ⊎ (end_of r ≤ (end_at (peer s) h.path).tcp.recv.edge)
+  pub whole : ArePassedWhole start s
 
--- Where they do, and there are no more debts than harms at each open moment, debts along a direction are mended.
+-- So it is over one path, where records are passed whole.
+abbrev pub NumbersAgreeSo : Type 0
+NumbersAgreeSo = (start : Start) (plan : PathPlan) (s : Side) → BeginsWithOnePath start plan → ArePassedWhole start s → NumbersAgree start s
+
+-- with checksums always
+abbrev pub CheckedNumbersAgree : Type 0
+CheckedNumbersAgree = (start : Start) (plan : PathPlan) (s : Side) → BeginsWithOnePath start plan → start.checksums ≡ true → NumbersAgree start s
+
+-- Where numbers agree, and there are no more debts than harms at each open moment, debts along a direction are mended.
 abbrev pub DirectionsAreMended : Type 0
 DirectionsAreMended = (start : Start) (plan : PathPlan) (most : ℕ) (s : Side) → BeginsWithOnePath start plan → NumbersAgree start s
     → ((turns : List Turn) → IsOpenAfter start turns → OwesAtMost start plan most (OwesAlong start s) turns)

@@ -14,7 +14,7 @@ use Rattle.whole_paths.specs.Copies.{IsUnderWay}
 use Rattle.whole_paths.specs.Debts.{Beginning, OwesOn, Stepping}
 use Rattle.whole_paths.specs.Delivery.{IsAllThere}
 use Rattle.whole_paths.specs.Finish.{IsPathAt, is_harmed}
-use Rattle.whole_paths.specs.Mending.{IsOpenTurn, IsToldBy, IsToldSoon, IsWell}
+use Rattle.whole_paths.specs.Mending.{IsToldBy, IsToldSoon, IsWell, IsBegunTurn}
 use Rattle.whole_paths.specs.OnePathScripts.{BeginsWithOnePath}
 use Rattle.whole_paths.specs.Unmended.{AreWellBut}
 
@@ -40,7 +40,7 @@ ToldButStays s p q = is_fin_passed (end_at (peer s) p).tcp ≡ false → (unhear
 -- by each turn of a mild connection over one path between open ends
 abbrev pub WhoIsToldButStaysSo : Type 0
 WhoIsToldButStaysSo = (start : Start) (plan : PathPlan) (turns : List Turn) (turn : Turn) → BeginsWithOnePath start plan
-    → (h : IsOpenTurn start turns turn) (s : Side) → ToldButStays s h.before.path h.after.path
+    → (h : IsBegunTurn start turns turn) (s : Side) → ToldButStays s h.before.path h.after.path
 
 -- ---- debts
 

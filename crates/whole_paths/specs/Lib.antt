@@ -12,6 +12,7 @@ pub mod AwaitedThere
 pub mod Brought
 pub mod Came
 pub mod Clear
+pub mod ClearMeets
 pub mod ClearRounds
 pub mod Closing
 pub mod ClosingAsked
@@ -36,7 +37,6 @@ pub mod ExpiriesInARow
 pub mod Deaths
 pub mod ExpirySegments
 pub mod AnsweredExpiries
-pub mod FewLossesDeliver
 pub mod HeardBelow
 pub mod HeardSaid
 pub mod KeptAddresses
@@ -106,6 +106,10 @@ pub mod WindowRoom
 pub mod WindowWaits
 pub mod WindowsHeard
 pub mod WideWindows
+pub mod BareSegments
+pub mod FinsComing
+pub mod OneDebt
+pub mod WindowsComing
 pub mod Writers
 pub mod EndedStreams
 pub mod Ends
@@ -138,9 +142,14 @@ pub mod FirstSigns
 pub mod SignWaits
 pub mod OpeningCourses
 pub mod UnaSaid
+pub mod EdgeRises
+pub mod ExpiryMeanings
 pub mod DebtKinds
 pub mod Directions
 pub mod DirectionWaits
 pub mod CutRecords
 pub mod OpenFirst
 pub mod SharpPaths
+pub mod SynsSoon
+pub mod FirstPiecesSoon
+pub mod AnswersSoon

@@ -17,17 +17,29 @@
 //! one path all is acknowledged then that was written as the round began (`what_was_written_is_acknowledged`).
 //!
 //! Over one path that stays whole, or whose ends don't die early, all this ends: both files are delivered (`whole_paths_deliver`). So it is from the
-//! beginning of the connection (`one_path_ends`).
+//! beginning of the connection (`one_path_ends`), and four harmed segments let no end die early (`few_losses_finish`).
 #![tactic(auto)]
 
 mod debt_laws;
 mod delivery_laws;
+mod expiry_laws;
 mod laws;
+mod opening_laws;
 
 pub use debt_laws::checked_records_are_passed_whole;
+pub use debt_laws::debts_go_on;
 pub use debt_laws::directions_are_mended;
 pub use debt_laws::directions_go_on;
 pub use debt_laws::few_as_it_opens_are_few;
+pub use debt_laws::fin_debts_go_on;
+pub use debt_laws::harms_alone_are_owed;
+pub use debt_laws::lost_records_are_awaited;
+pub use debt_laws::lost_records_are_first;
+pub use debt_laws::lost_records_are_mended;
+pub use debt_laws::numbers_agree;
+pub use debt_laws::what_is_reached_is_first;
+pub use debt_laws::what_runs_out_is_mended;
+pub use debt_laws::who_is_past_met_a;
 pub use delivery_laws::a_segment_is_read;
 pub use delivery_laws::a_unit_is_made;
 pub use delivery_laws::all_comes_up_to_lost;
@@ -35,27 +47,21 @@ pub use delivery_laws::an_end_is_told;
 pub use delivery_laws::answers_are_awaited_always;
 pub use delivery_laws::b_is_clear_first;
 pub use delivery_laws::b_is_idle_before;
-pub use delivery_laws::debts_go_on;
+pub use delivery_laws::bare_segments_are_taken;
+pub use delivery_laws::data_fins_come_soon;
 pub use delivery_laws::each_answer_comes_soon;
 pub use delivery_laws::each_first_sign_comes;
 pub use delivery_laws::each_record_stays_well;
 pub use delivery_laws::each_round_writes_and_reads;
 pub use delivery_laws::each_window_has_room;
 pub use delivery_laws::fins_are_last;
-pub use delivery_laws::first_addresses_stay;
 pub use delivery_laws::first_records_are_passed;
 pub use delivery_laws::first_signs_are_awaited;
 pub use delivery_laws::four_rounds_clear;
-pub use delivery_laws::harmless_ends_die_of_expiries;
-pub use delivery_laws::harms_alone_are_owed;
 pub use delivery_laws::harms_alone_lose_records;
 pub use delivery_laws::harms_use_lines;
 pub use delivery_laws::heard_lies_below;
 pub use delivery_laws::lossy_lanes_finish;
-pub use delivery_laws::lost_records_are_awaited;
-pub use delivery_laws::lost_records_are_first;
-pub use delivery_laws::lost_records_are_mended;
-pub use delivery_laws::mild_ends_die_of_expiries;
 pub use delivery_laws::mild_links_change_nothing;
 pub use delivery_laws::mild_paths_are_never_stopped;
 pub use delivery_laws::mild_scripts_end_as_they_begin;
@@ -93,11 +99,9 @@ pub use delivery_laws::what_is_heard_was_said;
 pub use delivery_laws::what_is_left_is_data;
 pub use delivery_laws::what_is_outstanding_is_awaited;
 pub use delivery_laws::what_is_owed_goes;
-pub use delivery_laws::what_is_reached_is_first;
 pub use delivery_laws::what_is_there_is_delivered;
 pub use delivery_laws::what_is_unsent_waits_for_room;
 pub use delivery_laws::what_rises_is_owed;
-pub use delivery_laws::what_runs_out_is_mended;
 pub use delivery_laws::who_halts_goes_on_halting;
 pub use delivery_laws::who_is_told_has_all;
 pub use delivery_laws::who_is_told_stays_told;
@@ -107,6 +111,12 @@ pub use delivery_laws::whole_paths_stay_whole;
 pub use delivery_laws::whole_records_are_passed;
 pub use delivery_laws::wide_windows_stay;
 pub use delivery_laws::windows_are_awaited_always;
+pub use delivery_laws::windows_come_soon;
+pub use expiry_laws::each_rise_ends_the_row;
+pub use expiry_laws::few_losses_finish;
+pub use expiry_laws::first_addresses_stay;
+pub use expiry_laws::harmless_ends_die_of_expiries;
+pub use expiry_laws::mild_ends_die_of_expiries;
 pub use laws::a_copy_leaves_by_arriving;
 pub use laws::clear_ends_are_past;
 pub use laws::copies_arrive_as_sent;
@@ -179,3 +189,7 @@ pub use laws::who_heard_the_end_knows_it;
 pub use laws::who_is_done_may_ask;
 pub use laws::who_waits_has_a_timer;
 pub use laws::writers_go_on;
+pub use opening_laws::a_has_the_key_first;
+pub use opening_laws::each_first_piece_comes_soon;
+pub use opening_laws::each_syn_ack_is_answered_soon;
+pub use opening_laws::each_syn_comes_soon;
