@@ -238,6 +238,7 @@ pub mod DataFinsClear
 pub mod ExpiryMeanings
 pub mod ExpiryResends
 pub mod ExpiryAnswers
+pub mod FewLines
 pub mod Signless
 pub mod ClearFirst
 pub mod EdgesStay
@@ -258,4 +259,3 @@ pub mod SynsSoon
 pub mod FirstPiecesSoon
 pub mod AnswersSoon
 pub mod KeyedFirst
-pub mod ClearMeets

@@ -1,38 +1,36 @@
 -- Path 0 opens by the turn by which B's end may send a DSS first: where it might before, A's end was past the handshake, and knew B's key.
-use Rattle.std.proofs.Common.{◌≡◌, refl, sym, subst, ap, ◌∙◌, ◌⊎◌, inl, inr, ⊎_elim, ℕ, ◌-◌, ◌^◌, ◌<◌, ◌≤◌, arith, Bool, true, false, List, [], ◌∷◌, ◌++◌}
+use Rattle.std.proofs.Common.{◌≡◌, refl, sym, subst, ap, ◌≤◌, arith, Bool, true, false, is_some, List, [], ◌∷◌, ◌++◌}
 use Rattle.std.proofs.lemmas.Bool.{both_ways}
-use Rattle.sides.specs.declared.side.Side.{Side}
 use Rattle.sides.specs.declared.side.Side.TheVariants.{A, B}
-use Rattle.link_model.specs.Steps.{segments_sent}
 use Rattle.subflow_tcp.specs.States.{is_dead}
 use Rattle.path_core.specs.Start.{waiting_path}
 use Rattle.path_core.specs.State.{PathState, end_at}
 use Rattle.path_core.specs.Steps.{begins_turn}
 use Rattle.path_core.specs.Values.{Carried, values}
-use Rattle.world_laws.specs.Members.{HoldsOfKind}
 use Rattle.world_laws.specs.Openings.{PathPlan, Start, path_begins}
 use Rattle.world_laws.specs.RoundDone.{reached}
 use Rattle.world_laws.specs.Worlds.{Turn}
 use Rattle.whole_paths.specs.AsFar.{stage}
 use Rattle.whole_paths.specs.Clear.{IsPastIfClear}
-use Rattle.whole_paths.specs.ClearMeets.{AIsMet, PathsOpenByClearing}
 use Rattle.whole_paths.specs.Finish.{IsPathAt}
 use Rattle.whole_paths.specs.Mild.{LinkIsMild}
 use Rattle.whole_paths.specs.OnePathScripts.{BeginsWithOnePath}
 use Rattle.whole_paths.specs.OpenCourses.{IsNow}
-use Rattle.whole_paths.specs.OpenFirst.{HasJustOpened, OpensByClearing}
+use Rattle.whole_paths.specs.OpenFirst.{HasJustOpened, OpensByClearing, PathsOpenByClearing}
 use Rattle.whole_paths.specs.OpeningWaits.{IsAlive}
 use Rattle.whole_paths.specs.Straying.{IsOpenFrom}
 use Rattle.whole_paths.proofs.AckedData as moment
 use Rattle.whole_paths.proofs.ByTurns.{Becomes, path_before, then_path}
-use Rattle.whole_paths.proofs.ClearMeets.{becomes_far, who_is_past_met_a}
 use Rattle.whole_paths.proofs.Clearing.{clear_ends_are_past}
 use Rattle.whole_paths.proofs.EdgesStay.{alive_before}
+use Rattle.whole_paths.proofs.Handshaking.{AllFar, next_far, takes_far}
+use Rattle.whole_paths.proofs.KeyedFirst.{a_has_the_key_first}
 use Rattle.whole_paths.proofs.Mild.{links_are_mild}
 use Rattle.whole_paths.proofs.OpenCourses.{IsFirstPath, few_links, each_first, next_later, takes_later}
 use Rattle.whole_paths.proofs.RecordWaits.{path_is}
 use Rattle.whole_paths.proofs.Rising.{begins_dead}
 use Rattle.whole_paths.proofs.SegmentRounds.{of_path}
+use Rattle.whole_paths.proofs.Waiting.{same_far}
 
 -- ---- the last turn
 
@@ -49,6 +47,11 @@ parted (t ∷ ts) = by (parted ts)
     by (last before turn is) = last (t ∷ before) turn (ap (λ us. t ∷ us) is)
 
 -- ---- a turn
+
+becomes_far : (p q : PathState Carried) → Becomes values p q → AllFar p q
+becomes_far p q Becomes.stays = record { at = λ s. same_far (end_at s p) }
+becomes_far p q (Becomes.takes_a_reply r) = takes_far r p
+becomes_far p q Becomes.begins_anew = next_far p
 
 becomes_fewer : (p q : PathState Carried) → Becomes values p q → few_links p.link q.link
 becomes_fewer p q Becomes.stays = λ s few. few
@@ -97,11 +100,11 @@ module _ (start : Start) (plan : PathPlan) (one : BeginsWithOnePath start plan) 
           here = before.1;
           is_open = record {
             first = first.first;
-            past = elim [ A ↦ met.past | B ↦ past_b ];
+            past = elim [ A ↦ met.0 | B ↦ past_b ];
             living = alive.living;
             clear = clear;
             sure = clear;
-            keyed = met.keyed;
+            keyed = met.1;
           };
           faithful = record { joined = first.first; whole = link.strips; plain = link.alters };
           few = λ s. becomes_fewer before.0 h.now.path becomes s (h.now.few s);
@@ -110,8 +113,8 @@ module _ (start : Start) (plan : PathPlan) (one : BeginsWithOnePath start plan) 
             past_b : 3 ≤ stage before.0.b.tcp.state
             past_b = (of_path start plan one turns before.0 IsPastIfClear before.1 (clear_ends_are_past values start turns 2 before.1.crew before.1.there)) first.first B clear
 
-            met : AIsMet before.0
-            met = who_is_past_met_a start plan turns one.one one.mild before.0 before.1 alive past_b
+            met : (3 ≤ stage before.0.a.tcp.state) × (is_some before.0.a.modes.peer_key ≡ true)
+            met = a_has_the_key_first start turns one.mild before.0 before.1 alive clear
 
     opens_so : OpensByClearing start (turns ++ turn ∷ [])
     opens_so = record { before = turns; turn = turn; is = refl; path = before.0; here = before.1; unclear = unclear }

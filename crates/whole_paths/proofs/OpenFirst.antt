@@ -17,13 +17,14 @@ use Rattle.world_laws.specs.Openings.{PathPlan, Start}
 use Rattle.world_laws.specs.RoundDone.{reached}
 use Rattle.world_laws.specs.Worlds.{Turn, WorldState}
 use Rattle.whole_paths.specs.AsFar.{stage}
-use Rattle.whole_paths.specs.Debts.{OwesAtMost}
+use Rattle.whole_paths.specs.Debts.{OwesAtMost, OwesOn}
 use Rattle.whole_paths.specs.Directions.{OwesAlong}
 use Rattle.whole_paths.specs.Finish.{IsPathAt}
 use Rattle.whole_paths.specs.Mild.{IsMildStart, LinkIsMild}
 use Rattle.whole_paths.specs.OnePathScripts.{BeginsWithOnePath}
 use Rattle.whole_paths.specs.OpenCourses.{IsNow}
-use Rattle.whole_paths.specs.OpenFirst.{FewAsItOpensAreFew, OpensWithFew}
+use Rattle.whole_paths.specs.Mending.{IsBegunTurn}
+use Rattle.whole_paths.specs.OpenFirst.{FewAsItOpensAreFew, HasJustOpened}
 use Rattle.whole_paths.specs.Straying.{IsOpenFrom}
 use Rattle.whole_paths.proofs.Directions.{owes_next}
 use Rattle.whole_paths.proofs.Mild.{links_are_mild}
@@ -108,9 +109,12 @@ module _ (start : Start) (mild : IsMildStart start) (turns : List Turn) where
 
 -- ---- along the turns
 
-module _ (start : Start) (plan : PathPlan) (most : ℕ) (s : Side) (one : BeginsWithOnePath start plan) (opens : OpensWithFew start plan most s) where
+-- debts of any kind that go on from when B's end may send a DSS are few, where they are as the path opens
+module _ (start : Start) (plan : PathPlan) (most : ℕ) (one : BeginsWithOnePath start plan) (Owes : ℕ → List Turn → Type 0)
+    (goes_on : (turns : List Turn) (turn : Turn) (debts : ℕ) → IsBegunTurn start turns turn → Owes debts turns → OwesOn start plan most Owes debts turns (turns ++ turn ∷ []))
+    (opens : (turns : List Turn) → HasJustOpened start turns → OwesAtMost start plan most Owes turns) where
   abbrev Known : List Turn → Type 0
-  Known turns = IsNow (IsOpenFrom B) (reached values start turns) → OwesAtMost start plan most (OwesAlong start s) turns
+  Known turns = IsNow (IsOpenFrom B) (reached values start turns) → OwesAtMost start plan most Owes turns
 
   known_first : Known []
   known_first now = opens [] (record { now = now; unopened = λ before turn is. absurd (empty before turn is) })
@@ -131,8 +135,8 @@ module _ (start : Start) (plan : PathPlan) (most : ℕ) (s : Side) (one : Begins
       same_start (a ∷ c ∷ xs) [] x y is = cc
       same_start (a ∷ xs) (b ∷ ys) x y is = (let first : a ≡ b = cc in let rest : xs ++ x ∷ [] ≡ ys ++ y ∷ [] = cc in rw (first, same_start xs ys x y rest) refl)
 
-      going_on : IsNow (IsOpenFrom B) (reached values start turns) → OwesAtMost start plan most (OwesAlong start s) (turns ++ turn ∷ [])
-      going_on was = let k = known was in let o = owes_next start plan most s one turns turn k.debts (record { mild = one.mild; before = was; after = now }) k.owes in record { debts = o.now; owes = o.owes; few = (let few = k.few in let more = o.few in omega (arith, few, more)) }
+      going_on : IsNow (IsOpenFrom B) (reached values start turns) → OwesAtMost start plan most Owes (turns ++ turn ∷ [])
+      going_on was = let k = known was in let o = goes_on turns turn k.debts (record { mild = one.mild; before = was; after = now }) k.owes in record { debts = o.now; owes = o.owes; few = (let few = k.few in let more = o.few in omega (arith, few, more)) }
 
   known_on : (done more : List Turn) → Known done → Known (done ++ more)
   known_on done [] known = subst Known (sym (append-nil done)) known
@@ -142,4 +146,5 @@ module _ (start : Start) (plan : PathPlan) (most : ℕ) (s : Side) (one : Begins
   known_always turns = known_on [] turns known_first
 
 pub few_as_it_opens_are_few : FewAsItOpensAreFew
-few_as_it_opens_are_few start plan most s one opens turns now = known_always start plan most s one opens turns (begun_now start turns one.mild now)
+few_as_it_opens_are_few start plan most s one opens turns now = known_always start plan most one (OwesAlong start s)
+    (λ turns turn debts begun owes. owes_next start plan most s one turns turn debts begun owes) opens turns (begun_now start turns one.mild now)

@@ -211,6 +211,14 @@ module _ {C : Type 0} (k : Codec C) where
   abbrev pub BriefLossesFinish : Patience → Type 0
   BriefLossesFinish = FewLossesFinishWhere IsBrief
 
+  -- With at most four lines that lose or delay a segment, and none that speaks of a whole direction, they are delivered: but for the turns this is said
+  -- of the script's text alone.
+  abbrev pub BriefFewLinesFinish : Patience → Type 0
+  BriefFewLinesFinish enough = (script : Script) (path : PathLine) (file_a file_b : List ℕ) (turns : List Turn) → IsMild script path file_a file_b → IsBrief script turns
+      → list_all is_harmless_to_ends script.lines ≡ true → list_all (λ line. not (is_on_direction line)) script.lines ≡ true → harms_to 0 script ≤ 4
+      → AreLawful k turns (opened script file_a file_b) → enough script path file_a file_b (harms_to 0 script) ≤ rounds_in turns
+      → outcome_of (run_of script file_a file_b turns).crew ≡ Delivered
+
 -- where no line speaks of a direction, each segment that is harmed uses a line
 abbrev pub HarmsUseLines : Type 0
 HarmsUseLines = (script : Script) (file_a file_b : List ℕ) (number : ℕ) (turns : List Turn) → HasRanges script

@@ -12,7 +12,6 @@ pub mod AwaitedThere
 pub mod Brought
 pub mod Came
 pub mod Clear
-pub mod ClearMeets
 pub mod ClearRounds
 pub mod Closing
 pub mod ClosingAsked

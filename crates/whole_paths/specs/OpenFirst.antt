@@ -52,6 +52,11 @@ pub record OpensByClearing (start : Start) (turns : List Turn) : Type 0 where
   pub here : IsPathAt 0 (reached values start before) path
   pub unclear : path.b.modes.clear ≡ false
 
+-- as the path opens
+abbrev pub PathsOpenByClearing : Type 0
+PathsOpenByClearing = (start : Start) (plan : PathPlan) (turns : List Turn) → BeginsWithOnePath start plan → HasJustOpened start turns
+    → OpensByClearing start turns
+
 -- no more of A's records may be lost then than segments were harmed
 pub record OpensWithFewLost (start : Start) (turns : List Turn) (h : HasJustOpened start turns) : Type 0 where
   pub lost : List ℕ

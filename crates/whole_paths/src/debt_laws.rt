@@ -1,9 +1,8 @@
 //! What is to be mended of a connection over one path, and how it is, as clauses of functions that do nothing.
-ghost use Rattle.whole_paths.specs.ClearMeets.{PathsOpenByClearing, WhoIsPastMetA};
 ghost use Rattle.whole_paths.specs.CutRecords.{CheckedRecordsArePassedWhole};
 ghost use Rattle.whole_paths.specs.DirectionWaits.{CheckedNumbersAgree, DirectionsAreMended, NumbersAgreeSo};
-ghost use Rattle.whole_paths.specs.OneDebt.{FinDebtsGoOn};
-ghost use Rattle.whole_paths.specs.OpenFirst.{AOwesRecordsFirst, BOwesNoneFirst, FewAsItOpensAreFew, OpensWithFewSo};
+ghost use Rattle.whole_paths.specs.OneDebt.{FinDebtsAreKnown, FinDebtsGoOn};
+ghost use Rattle.whole_paths.specs.OpenFirst.{AOwesRecordsFirst, BOwesNoneFirst, FewAsItOpensAreFew, OpensWithFewSo, PathsOpenByClearing};
 ghost use Rattle.whole_paths.specs.Directions.{DirectionsGoOn, WhatOwesNoneIsWell, WhoIsToldButStaysSo};
 ghost use Rattle.whole_paths.specs.FirstLost.{LostRecordsAreAwaited, LostRecordsAreMended};
 ghost use Rattle.whole_paths.specs.Mends.{WhatRunsOutIsMended};
@@ -49,19 +48,19 @@ pub fn directions_are_mended()
     ensures { DirectionsAreMended }
 {}
 
-/// A law: B's end of the only path of a mild connection is past the handshake only where A's is, and knows B's key (RFC 8684, section 3.1; `met`).
+/// A law: the only path of a mild connection opens by the turn by which B's end may send a DSS first (RFC 8684, section 3.1).
 ///
-/// So the path opens by the turn by which B's end may send a DSS first (`opens`).
-pub fn who_is_past_met_a()
-    ensures met { WhoIsPastMetA }
-    ensures opens { PathsOpenByClearing }
+/// It is open in one direction once both ends are past the handshake, and B's may send one: then A's end is past it, and knows B's key
+/// (`a_has_the_key_first`).
+pub fn paths_open_by_clearing()
+    ensures { PathsOpenByClearing }
 {}
 
 /// A law: along a direction there are no more debts than harmed segments at any open moment of the only path of a mild connection, where there are no
 /// more as B's end may send a DSS first (RFC 8684, section 3.1; `opens`).
 ///
-/// In B's direction there are none by the turn by which B's end may send one first (`b`): it sent nothing behind its SYN. And in A's there are as many
-/// as records may be lost (`a`): nothing came to B behind A's SYN. So there are few as the path opens, where few of A's records may be lost then
+/// In B's direction there are none by the turn by which B's end may send one first (`b`): it sent nothing behind its SYN. In A's there are as many as
+/// records may be lost (`a`): nothing came to B behind A's SYN. So there are few as the path opens, where few of A's records may be lost then
 /// (`first`).
 pub fn few_as_it_opens_are_few()
     ensures opens { FewAsItOpensAreFew }
@@ -73,9 +72,11 @@ pub fn few_as_it_opens_are_few()
 /// A law: a DATA_FIN that isn't told within 400 ticks is a debt of one harmed segment at most, over one path of a mild connection (RFC 8684,
 /// section 3.3.3).
 ///
-/// Where it isn't owed the DATA_FIN wasn't sent yet, or the peer heard it, or it comes within 400 ticks, or more was sent behind it.
+/// Where it isn't owed the DATA_FIN wasn't sent yet, or the peer heard it, or it comes within 400 ticks, or more was sent behind it. There are no more
+/// such debts than harmed segments at any open moment, where none is owed as the path opens (`known`).
 pub fn fin_debts_go_on()
-    ensures { FinDebtsGoOn }
+    ensures goes_on { FinDebtsGoOn }
+    ensures known { FinDebtsAreKnown }
 {}
 
 /// A law: between open ends of the only path of a mild connection no more is to be mended of what a side sends, but for one if a segment of it is

@@ -2,7 +2,7 @@
 ghost use Rattle.path_core.specs.Octets.{octets};
 ghost use Rattle.path_core.specs.Values.{values};
 ghost use Rattle.whole_paths.specs.EdgeRises.{EachRiseEndsTheRow, EdgesWaitForTheHandshake};
-ghost use Rattle.whole_paths.specs.Finish.{BriefLossesEndNone, BriefLossesFinish};
+ghost use Rattle.whole_paths.specs.Finish.{BriefFewLinesFinish, BriefLossesEndNone, BriefLossesFinish};
 ghost use Rattle.whole_paths.specs.KeptAddresses.{FirstAddressesStay, HarmlessEndsDieOfExpiries};
 ghost use Rattle.whole_paths.specs.MildDeaths.{MildEndsDieOfExpiries};
 ghost use Rattle.whole_paths.specs.OpeningCourses.{opening_patience};
@@ -42,9 +42,13 @@ pub fn each_rise_ends_the_row()
 /// than 2^64 - 1 turns. A segment is harmed where it is lost, or comes later than 400 ticks. The sixth expiry in a row ends an end; each of the five
 /// before it, but for the last one, stands for a harmed segment, since what the end sends again is answered within 800 ticks, and its timer waits
 /// for 1,000 at least (RFC 6298, section 2). Rounds enough are as many as in `one_path_ends`, for the segments that are harmed.
+/// So it is of scripts with four lines at most that lose or delay a segment, and none that speaks of a whole direction (`lines_octets`,
+/// `lines_values`).
 pub fn few_losses_finish()
     ensures none_octets { BriefLossesEndNone octets }
     ensures none_values { BriefLossesEndNone values }
+    ensures lines_octets { BriefFewLinesFinish octets opening_patience }
+    ensures lines_values { BriefFewLinesFinish values opening_patience }
     ensures octets { BriefLossesFinish octets opening_patience }
     ensures values { BriefLossesFinish values opening_patience }
 {}
