@@ -250,7 +250,7 @@ module _ (start : Start) (mild : IsMildStart start) (before : List Turn) (whole 
 
 module _ (start : Start) (mild : IsMildStart start) (before more : List Turn) (whole : IsWhole 0 (reached values start before))
     (last : IsWhole 0 (reached values start (before ++ more))) (few : (s : Side) → segments_sent s last.path.link < 2 ^ 64 - 1) where
-  holds_along : (ts us : List Turn) → ts ++ us ≡ more → IsOpenAfter start (before ++ ts)
+  pub holds_along : (ts us : List Turn) → ts ++ us ≡ more → IsOpenAfter start (before ++ ts)
   holds_along ts us is =
       subst IsOpenNow (sym (run_append values before ts (opened_world start)))
       (holds_now start mild before whole ts us
