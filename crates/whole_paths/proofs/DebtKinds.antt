@@ -17,10 +17,10 @@ use Rattle.whole_paths.proofs.Counts.{counted_up}
 
 module _ (start : Start) (plan : PathPlan) (most within : ℕ) (count : List Turn → ℕ) (mild : IsMildStart start)
     (harms : CountsAsMuch start (harmed_so_far values start) count) where
-  step_up : (v u : List Turn) → TakesAStep values start (IsOpenAfter start) most v u → count v ≤ count u
+  pub step_up : (v u : List Turn) → TakesAStep values start (IsOpenAfter start) most v u → count v ≤ count u
   step_up v u step = counted_up start mild v u (Turn.Step step.actor) step.is step.before step.after count harms
 
-  round_up : (v u : List Turn) → BeginsARound values start (IsOpenAfter start) most v u → count v ≤ count u
+  pub round_up : (v u : List Turn) → BeginsARound values start (IsOpenAfter start) most v u → count v ≤ count u
   round_up v u step = counted_up start mild v u Turn.Round step.is step.before step.after count harms
 
   -- ---- one kind

@@ -52,10 +52,10 @@ module _ (start : Start) (plan : PathPlan) (paid : List Turn → ℕ) (most : �
   abbrev Pays : ℕ → List Turn → Type 0
   Pays n turns = IsPaid start plan paid most Mended n turns × (paid turns ≤ most)
 
-  pays : {n y : ℕ} {u : List Turn} → paid u ≤ most → IsPaid start plan paid most Mended n u ⊎ AWaitGoesOn (the_course start plan paid most Mended Waits) (top start plan paid most) n y u
+  pays : (n y : ℕ) (u : List Turn) → paid u ≤ most → IsPaid start plan paid most Mended n u ⊎ AWaitGoesOn (the_course start plan paid most Mended Waits) (top start plan paid most) n y u
       → Pays n u ⊎ AWaitGoesOn (the_course start plan paid most Mended Waits) (top start plan paid most) n y u
-  pays low (inl h) = inl (h, low)
-  pays low (inr h) = inr h
+  pays n y u low (inl h) = inl (h, low)
+  pays n y u low (inr h) = inr h
 
   exchanges : PaidExchanges values start Moment most (top start plan paid most) Over Pays Waits
   exchanges = record {
@@ -64,8 +64,8 @@ module _ (start : Start) (plan : PathPlan) (paid : List Turn → ℕ) (most : �
     pays_on = λ n v u step h. (paid_later n v u (Turn.Step step.actor) step.is (λ m. x.mended_on m v u step) h.0, step.after.few);
     pays_next = λ n v u step h. (paid_later n v u Turn.Round step.is (λ m. x.mended_next m v u step) h.0, step.after.few);
     few = λ n v harms h. (let low = h.0.enough in let all = few_units start plan (reached values start v) in let mended = x.few_mended h.0.harms v h.0.mended in let most_paid = h.1 in omega (arith, low, all, mended, most_paid));
-    waits_on = λ n y v u step h. pays step.after.few (x.waits_on n y v u step h);
-    waits_next = λ n y v u step h. pays step.after.few (x.waits_next n y v u step h);
+    waits_on = λ n y v u step h. pays n y u step.after.few (x.waits_on n y v u step h);
+    waits_next = λ n y v u step h. pays n y u step.after.few (x.waits_next n y v u step h);
     due = λ n y v u step h late. (x.due n y v u step h late, step.after.few);
     begins = λ n v u step h. x.begins n v u step h.0;
   }

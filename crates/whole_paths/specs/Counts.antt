@@ -9,7 +9,7 @@ use Rattle.whole_paths.specs.News.{one_if}
 
 -- for so many events there are rounds
 abbrev pub spare : ℕ
-spare = 5
+spare = 3
 
 module _ (start : Start) where
   -- Of two counts the second is never less, and by each turn it rises by as much at least, from when B's end may send a DSS.
