@@ -73,10 +73,10 @@ module _ (start : Start) (plan : PathPlan) (paid : List Turn → ℕ) (most : �
 -- ---- all is there in time
 
 pub sharp_exchanges_end : SharpExchangesEnd
-sharp_exchanges_end paid Mended Waits pays exchange first = what_is_there_in_time_is_delivered_by paid sharp_allowance pays.up there
+sharp_exchanges_end Also paid Mended Waits pays exchange first = what_is_there_in_time_is_delivered_by Also paid sharp_allowance pays.up there
   where
-    there : AllIsThereBy paid sharp_allowance
-    there start plan before more most begins lawful few whole last low many =
+    there : AllIsThereBy Also paid sharp_allowance
+    there start plan before more most begins also lawful few whole last low many =
         let along = holds_along start begins.mild before more whole last
         (λ s. let sent = subst (SentAtMost (length (before ++ more))) last.here.is (each_turn_sends_one_at_most values start (before ++ more) 2 last.here.crew last.here.there) s in omega (arith, sent, few)) in
         let within : (ts us : List Turn) → ts ++ us ≡ more → IsOpenWithin start (paid start) most (before ++ ts) =
@@ -87,18 +87,19 @@ sharp_exchanges_end paid Mended Waits pays exchange first = what_is_there_in_tim
         let now : IsOpenWithin start (paid start) most before = subst (IsOpenWithin start (paid start) most) (append-nil before) (within [] more refl) in
         let harms = pays.covers start (before ++ more) in
         paid_exchanges_end values start (IsOpenWithin start (paid start) most) most (top start plan (paid start) most) (λ turns. AllIsThere (reached values start turns))
-        (Pays start plan (paid start) most (Mended start plan most) (Waits start plan most) (exchange start plan most begins) begins) (Waits start plan most)
-        (exchanges start plan (paid start) most (Mended start plan most) (Waits start plan most) (exchange start plan most begins) begins) before more
-        (record { harms = 0; mended = first start plan most begins before now.is_open; enough = omega arith }, now.few) lawful within (omega (arith, harms, low))
+        (Pays start plan (paid start) most (Mended start plan most) (Waits start plan most) (exchange start plan most begins also) begins) (Waits start plan most)
+        (exchanges start plan (paid start) most (Mended start plan most) (Waits start plan most) (exchange start plan most begins also) begins) before more
+        (record { harms = 0; mended = first start plan most begins also before now.is_open; enough = omega arith }, now.few) lawful within (omega (arith, harms, low))
         (subst (λ plans. price_by start plans most < 100 * rounds_in more) begins.one many)
 
 -- ---- with `patience`
 
 -- what rounds do, more do
-with_more : {C : Type 0} (k : Codec C) (count : Count) (some more : Patience) → ((script : Script) (path : PathLine) (file_a file_b : List ℕ) (harms : ℕ) → IsMild script path file_a file_b
-    → some script path file_a file_b harms ≤ more script path file_a file_b harms) → BriefPathsEndBy k count some → BriefPathsEndBy k count more
-with_more k count some more fewer ends script path file_a file_b before after mild also lawful first enough =
-    ends script path file_a file_b before after mild also lawful first
+with_more : {C : Type 0} (k : Codec C) (Also : Start → PathPlan → Type 0) (count : Count) (some more : Patience)
+    → ((script : Script) (path : PathLine) (file_a file_b : List ℕ) (harms : ℕ) → IsMild script path file_a file_b
+    → some script path file_a file_b harms ≤ more script path file_a file_b harms) → BriefPathsEndBy k Also count some → BriefPathsEndBy k Also count more
+with_more k Also count some more fewer ends script path file_a file_b before after mild also brief lawful first enough =
+    ends script path file_a file_b before after mild also brief lawful first
     (let less = fewer script path file_a file_b (count (start_of script file_a file_b) (before ++ Turn.Round ∷ after)) mild in omega (arith, less, enough))
 
 patient : (script : Script) (path : PathLine) (file_a file_b : List ℕ) (harms : ℕ) → IsMild script path file_a file_b
@@ -109,7 +110,7 @@ patient script path file_a file_b harms mild =
     let low = div-le_of_le-mul 100 {m = sharp_allowance start harms} {n = 26 * most_units start (plan_of script 0 path) + 3250 * (harms + spare)} (omega (arith, is)) in omega (arith, low)
 
 pub sharp_ends_by_scripts : SharpEndsByScripts
-sharp_ends_by_scripts paid in_octets same ends = (
-  with_more values paid (rounds_within sharp_allowance) patience patient (ends_as_it_begins_by paid paid sharp_allowance (λ start mild turns. refl) ends),
-  with_more octets in_octets (rounds_within sharp_allowance) patience patient (ends_as_it_begins_by_in_octets paid in_octets sharp_allowance same ends),
+sharp_ends_by_scripts Also paid in_octets same ends = (
+  with_more values Also paid (rounds_within sharp_allowance) patience patient (ends_as_it_begins_by Also paid paid sharp_allowance (λ start mild turns. refl) ends),
+  with_more octets Also in_octets (rounds_within sharp_allowance) patience patient (ends_as_it_begins_by_in_octets Also paid in_octets sharp_allowance same ends),
 )

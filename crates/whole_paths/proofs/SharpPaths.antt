@@ -77,8 +77,8 @@ module _ (start : Start) (plan : PathPlan) (most : ℕ) (paid count : List Turn 
     none_mended turns now = let all = all_few turns now in record { debts = all.debts; owes = all.owes; few = (let low = all.few in omega (arith, low)) }
 
 pub sharp_paths_end_so : SharpPathsEndSo
-sharp_paths_end_so paid count Other MendsOther pays rests = sharp_exchanges_end paid (λ start plan most. AreMended start plan most (count start) (OwesAll start (Other start)))
+sharp_paths_end_so Also paid count Other MendsOther pays rests = sharp_exchanges_end Also paid (λ start plan most. AreMended start plan most (count start) (OwesAll start (Other start)))
     (λ start plan most. AwaitsEither start plan most (count start) (OwesAll start (Other start)) (MendsAll start plan most (paid start) (count start) (Other start) (MendsOther start)) (WaitsForAUnit start plan (count start) (OwesAll start (Other start))))
     pays
-    (λ start plan most one. exchanges start plan most (paid start) (count start) (Other start) (MendsOther start) one (rests start plan most one))
-    (λ start plan most one turns now. none_mended start plan most (paid start) (count start) (Other start) (MendsOther start) one (rests start plan most one) turns now)
+    (λ start plan most one also. exchanges start plan most (paid start) (count start) (Other start) (MendsOther start) one (rests start plan most one also))
+    (λ start plan most one also turns now. none_mended start plan most (paid start) (count start) (Other start) (MendsOther start) one (rests start plan most one also) turns now)

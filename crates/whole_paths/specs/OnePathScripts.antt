@@ -19,7 +19,7 @@ use Rattle.world_laws.specs.Outcomes.{outcome_of}
 use Rattle.world_laws.specs.RoundDone.{reached}
 use Rattle.world_laws.specs.Worlds.{Turn, AreLawful}
 use Rattle.whole_paths.specs.Delivery.{AllIsThere}
-use Rattle.whole_paths.specs.Finish.{AnEndDied, IsMild, IsPathAt, IsBrief, IsWhole, Patience, harmed, opened, rounds_in, run_of}
+use Rattle.whole_paths.specs.Finish.{AnEndDied, IsEnough, IsMild, IsPathAt, IsBrief, IsWhole, Patience, harmed, opened, rounds_in, run_of}
 use Rattle.whole_paths.specs.Harms.{full_queue_waits, longest_way}
 use Rattle.whole_paths.specs.Mild.{IsMildStart}
 use Rattle.whole_paths.specs.News.{most_news}
@@ -71,26 +71,12 @@ Allowance = Start → ℕ → ℕ
 abbrev pub for_all_news : (Start → ℕ) → Allowance
 for_all_news within start harms = ticks_for (within start) (suc (most_news start + harms))
 
--- what is counted of a run, by how it begins and by its turns; alone the segments of path 0 that are harmed
-abbrev pub Count : Type 0
-Count = Start → List Turn → ℕ
-
-abbrev pub harms_alone : {C : Type 0} → Codec C → Count
-harms_alone k start turns = harmed k 0 turns (opened_world start)
-
--- it never falls
-abbrev pub NeverFalls : Count → Type 0
-NeverFalls count = (start : Start) (turns more : List Turn) → count start turns ≤ count start (turns ++ more)
-
--- In fewer than 2^64 - 1 turns: where path 0 is whole, and still is after rounds enough for what is counted, all of both streams is with the peers.
-abbrev pub AllIsThereBy : Count → Allowance → Type 0
-AllIsThereBy count enough = (start : Start) (plan : PathPlan) (before more : List Turn) (most : ℕ) → BeginsWithOnePath start plan
-    → AreLawful values more (reached values start before) → length (before ++ more) < 2 ^ 64 - 1 → IsWhole 0 (reached values start before)
-    → IsWhole 0 (reached values start (before ++ more)) → count start (before ++ more) ≤ most
-    → enough start most < 100 * rounds_in more → AllIsThere (reached values start (before ++ more))
-
+-- In fewer than 2^64 - 1 turns: where path 0 is whole, and still is after rounds enough, all of both streams is with the peers.
 abbrev pub AllIsThereWithin : Allowance → Type 0
-AllIsThereWithin = AllIsThereBy (harms_alone values)
+AllIsThereWithin enough = (start : Start) (plan : PathPlan) (before more : List Turn) (most : ℕ) → BeginsWithOnePath start plan
+    → AreLawful values more (reached values start before) → length (before ++ more) < 2 ^ 64 - 1 → IsWhole 0 (reached values start before)
+    → IsWhole 0 (reached values start (before ++ more)) → harmed values 0 (before ++ more) (opened_world start) ≤ most
+    → enough start most < 100 * rounds_in more → AllIsThere (reached values start (before ++ more))
 
 -- after some of these turns an end of path 0 was dead, and not all of both streams was with the peers
 pub record AnEndDiedEarly {C : Type 0} (k : Codec C) (start : Start) (turns : List Turn) : Type 0 where
@@ -101,20 +87,46 @@ pub record AnEndDiedEarly {C : Type 0} (k : Codec C) (start : Start) (turns : Li
   pub missing : AllIsThere (reached k start first) → ⊥
 
 -- three rounds later both files are delivered; or an end died early
-abbrev pub EndsBy : Count → Allowance → Type 0
-EndsBy count enough = (start : Start) (plan : PathPlan) (before more : List Turn) (most : ℕ) → BeginsWithOnePath start plan
-    → AreLawful values more (reached values start before) → length (before ++ more) < 2 ^ 64 - 1 → IsWhole 0 (reached values start before)
-    → count start (before ++ more) ≤ most → enough start most + 300 < 100 * rounds_in more
-    → (outcome_of (reached values start (before ++ more)).crew ≡ Delivered) ⊎ AnEndDiedEarly values start (before ++ more)
-
 abbrev pub EndsWithin : Allowance → Type 0
-EndsWithin = EndsBy (harms_alone values)
+EndsWithin enough = (start : Start) (plan : PathPlan) (before more : List Turn) (most : ℕ) → BeginsWithOnePath start plan
+    → AreLawful values more (reached values start before) → length (before ++ more) < 2 ^ 64 - 1 → IsWhole 0 (reached values start before)
+    → harmed values 0 (before ++ more) (opened_world start) ≤ most
+    → enough start most + 300 < 100 * rounds_in more
+    → (outcome_of (reached values start (before ++ more)).crew ≡ Delivered) ⊎ AnEndDiedEarly values start (before ++ more)
 
 abbrev pub WhatIsThereInTimeIsDelivered : Type 0
 WhatIsThereInTimeIsDelivered = (enough : Allowance) → AllIsThereWithin enough → EndsWithin enough
 
-abbrev pub WhatIsThereInTimeIsDeliveredBy : Type 0
-WhatIsThereInTimeIsDeliveredBy = (count : Count) (enough : Allowance) → NeverFalls count → AllIsThereBy count enough → EndsBy count enough
+-- ---- by any count
+
+-- what is counted of a run, by how it begins and by its turns
+abbrev pub Count : Type 0
+Count = Start → List Turn → ℕ
+
+-- it never falls
+abbrev pub NeverFalls : Count → Type 0
+NeverFalls count = (start : Start) (turns more : List Turn) → count start turns ≤ count start (turns ++ more)
+
+-- the segments of path 0 that are harmed
+abbrev pub harms_alone : {C : Type 0} → Codec C → Count
+harms_alone k start turns = harmed k 0 turns (opened_world start)
+
+-- The same of connections that are so besides, and of rounds enough for all that is counted.
+module _ (Also : Start → PathPlan → Type 0) (count : Count) (enough : Allowance) where
+  abbrev pub AllIsThereBy : Type 0
+  AllIsThereBy = (start : Start) (plan : PathPlan) (before more : List Turn) (most : ℕ) → BeginsWithOnePath start plan → Also start plan
+      → AreLawful values more (reached values start before) → length (before ++ more) < 2 ^ 64 - 1 → IsWhole 0 (reached values start before)
+      → IsWhole 0 (reached values start (before ++ more)) → count start (before ++ more) ≤ most
+      → enough start most < 100 * rounds_in more → AllIsThere (reached values start (before ++ more))
+
+  abbrev pub EndsBy : Type 0
+  EndsBy = (start : Start) (plan : PathPlan) (before more : List Turn) (most : ℕ) → BeginsWithOnePath start plan → Also start plan
+      → AreLawful values more (reached values start before) → length (before ++ more) < 2 ^ 64 - 1 → IsWhole 0 (reached values start before)
+      → count start (before ++ more) ≤ most → enough start most + 300 < 100 * rounds_in more
+      → (outcome_of (reached values start (before ++ more)).crew ≡ Delivered) ⊎ AnEndDiedEarly values start (before ++ more)
+
+  abbrev pub WhatIsThereInTimeIsDeliveredBy : Type 0
+  WhatIsThereInTimeIsDeliveredBy = NeverFalls count → AllIsThereBy → EndsBy
 
 -- ---- what is said of mild scripts of one path
 
@@ -124,23 +136,27 @@ rounds_within enough script path file_a file_b harms = enough (start_of script f
 
 module _ {C : Type 0} (k : Codec C) where
   -- Once the path is whole at the end of a round, both files are delivered when so many more have ended; or an end died early.
-  abbrev pub BriefPathsEndBy : Count → Patience → Type 0
-  BriefPathsEndBy count enough = (script : Script) (path : PathLine) (file_a file_b : List ℕ) (before more : List Turn) → IsMild script path file_a file_b
-      → let turns = before ++ Turn.Round ∷ more in IsBrief script turns → AreLawful k turns (opened script file_a file_b)
-      → IsWhole 0 (run_of k script file_a file_b (before ++ Turn.Round ∷ []))
-      → enough script path file_a file_b (count (start_of script file_a file_b) turns) ≤ rounds_in more
-      → (outcome_of (run_of k script file_a file_b turns).crew ≡ Delivered) ⊎ AnEndDiedEarly k (start_of script file_a file_b) turns
-
-  -- where only the segments are counted that are harmed
   abbrev pub BriefPathsEnd : Patience → Type 0
-  BriefPathsEnd = BriefPathsEndBy (harms_alone k)
+  BriefPathsEnd enough = (script : Script) (path : PathLine) (file_a file_b : List ℕ) (before more : List Turn) → IsMild script path file_a file_b
+      → let turns = before ++ Turn.Round ∷ more in IsBrief script turns → AreLawful k turns (opened script file_a file_b)
+      → IsWhole 0 (run_of k script file_a file_b (before ++ Turn.Round ∷ [])) → IsEnough k enough script path file_a file_b turns (rounds_in more)
+      → (outcome_of (run_of k script file_a file_b turns).crew ≡ Delivered) ⊎ AnEndDiedEarly k (start_of script file_a file_b) turns
 
   -- what is said of each start holds of such scripts
   abbrev pub EndsAsItBegins : Type 0
   EndsAsItBegins = (enough : Allowance) → EndsWithin enough → BriefPathsEnd (rounds_within enough)
 
+  -- by any count, of scripts that are so besides
+  abbrev pub BriefPathsEndBy : (Start → PathPlan → Type 0) → Count → Patience → Type 0
+  BriefPathsEndBy Also count enough = (script : Script) (path : PathLine) (file_a file_b : List ℕ) (before more : List Turn) → IsMild script path file_a file_b
+      → Also (start_of script file_a file_b) (plan_of script 0 path)
+      → let turns = before ++ Turn.Round ∷ more in IsBrief script turns → AreLawful k turns (opened script file_a file_b)
+      → IsWhole 0 (run_of k script file_a file_b (before ++ Turn.Round ∷ []))
+      → enough script path file_a file_b (count (start_of script file_a file_b) turns) ≤ rounds_in more
+      → (outcome_of (run_of k script file_a file_b turns).crew ≡ Delivered) ⊎ AnEndDiedEarly k (start_of script file_a file_b) turns
+
   -- where as much is counted as over segments as values
-  abbrev pub EndsAsItBeginsBy : Type 0
-  EndsAsItBeginsBy = (count counted : Count) (enough : Allowance)
+  abbrev pub EndsAsItBeginsBy : Type 1
+  EndsAsItBeginsBy = (Also : Start → PathPlan → Type 0) (count counted : Count) (enough : Allowance)
       → ((start : Start) → IsMildStart start → (turns : List Turn) → counted start turns ≡ count start turns)
-      → EndsBy count enough → BriefPathsEndBy counted (rounds_within enough)
+      → EndsBy Also count enough → BriefPathsEndBy Also counted (rounds_within enough)

@@ -101,18 +101,19 @@ pub record PaysForHarms (paid : Count) : Type 0 where
   pub up : NeverFalls paid
   pub covers : (start : Start) (turns : List Turn) → harmed_so_far values start turns ≤ paid start turns
 
--- Where exchanges go on so by each start, and none is mended first, all is there as soon as rounds enough have ended for what is paid for.
+-- Where exchanges go on so by each start that is so besides, and none is mended first, all is there as soon as rounds enough have ended for what is
+-- paid for.
 abbrev pub SharpExchangesEnd : Type 1
-SharpExchangesEnd = (paid : Count) (Mended : Start → PathPlan → ℕ → ℕ → List Turn → Type 0)
+SharpExchangesEnd = (Also : Start → PathPlan → Type 0) (paid : Count) (Mended : Start → PathPlan → ℕ → ℕ → List Turn → Type 0)
     (Waits : Start → PathPlan → ℕ → ℕ → ℕ → List Turn → Type 0) → PaysForHarms paid
-    → ((start : Start) (plan : PathPlan) (most : ℕ) → BeginsWithOnePath start plan
+    → ((start : Start) (plan : PathPlan) (most : ℕ) → BeginsWithOnePath start plan → Also start plan
     → SharpExchanges start plan (paid start) most (Mended start plan most) (Waits start plan most))
-    → ((start : Start) (plan : PathPlan) (most : ℕ) → BeginsWithOnePath start plan → (turns : List Turn) → IsOpenAfter start turns
+    → ((start : Start) (plan : PathPlan) (most : ℕ) → BeginsWithOnePath start plan → Also start plan → (turns : List Turn) → IsOpenAfter start turns
     → Mended start plan most 0 turns)
-    → EndsBy paid sharp_allowance
+    → EndsBy Also paid sharp_allowance
 
 -- Then whole paths deliver both files with `patience` for what is paid for, or an end died early.
-abbrev pub SharpEndsByScripts : Type 0
-SharpEndsByScripts = (paid in_octets : Count)
-    → ((start : Start) → IsMildStart start → (turns : List Turn) → in_octets start turns ≡ paid start turns) → EndsBy paid sharp_allowance
-    → BriefPathsEndBy values paid patience × BriefPathsEndBy octets in_octets patience
+abbrev pub SharpEndsByScripts : Type 1
+SharpEndsByScripts = (Also : Start → PathPlan → Type 0) (paid in_octets : Count)
+    → ((start : Start) → IsMildStart start → (turns : List Turn) → in_octets start turns ≡ paid start turns) → EndsBy Also paid sharp_allowance
+    → BriefPathsEndBy values Also paid patience × BriefPathsEndBy octets Also in_octets patience

@@ -33,10 +33,10 @@ pub record RestIsMended (start : Start) (plan : PathPlan) (most : ℕ) (paid cou
   pub well : (turns : List Turn) → Other 0 turns → ((s : Side) → DirectionIsWell s (reached values start turns)) → IsAllWell start turns
   pub hears : WindowsAndEndsAreHeard start plan (OwesAll start Other 0)
 
--- Where that is so by each start, whole paths deliver both files in time for what is paid for, or an end died early.
+-- Where that is so by each start that is so besides, whole paths deliver both files in time for what is paid for, or an end died early.
 abbrev pub SharpPathsEndSo : Type 1
-SharpPathsEndSo = (paid : Count) (count : Start → List Turn → ℕ) (Other : Start → ℕ → List Turn → Type 0) (MendsOther : Start → ℕ → ℕ → List Turn → Type 0)
-    → PaysForHarms paid
-    → ((start : Start) (plan : PathPlan) (most : ℕ) → BeginsWithOnePath start plan
+SharpPathsEndSo = (Also : Start → PathPlan → Type 0) (paid : Count) (count : Start → List Turn → ℕ) (Other : Start → ℕ → List Turn → Type 0)
+    (MendsOther : Start → ℕ → ℕ → List Turn → Type 0) → PaysForHarms paid
+    → ((start : Start) (plan : PathPlan) (most : ℕ) → BeginsWithOnePath start plan → Also start plan
     → RestIsMended start plan most (paid start) (count start) (Other start) (MendsOther start))
-    → EndsBy paid sharp_allowance
+    → EndsBy Also paid sharp_allowance
