@@ -16,6 +16,10 @@ use Rattle.whole_paths.specs.SharpCourses.{IsOpenWithin}
 use Rattle.whole_paths.proofs.Courses.{harmed_append}
 use Rattle.whole_paths.proofs.OpenTurns.{begun}
 
+pub one_at_most : (b : Bool) → one_if b ≤ 1
+one_at_most true = omega arith
+one_at_most false = omega arith
+
 module _ (start : Start) where
   pub harms_up : (turns : List Turn) (turn : Turn) → harmed_so_far values start turns ≤ harmed_so_far values start (turns ++ turn ∷ [])
   harms_up turns turn = harmed_append values 0 turns (turn ∷ []) (opened_world start)
@@ -46,7 +50,7 @@ module _ (start : Start) where
 
   -- ---- events
 
-  event_up : (event : List Turn → Bool) → Lasts start event → (turns : List Turn) (turn : Turn) → IsBegunTurn start turns turn → one_if (event turns) ≤ one_if (event (turns ++ turn ∷ []))
+  pub event_up : (event : List Turn → Bool) → Lasts start event → (turns : List Turn) (turn : Turn) → IsBegunTurn start turns turn → one_if (event turns) ≤ one_if (event (turns ++ turn ∷ []))
   event_up event lasts turns turn h = by (event turns) refl
     where
       by : (b : Bool) → event turns ≡ b → one_if b ≤ one_if (event (turns ++ turn ∷ []))
@@ -75,10 +79,6 @@ module _ (start : Start) where
     covers = λ turns. (let low = much.covers turns in omega (arith, low));
     rises = λ turns turn h. (let low = much.rises turns turn h in omega (arith, low));
   }
-
-  one_at_most : (b : Bool) → one_if b ≤ 1
-  one_at_most true = omega arith
-  one_at_most false = omega arith
 
   few_events : (events : List (List Turn → Bool)) (turns : List Turn) → with_events start events turns ≤ harmed_so_far values start turns + length events
   few_events [] turns = omega arith
