@@ -25,10 +25,10 @@ use Rattle.whole_paths.proofs.OpenTurns.{begun, begun_now}
 
 module _ (start : Start) (plan : PathPlan) (most within : ℕ) (count : List Turn → ℕ) (First : ℕ → List Turn → Type 0) (Holds : List Turn → Type 0) (Waits : ℕ → List Turn → Type 0)
     (one : BeginsWithOnePath start plan) (harms : CountsAsMuch start (harmed_so_far values start) count) (after : OneIsMendedAfter start plan most count First Holds Waits within) where
-  abbrev One : ℕ → List Turn → Type 0
-  One = OwesOneOf Holds
+  abbrev Alone : ℕ → List Turn → Type 0
+  Alone = OwesOneOf Holds
 
-  one_next : (turns : List Turn) (turn : Turn) (debts : ℕ) → IsBegunTurn start turns turn → One debts turns → OwesOnBy start plan most count One debts turns (turns ++ turn ∷ [])
+  one_next : (turns : List Turn) (turn : Turn) (debts : ℕ) → IsBegunTurn start turns turn → Alone debts turns → OwesOnBy start plan most count Alone debts turns (turns ++ turn ∷ [])
   one_next turns turn debts h owes = ⊎_elim
       (λ holds. ⊎_elim
       (λ more. record { now = 1; owes = inr (omega arith); few = omega (arith, more) })
@@ -40,14 +40,14 @@ module _ (start : Start) (plan : PathPlan) (most within : ℕ) (count : List Tur
       up : count turns ≤ count (turns ++ turn ∷ [])
       up = let rises = harms.rises turns turn h in let more = harms_up start turns turn in omega (arith, rises, more)
 
-  one_on : (v u : List Turn) (turn : Turn) → u ≡ v ++ turn ∷ [] → IsOpenAfter start v → IsOpenAfter start u → (d : ℕ) → One d v → OwesOnBy start plan most count One d v u
+  one_on : (v u : List Turn) (turn : Turn) → u ≡ v ++ turn ∷ [] → IsOpenAfter start v → IsOpenAfter start u → (d : ℕ) → Alone d v → OwesOnBy start plan most count Alone d v u
   one_on v u turn is was now d h =
-      subst (λ t. OwesOnBy start plan most count One d v t) (sym is) (one_next v turn d (begun start v turn (record { mild = one.mild; before = was; after = subst (IsOpenAfter start) is now })) h)
+      subst (λ t. OwesOnBy start plan most count Alone d v t) (sym is) (one_next v turn d (begun start v turn (record { mild = one.mild; before = was; after = subst (IsOpenAfter start) is now })) h)
 
-  pub one_is_few : FewAreOwedBy start plan most count One
-  one_is_few turns now = known_always start plan most one count One one_next opens turns (begun_now start turns one.mild now)
+  pub one_is_few : FewAreOwedBy start plan most count Alone
+  one_is_few turns now = known_always start plan most one count Alone one_next opens turns (begun_now start turns one.mild now)
     where
-      opens : (u : List Turn) → HasJustOpened start u → OwesAtMostBy start plan most count One u
+      opens : (u : List Turn) → HasJustOpened start u → OwesAtMostBy start plan most count Alone u
       opens u h = ⊎_elim
           (λ holds. record { debts = 0; owes = inl holds; few = omega arith })
           (λ some. record { debts = 1; owes = inr (omega arith); few = some })

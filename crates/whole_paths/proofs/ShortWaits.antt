@@ -229,10 +229,10 @@ units_are_awaited start plan most paid count Owes Mends x counts debts makes = s
 
 -- of 23 rounds some first ones are enough
 module _ (start : Start) (plan : PathPlan) (Well : List Turn → Type 0) where
-  read_up : (n : ℕ) (v u : List Turn) → WellRounds start Well n v u → units start plan (reached values start v) ≤ units start plan (reached values start u)
-  read_up zero v u r = subst (λ t. units start plan (reached values start v) ≤ units start plan (reached values start t)) r.0 (le_refl (units start plan (reached values start v)))
-  read_up (suc n) v u r =
-      let first = read_up n v r.0 r.1.0 in
+  units_rise : (n : ℕ) (v u : List Turn) → WellRounds start Well n v u → units start plan (reached values start v) ≤ units start plan (reached values start u)
+  units_rise zero v u r = subst (λ t. units start plan (reached values start v) ≤ units start plan (reached values start t)) r.0 (le_refl (units start plan (reached values start v)))
+  units_rise (suc n) v u r =
+      let first = units_rise n v r.0 r.1.0 in
       let round = r.1.1.0 in
       let more = subst (λ t. units start plan (reached values start r.0) ≤ units start plan (reached values start t)) (sym round.is) (units_up start plan r.0 (Turn.Round ∷ steps_of round.order)) in omega (arith, first, more)
 
@@ -242,7 +242,7 @@ module _ (start : Start) (plan : PathPlan) (Well : List Turn → Type 0) where
       → (most_units start plan ≤ units start plan (reached values start v)) ⊎ (units start plan (reached values start v) < units start plan (reached values start u))
   in_fewer n m is made v u r =
       let parts = parted start Well n m 23 v u is r in
-      let more = read_up m parts.between_them u parts.rest in
+      let more = units_rise m parts.between_them u parts.rest in
       ⊎_elim (λ all. inl all) (λ up. inr (omega (arith, up, more))) (made v parts.between_them parts.first)
 
 pub exchanges_go_on_so : ExchangesGoOnSo
