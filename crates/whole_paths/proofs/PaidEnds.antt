@@ -1,5 +1,5 @@
 -- With few losses no end dies, so what ends by a count is delivered by it.
-use Rattle.std.proofs.Common.{◌≡◌, subst, ⊎_elim, ℕ, ◌≤◌, List}
+use Rattle.std.proofs.Common.{◌≡◌, subst, ⊎_elim, ◌≤◌, List}
 use Rattle.path_core.specs.Codec.{Codec}
 use Rattle.path_core.specs.Octets.{octets}
 use Rattle.path_core.specs.Values.{values}

@@ -1,5 +1,5 @@
 -- With debts along both directions, and others, whole paths deliver both files with `patience`.
-use Rattle.std.proofs.Common.{◌≡◌, subst, ℕ, ◌≤◌, arith, List}
+use Rattle.std.proofs.Common.{subst, ℕ, ◌≤◌, arith, List}
 use Rattle.sides.specs.declared.side.Side.{Side}
 use Rattle.sides.specs.declared.side.Side.TheVariants.{A, B}
 use Rattle.path_core.specs.Values.{values}

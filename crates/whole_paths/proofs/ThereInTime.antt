@@ -19,7 +19,7 @@ use Rattle.world_laws.proofs.Weaving.WholeRounds.{run_append}
 use Rattle.whole_paths.specs.AsFar.{IsActorAsFar, stage}
 use Rattle.whole_paths.specs.Courses.{Exchanges}
 use Rattle.whole_paths.specs.Delivery.{AllIsThere}
-use Rattle.whole_paths.specs.Finish.{AnEndDied, IsWhole, Patience, BriefPathsDeliver, harmed, opened, rounds_in}
+use Rattle.whole_paths.specs.Finish.{AnEndDied, IsWhole, Patience, BriefPathsDeliver, opened, rounds_in}
 use Rattle.whole_paths.specs.OnePathScripts.{AllIsThereWithin, Allowance, AnEndDiedEarly, BeginsWithOnePath, BriefPathsEnd, Count, WhatIsThereInTimeIsDelivered, WhatIsThereInTimeIsDeliveredBy, for_all_news, harms_alone}
 use Rattle.whole_paths.specs.OpenCourses.{IsOpenAfter}
 use Rattle.whole_paths.specs.SentByTurns.{SentAtMost}
