@@ -15,7 +15,7 @@ use Rattle.world_laws.specs.Worlds.{Turn}
 use Rattle.whole_paths.specs.AsFar.{stage}
 use Rattle.whole_paths.specs.CutRecords.{NoneIsCut}
 use Rattle.whole_paths.specs.Delivery.{IsAllThere}
-use Rattle.whole_paths.specs.DirectionWaits.{ArePassedWhole, CheckedNumbersAgree, NumbersAgree, NumbersAgreeSo, NumbersAlwaysAgree, RecordsArePassedWhole}
+use Rattle.whole_paths.specs.DirectionWaits.{ArePassedWhole, NumbersAgree, NumbersAlwaysAgree, RecordsArePassedWhole}
 use Rattle.whole_paths.specs.Kept.{IsSameRecord}
 use Rattle.whole_paths.specs.Mending.{IsRecordOf}
 use Rattle.whole_paths.specs.OnePathScripts.{BeginsWithOnePath}
@@ -55,7 +55,8 @@ module _ (start : Start) (plan : PathPlan) (s : Side) (one : BeginsWithOnePath s
 has_same : (r : Record) (e : PathEnd) → IsRecordOf e r → HasRecord r e
 has_same r e h = record { at = h.at; item = h.item; there = h.there; holds = subst (IsSameRecord r) (sym h.holds) (same_record r) }
 
-pub numbers_agree_so : NumbersAgreeSo
+-- where records are passed whole
+pub numbers_agree_so : (start : Start) (plan : PathPlan) (s : Side) → BeginsWithOnePath start plan → ArePassedWhole start s → NumbersAgree start s
 numbers_agree_so start plan s one whole = agree start plan s one whole
 
 pub records_are_passed_whole : RecordsArePassedWhole
@@ -68,5 +69,5 @@ records_are_passed_whole start plan s one = by start.checksums refl
 pub numbers_always_agree : NumbersAlwaysAgree
 numbers_always_agree start plan s one = agree start plan s one (records_are_passed_whole start plan s one)
 
-pub checked_numbers_agree : CheckedNumbersAgree
+pub checked_numbers_agree : (start : Start) (plan : PathPlan) (s : Side) → BeginsWithOnePath start plan → start.checksums ≡ true → NumbersAgree start s
 checked_numbers_agree start plan s one checked = numbers_always_agree start plan s one

@@ -1,6 +1,7 @@
 -- Each record that an end has after a turn it had before, but for how often it was sent, or it begins at SND.NXT of before or past it.
-use Rattle.std.proofs.Common.{◌≡◌, refl, sym, ◌⊎◌, inl, inr, ⊎_elim, ℕ, zero, suc, ◌+◌, ◌≤◌, ◌==◌, nat_lt, nat_le, ◌&&◌, arith, le_refl, Bool, true, false, if◌then◌else◌, Some, List, [], ◌∷◌, ◌++◌, length, map}
+use Rattle.std.proofs.Common.{◌≡◌, refl, sym, subst, ◌∙◌, ◌⊎◌, inl, inr, ⊎_elim, ℕ, zero, suc, ◌+◌, ◌≤◌, ◌==◌, nat_lt, nat_le, ◌&&◌, arith, le_refl, Bool, true, false, if◌then◌else◌, Some, List, [], ◌∷◌, ◌++◌, length, map}
 use Rattle.std.specs.List.{slice_get}
+use Rattle.std.proofs.lemmas.Option.{same_Some}
 use Rattle.sides.specs.declared.side.Side.{Side}
 use Rattle.sides.specs.declared.side.Side.TheVariants.{A, B}
 use Rattle.stream_lanes.specs.Words.{Has}
@@ -55,11 +56,11 @@ front : (nxt : ℕ) (r s : Record) (rs ts : List Record) → IsSameRecord r s �
 front nxt r s rs ts same rest zero t at = inl (record { at = 0; item = r; there = refl; holds = changed at })
   where
     changed : Some s ≡ Some t → IsSameRecord r t
-    changed is = let one : s ≡ t = cc in rw (sym one) same
+    changed is = subst (IsSameRecord r) (same_Some s t is) same
 front nxt r s rs ts same rest (suc i) t at = behind nxt r t rs (rest i t at)
 
 mapped : (nxt : ℕ) (f : Record → Record) → ((x : Record) → IsSameRecord x (f x)) → (rs : List Record) → AllOld nxt rs (map f rs)
-mapped nxt f same rs i t at = let found = in_map f rs i t at in inl (record { at = i; item = found.0; there = found.1; holds = rw (sym found.2) same found.0 })
+mapped nxt f same rs i t at = let found = in_map f rs i t at in inl (record { at = i; item = found.0; there = found.1; holds = subst (IsSameRecord found.0) found.2 (same found.0) })
 
 uncovered_old : (nxt pos : ℕ) (rs : List Record) → AllOld nxt rs (uncovered pos rs)
 uncovered_old nxt pos [] i t at = cc
@@ -95,7 +96,7 @@ expired_old nxt (r ∷ rs) = front nxt r _ rs (map unsent_again rs) (record { po
 pushed_old : (nxt : ℕ) (r : Record) → nxt ≤ r.pos → (rs : List Record) → AllOld nxt rs (rs ++ r ∷ [])
 pushed_old nxt r late rs i t at = ⊎_elim
     (λ old. same_old nxt rs i t old)
-    (λ last. inr (let one = (in_one r t _ last.1).1 in rw (sym one) late))
+    (λ last. inr (subst (λ (x : Record). nxt ≤ x.pos) (in_one r t _ last.1).1 late))
     (in_append rs (r ∷ []) i t at)
 
 -- ---- the subflow

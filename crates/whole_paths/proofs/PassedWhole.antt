@@ -78,7 +78,7 @@ use Rattle.whole_paths.proofs.Overruns.{no_end_overruns}
 use Rattle.whole_paths.proofs.Reached.{EndsAreReached, each_is_reached}
 use Rattle.whole_paths.proofs.RecordsGo.{SameRecords, same_lasts}
 use Rattle.whole_paths.proofs.Sent.{what_came_was_sent}
-use Rattle.whole_paths.proofs.SentWithin.{SentWithin, all_sent_within}
+use Rattle.whole_paths.proofs.SentWithin.{EndsWithin, SentWithin, all_sent_within}
 use Rattle.whole_paths.proofs.Uncut.{AllOrNone, IsUncut, passes_uncut, taken_uncut, uncut_so}
 use Rattle.whole_paths.proofs.WholePieces.{IsWholeOf, Meets, RecordsAreWhole, all_are_whole}
 
@@ -128,6 +128,12 @@ Unchecked c = c.spelling.checksums ≡ false
 abbrev Never : Side → PathState Carried → Type 0
 Never s p = ⊥
 
+-- what is under way to the peer was sent
+within_sent : (start : Start) (p : PathState Carried) → IsKnown start p → (s : Side) (f : Flight Carried) → IsUnderWay f p → f.to ≡ peer s → 0 < length f.carried.segment.payload + one_if f.carried.segment.fin
+    → f.carried.segment.position + length f.carried.segment.payload + one_if f.carried.segment.fin ≤ (end_at s p).tcp.send.nxt
+within_sent start p k s f here to some = subst (λ y. f.carried.segment.position + length f.carried.segment.payload + one_if f.carried.segment.fin ≤ (end_at y p).tcp.send.nxt) (ap peer to ∙ sender_of s)
+    (under_way (λ (g : Flight Carried). EndsWithin (end_at (peer g.to) p).tcp.send.nxt g.carried.segment) f p here k.within.copies some)
+
 module _ (start : Start) (unchecked : start.checksums ≡ false) (p : PathState Carried) (k : IsKnown start p) (s : Side) (first last : ℕ) (span : IsSpan s first last p) where
   abbrev t : Side
   t = peer s
@@ -149,56 +155,39 @@ module _ (start : Start) (unchecked : start.checksums ≡ false) (p : PathState 
           let parts = and_parts (g.tick == x.due.tick) (same_side g.to x.due.to && g.number == x.due.copy) found.1 in
           (g, (found.0, (one_side g.to x.due.to (and_parts (same_side g.to x.due.to) (g.number == x.due.copy) parts.1).0, same_Some (meant (as_arrived g.carried)) x.segment heard)))
 
-  takes_copy : (b : Brings values p) → b.copy.due.to ≡ t → let e : EndState = (end_at b.copy.due.to p).tcp in (u : EndState) → u.recv ≡ (with_payload (means.Taken b.position b.acknowledged) b.copy.segment.payload e).recv
-      → u.fin_at ≡ first_fin e.fin_at b.copy.segment.fin (b.position + length b.copy.segment.payload) → Uncut e → Uncut u
-  takes_copy b to u recv fin h = taken_uncut first last taker.tcp b.position b.acknowledged b.copy.segment.payload b.copy.segment.fin meets window h u recv fin
-    where
-      taker : PathEnd
-      taker = end_at b.copy.due.to p
+  -- a copy that is taken, as it was under way
+  module _ (b : Brings values p) (to : b.copy.due.to ≡ peer s) (g : Flight Carried) (here : IsUnderWay g p) (to_it : g.to ≡ b.copy.due.to) (same : meant (as_arrived g.carried) ≡ b.copy.segment) where
+    abbrev taker : PathEnd
+    taker = end_at b.copy.due.to p
 
-      is_meant : meaning_of (copy_of (options_heard (end_at b.copy.due.to p) b.copy.segment)) (end_at b.copy.due.to p).tcp ≡ means.Taken b.position b.acknowledged
-      is_meant = let x = options_heard (end_at b.copy.due.to p) b.copy.segment in
-          ap taken_as (sym (ap (λ j. judged_of j x.rst (items_of j b.copy.due.to x) (meaning_of (copy_of x) (end_at b.copy.due.to p).tcp) (end_at b.copy.due.to p)) k.first.first) ∙ b.taken)
+    is_meant : meaning_of (copy_of (options_heard taker b.copy.segment)) taker.tcp ≡ means.Taken b.position b.acknowledged
+    is_meant = let x = options_heard taker b.copy.segment in
+        ap taken_as (sym (ap (λ j. judged_of j x.rst (items_of j b.copy.due.to x) (meaning_of (copy_of x) taker.tcp) taker) k.first.first) ∙ b.taken)
 
-      means_it : MeansIs (copy_of (options_heard (end_at b.copy.due.to p) b.copy.segment)) (end_at b.copy.due.to p).tcp (means.Taken b.position b.acknowledged)
-      means_it = let c = copy_of (options_heard (end_at b.copy.due.to p) b.copy.segment) in subst (MeansIs c (end_at b.copy.due.to p).tcp) is_meant (means_so c (end_at b.copy.due.to p).tcp)
+    means_it : MeansIs (copy_of (options_heard taker b.copy.segment)) taker.tcp (means.Taken b.position b.acknowledged)
+    means_it = let c = copy_of (options_heard taker b.copy.segment) in subst (MeansIs c taker.tcp) is_meant (means_so c taker.tcp)
 
-      flight : Flight Carried
-      flight = (comes_of b.copy).0
+    position_is : g.carried.segment.position ≡ b.position
+    position_is = let m = means_it in same_Some g.carried.segment.position b.position (ap (λ (y : HeardSegment). (copy_of (options_heard taker y)).position) same ∙ m.1.1.1.0)
 
-      here : IsUnderWay flight p
-      here = (comes_of b.copy).1.0
+    payload_is : length g.carried.segment.payload ≡ length b.copy.segment.payload
+    payload_is = ap (λ (y : HeardSegment). length y.payload) same
 
-      to_t : flight.to ≡ t
-      to_t = (comes_of b.copy).1.1.0 ∙ to
+    meets : Meets first last b.position (length b.copy.segment.payload) b.copy.segment.fin
+    meets = subst (λ n. Meets first last b.position n b.copy.segment.fin) payload_is (subst (λ n. Meets first last n (length g.carried.segment.payload) b.copy.segment.fin) position_is
+        (subst (λ c. Meets first last g.carried.segment.position (length g.carried.segment.payload) c) (ap (λ (y : HeardSegment). y.fin) same) (span.copies g here (to_it ∙ to))))
 
-      same : meant (as_arrived flight.carried) ≡ b.copy.segment
-      same = (comes_of b.copy).1.1.1
+    -- a copy of them was sent
+    window : b.position ≤ first → last ≤ b.position + length b.copy.segment.payload → last ≤ window_end taker.tcp.recv
+    window low high = ⊎_elim
+        (λ room. subst (λ y. last ≤ window_end (end_at y p).tcp.recv) (sym to) room)
+        (λ unsent. absurd (let some = span.some in let len = payload_is in let at = position_is in
+        let most = within_sent start p k s g here (to_it ∙ to) (omega (arith, low, high, len, some)) in omega (arith, unsent, some, high, most, len, at)))
+        span.room
 
-      position_is : flight.carried.segment.position ≡ b.position
-      position_is = let m = means_it in
-          same_Some flight.carried.segment.position b.position (ap (λ (y : HeardSegment). (copy_of (options_heard (end_at b.copy.due.to p) y)).position) same ∙ m.1.1.1.0)
-
-      payload_is : length flight.carried.segment.payload ≡ length b.copy.segment.payload
-      payload_is = ap (λ (y : HeardSegment). length y.payload) same
-
-      fin_is : flight.carried.segment.fin ≡ b.copy.segment.fin
-      fin_is = ap (λ (y : HeardSegment). y.fin) same
-
-      meets : Meets first last b.position (length b.copy.segment.payload) b.copy.segment.fin
-      meets = subst (λ n. Meets first last b.position n b.copy.segment.fin) payload_is (subst (λ n. Meets first last n (length flight.carried.segment.payload) b.copy.segment.fin) position_is
-          (subst (λ c. Meets first last flight.carried.segment.position (length flight.carried.segment.payload) c) fin_is (span.copies flight here to_t)))
-
-      -- a copy of them was sent
-      window : b.position ≤ first → last ≤ b.position + length b.copy.segment.payload → last ≤ window_end (end_at b.copy.due.to p).tcp.recv
-      window low high = ⊎_elim
-          (λ room. subst (λ y. last ≤ window_end (end_at y p).tcp.recv) (sym to) room)
-          (λ unsent. absurd (let some = span.some in
-            let most = subst (λ y. 0 < length flight.carried.segment.payload + one_if flight.carried.segment.fin → flight.carried.segment.position + length flight.carried.segment.payload + one_if flight.carried.segment.fin ≤ (end_at y p).tcp.send.nxt)
-            (ap peer to_t ∙ sender_of s) (under_way (λ (g : Flight Carried). 0 < length g.carried.segment.payload + one_if g.carried.segment.fin → g.carried.segment.position + length g.carried.segment.payload + one_if g.carried.segment.fin ≤ (end_at (peer g.to) p).tcp.send.nxt) flight p here k.within.copies)
-            (let len = payload_is in omega (arith, low, high, len, some)) in
-            let len = payload_is in let at = position_is in omega (arith, unsent, some, high, most, len, at)))
-          span.room
+    takes_copy : (u : EndState) → u.recv ≡ (with_payload (means.Taken b.position b.acknowledged) b.copy.segment.payload taker.tcp).recv → u.fin_at ≡ first_fin taker.tcp.fin_at b.copy.segment.fin (b.position + length b.copy.segment.payload)
+        → Uncut taker.tcp → Uncut u
+    takes_copy u recv fin h = taken_uncut first last taker.tcp b.position b.acknowledged b.copy.segment.payload b.copy.segment.fin meets window h u recv fin
 
   opens_without : (x : Comes values p) → x.due.to ≡ t → (a : ℕ) → let e : PathEnd = end_at x.due.to p in MeansIs (copy_of (options_heard e x.segment)) e.tcp (means.Accepts a) → x.segment.fin ≡ false
   opens_without x to a fits =
@@ -209,7 +198,7 @@ module _ (start : Start) (unchecked : start.checksums ≡ false) (p : PathState 
   fits = record {
     may = k.first.checksums ∙ unchecked;
     passes = λ piece is h. passes_uncut first last p.profile (end_at t p) (k.first.checksums ∙ unchecked) (k.mapped t).identity (ap (λ o. covers o (end_at t p).tcp.recv.edge) ((k.mapped t).peer k.first.first)) (k.live t) span.mapped piece is h;
-    takes = λ b to u recv fin h. inl (takes_copy b to u recv fin h);
+    takes = λ b to u recv fin h. (let found = comes_of b.copy in inl (takes_copy b to found.0 found.1.0 found.1.1.0 found.1.1.1 u recv fin h));
     opens = λ x to a is. opens_without x to a is;
   }
 
@@ -249,7 +238,7 @@ module _ (start : Start) (mild : IsMildStart start) (unchecked : start.checksums
       room = inr late;
     }) q becomes (record {
       edge = inl (let low = subst (λ u. (end_at (peer s) p).tcp.recv.edge ≤ (end_at u p).tcp.send.nxt) (sender_of s) (kp.was_sent (peer s)) in omega (arith, low, late));
-      kept = AllOrNone.none (λ pos octet from below is. (let low = subst (λ u. pos < (end_at u p).tcp.send.nxt) (sender_of s) (kp.within.kept (peer s) pos octet is) in omega (arith, low, late, from)));
+      kept = AllOrNone.has_none (λ pos octet from below is. (let low = subst (λ u. pos < (end_at u p).tcp.send.nxt) (sender_of s) (kp.within.kept (peer s) pos octet is) in omega (arith, low, late, from)));
       held = held (is_fin_passed (end_at (peer s) p).tcp) refl;
       fin = λ pos is. inl (let last_one = subst (λ (o : Option ℕ). IfSome o (λ position. suc position ≡ (end_at s p).tcp.send.nxt)) is (kp.fins.heard s) in omega (arith, last_one, late));
     })
@@ -257,21 +246,16 @@ module _ (start : Start) (mild : IsMildStart start) (unchecked : start.checksums
         copies : (f : Flight Carried) → IsUnderWay f p → f.to ≡ peer s → Meets first last f.carried.segment.position (length f.carried.segment.payload) f.carried.segment.fin
         copies f here to = by f.carried.segment.fin refl
           where
-            most : 0 < length f.carried.segment.payload + one_if f.carried.segment.fin → f.carried.segment.position + length f.carried.segment.payload + one_if f.carried.segment.fin ≤ (end_at s p).tcp.send.nxt
-            most = subst (λ y. 0 < length f.carried.segment.payload + one_if f.carried.segment.fin → f.carried.segment.position + length f.carried.segment.payload + one_if f.carried.segment.fin ≤ (end_at y p).tcp.send.nxt)
-                (ap peer to ∙ sender_of s)
-                (under_way (λ (g : Flight Carried). 0 < length g.carried.segment.payload + one_if g.carried.segment.fin → g.carried.segment.position + length g.carried.segment.payload + one_if g.carried.segment.fin ≤ (end_at (peer g.to) p).tcp.send.nxt) f p here kp.within.copies)
-
             before : 0 < length f.carried.segment.payload + one_if f.carried.segment.fin → Meets first last f.carried.segment.position (length f.carried.segment.payload) f.carried.segment.fin
-            before some = Meets.before (let low = most some in omega (arith, low, late))
+            before some = Meets.lies_before (let low = within_sent start p kp s f here to some in omega (arith, low, late))
 
             by : (b : Bool) → f.carried.segment.fin ≡ b → Meets first last f.carried.segment.position (length f.carried.segment.payload) f.carried.segment.fin
             by true is = before (let one = ap one_if is in omega (arith, one))
-            by false is = ⊎_elim (λ some. before (omega (arith, some))) (λ none. Meets.empty (omega (arith, none)) is) (cases_lt 0 (length f.carried.segment.payload))
+            by false is = ⊎_elim (λ some. before (omega (arith, some))) (λ none. Meets.is_empty (omega (arith, none)) is) (cases_lt 0 (length f.carried.segment.payload))
 
         held : (b : Bool) → is_fin_passed (end_at (peer s) p).tcp ≡ b → AllOrNone first last (after_keep_held (end_at (peer s) p).tcp.recv) ⊎ (is_fin_passed (end_at (peer s) p).tcp ≡ true)
         held true is = inr is
-        held false is = inl (AllOrNone.none (λ pos octet from below at. ⊎_elim
+        held false is = inl (AllOrNone.has_none (λ pos octet from below at. ⊎_elim
             (λ before. (let low = subst (λ u. pos < (end_at u p).tcp.send.nxt) (sender_of s) before in omega (arith, low, late, from)))
             (λ over. true≢false (sym over ∙ is))
             (kp.within.held (peer s) pos octet at)))

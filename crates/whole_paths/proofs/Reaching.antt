@@ -331,7 +331,7 @@ module _ (n : ℕ) (Ok : ℕ → Type 0) (never : Ok n → ⊥) where
           (λ few. inl (taken_below (end_at b.copy.due.to p).tcp t b.position b.acknowledged b.copy.segment.payload b.copy.segment.fin recv fin few h))
           (λ over. inr (record { brings = b; to = to; over = over }))
           (decide b.position (length b.copy.segment.payload) b.copy.segment.fin);
-      opens = λ x to a means_so. absurd (let early = ap stage means_so.0 in let past = subst (λ u. 3 ≤ stage (end_at u p).tcp.state) (sym to) opened in omega (arith, past, early));
+      opens = λ x to a is. absurd (let early = ap stage is.0 in let past = subst (λ u. 3 ≤ stage (end_at u p).tcp.state) (sym to) opened in omega (arith, past, early));
     }
 
     abbrev pub BelowSo : Actor C → Actor C → Type 0

@@ -68,8 +68,8 @@ none_below pos v octet low is = by (nat_lt pos v.edge) (lt-ltb pos v.edge low) i
 module _ (first last : ℕ) where
   -- no octet is kept of these positions; or one at each of them, unless RCV.NXT is past it
   pub data AllOrNone (v : Receiving) : Type 0 where
-    none : ((pos octet : ℕ) → first ≤ pos → pos < last → octet_at pos v ≡ Some octet → ⊥) → AllOrNone v
-    all : ((pos : ℕ) → first ≤ pos → pos < last → (pos < v.edge) ⊎ ((octet : ℕ) × (octet_at pos v ≡ Some octet))) → AllOrNone v
+    has_none : ((pos octet : ℕ) → first ≤ pos → pos < last → octet_at pos v ≡ Some octet → ⊥) → AllOrNone v
+    has_each : ((pos : ℕ) → first ≤ pos → pos < last → (pos < v.edge) ⊎ ((octet : ℕ) × (octet_at pos v ≡ Some octet))) → AllOrNone v
 
   -- RCV.NXT isn't among them; so it is with what is kept, and with what is held, unless RCV.NXT is past the peer's FIN; and no FIN came for them
   pub record IsUncut (t : EndState) : Type 0 where
@@ -80,8 +80,8 @@ module _ (first last : ℕ) where
 
   -- where no octet of them changes
   alike : (v w : Receiving) → v.edge ≤ w.edge → ((pos : ℕ) → first ≤ pos → pos < last → octet_at pos w ≡ octet_at pos v) → AllOrNone v → AllOrNone w
-  alike v w up same (AllOrNone.none so) = AllOrNone.none (λ pos octet from below is. so pos octet from below (sym (same pos from below) ∙ is))
-  alike v w up same (AllOrNone.all so) = AllOrNone.all (λ pos from below. ⊎_elim (λ low. inl (omega (arith, low, up))) (λ there. inr (there.0, same pos from below ∙ there.1)) (so pos from below))
+  alike v w up same (AllOrNone.has_none so) = AllOrNone.has_none (λ pos octet from below is. so pos octet from below (sym (same pos from below) ∙ is))
+  alike v w up same (AllOrNone.has_each so) = AllOrNone.has_each (λ pos from below. ⊎_elim (λ low. inl (omega (arith, low, up))) (λ there. inr (there.0, same pos from below ∙ there.1)) (so pos from below))
 
   same_uncut : (s t : EndState) → t.recv ≡ s.recv → t.fin_at ≡ s.fin_at → IsUncut s → IsUncut t
   same_uncut s t recv fin h = record {
@@ -103,10 +103,10 @@ module _ (first last : ℕ) where
       none_left pos octet is = by (nat_lt pos t.recv.edge) pos octet refl (sym (forgotten_octets_are_gone_lem t.recv t.recv.edge pos (le_refl t.recv.edge)) ∙ is)
 
       gone : AllOrNone (after_forget_from t.recv.edge t.recv)
-      gone = AllOrNone.none (λ pos octet from below is. none_left pos octet is)
+      gone = AllOrNone.has_none (λ pos octet from below is. none_left pos octet is)
 
       gone_too : AllOrNone (after_keep_held (after_forget_from t.recv.edge t.recv))
-      gone_too = AllOrNone.none (λ pos octet from below is. none_left pos octet is)
+      gone_too = AllOrNone.has_none (λ pos octet from below is. none_left pos octet is)
 
   keeps_uncut : (s : Side) (e : PathEnd) → IsUncut e.tcp → IsUncut (after_keep s e).tcp
   keeps_uncut s e h = by (is_dropped s e)
@@ -137,7 +137,7 @@ module _ (first last : ℕ) where
 
   fin_uncut : (e : PathEnd) → IsUncut e.tcp → IsUncut (after_pass_fin e).tcp
   fin_uncut e h = (elim (is_fin_next e.tcp) as (λ b. is_fin_next e.tcp ≡ b → IsUncut (if b then after_passing_fin e.tcp else e.tcp)) [
-    | true ↦ λ is. record { edge = passed is; kept = AllOrNone.none (λ pos octet from below at. none pos octet at); held = inl (AllOrNone.none (λ pos octet from below at. none pos octet at)); fin = h.fin }
+    | true ↦ λ is. record { edge = passed is; kept = AllOrNone.has_none (λ pos octet from below at. none pos octet at); held = inl (AllOrNone.has_none (λ pos octet from below at. none pos octet at)); fin = h.fin }
     | false ↦ λ is. h
   ]) refl
     where
@@ -182,7 +182,7 @@ module _ (first last : ℕ) where
             (apart at from below)
 
         others : AllOrNone e.recv → AllOrNone held_now
-        others (AllOrNone.none so) = AllOrNone.none (λ at x from below there. none_chosen at x from below (nat_le e.recv.edge at && nat_lt at (window_end e.recv)) (sym (octet_is at) ∙ there))
+        others (AllOrNone.has_none so) = AllOrNone.has_none (λ at x from below there. none_chosen at x from below (nat_le e.recv.edge at && nat_lt at (window_end e.recv)) (sym (octet_is at) ∙ there))
           where
             none_first : (at x : ℕ) → first ≤ at → at < last → (o : Option ℕ) → octet_at at e.recv ≡ o → first_of o (payload_octet at pos (octet ∷ octets)) ≡ Some x → ⊥
             none_first at x from below None was there = no_octet at x from below there
@@ -191,7 +191,7 @@ module _ (first last : ℕ) where
             none_chosen : (at x : ℕ) → first ≤ at → at < last → (b : Bool) → chosen at b ≡ Some x → ⊥
             none_chosen at x from below true there = none_first at x from below (octet_at at e.recv) refl there
             none_chosen at x from below false there = so at x from below there
-        others (AllOrNone.all so) = AllOrNone.all (λ at from below. ⊎_elim (λ low. inl low) (λ there. inr (there.0, octet_is at ∙ still at there.0 there.1 (nat_le e.recv.edge at && nat_lt at (window_end e.recv)))) (so at from below))
+        others (AllOrNone.has_each so) = AllOrNone.has_each (λ at from below. ⊎_elim (λ low. inl low) (λ there. inr (there.0, octet_is at ∙ still at there.0 there.1 (nat_le e.recv.edge at && nat_lt at (window_end e.recv)))) (so at from below))
           where
             still : (at x : ℕ) → octet_at at e.recv ≡ Some x → (b : Bool) → chosen at b ≡ Some x
             still at x there true = ap (λ o. first_of o (payload_octet at pos (octet ∷ octets))) there
@@ -199,7 +199,7 @@ module _ (first last : ℕ) where
 
       -- or all
       all_held : pos ≤ first → last ≤ pos + length payload → AllOrNone held_now
-      all_held low high = AllOrNone.all (λ at from below. ⊎_elim (λ passed. inl passed) (λ kept. inr (there at from below kept)) (cases_lt at e.recv.edge))
+      all_held low high = AllOrNone.has_each (λ at from below. ⊎_elim (λ passed. inl passed) (λ kept. inr (there at from below kept)) (cases_lt at e.recv.edge))
         where
           some_first : (o : Option ℕ) (x : ℕ) → (y : ℕ) × (first_of o (Some x) ≡ Some y)
           some_first None x = (x, refl)
@@ -217,10 +217,10 @@ module _ (first last : ℕ) where
       held_so = by meets
         where
           by : Meets first last pos (length payload) has_fin → AllOrNone held_now
-          by (Meets.empty none no_fin) = absurd (let same = len in omega (arith, none, same))
-          by (Meets.before low) = others (λ at from below. inr (omega (arith, low, from))) h.kept
-          by (Meets.behind high) = others (λ at from below. inl (omega (arith, high, below))) h.kept
-          by (Meets.whole low high no_fin) = all_held low high
+          by (Meets.is_empty none no_fin) = absurd (let same = len in omega (arith, none, same))
+          by (Meets.lies_before low) = others (λ at from below. inr (omega (arith, low, from))) h.kept
+          by (Meets.lies_behind high) = others (λ at from below. inl (omega (arith, high, below))) h.kept
+          by (Meets.has_all low high no_fin) = all_held low high
 
     fin_clear : (at : ℕ) → first_fin e.fin_at has_fin (pos + length payload) ≡ Some at → (at < first) ⊎ (last ≤ at)
     fin_clear at = by e.fin_at refl has_fin refl meets
@@ -228,17 +228,14 @@ module _ (first last : ℕ) where
         by : (o : Option ℕ) → e.fin_at ≡ o → (b : Bool) → has_fin ≡ b → Meets first last pos (length payload) has_fin → first_fin o b (pos + length payload) ≡ Some at → (at < first) ⊎ (last ≤ at)
         by (Some p) was b has m is = h.fin at (was ∙ is)
         by None was false has m is = cc
-        by None was true has (Meets.empty none no_fin) is = absurd (true≢false (sym has ∙ no_fin))
-        by None was true has (Meets.whole low high no_fin) is = absurd (true≢false (sym has ∙ no_fin))
-        by None was true has (Meets.before low) is = let same = same_Some (pos + length payload) at is in let one = ap one_if has in inl (omega (arith, same, low, one))
-        by None was true has (Meets.behind high) is = let same = same_Some (pos + length payload) at is in inr (omega (arith, same, high))
+        by None was true has (Meets.is_empty none no_fin) is = absurd (true≢false (sym has ∙ no_fin))
+        by None was true has (Meets.has_all low high no_fin) is = absurd (true≢false (sym has ∙ no_fin))
+        by None was true has (Meets.lies_before low) is = let same = same_Some (pos + length payload) at is in let one = ap one_if has in inl (omega (arith, same, low, one))
+        by None was true has (Meets.lies_behind high) is = let same = same_Some (pos + length payload) at is in inr (omega (arith, same, high))
 
     taken_uncut : (t : EndState) → t.recv ≡ (with_payload (means.Taken pos a) payload e).recv → t.fin_at ≡ first_fin e.fin_at has_fin (pos + length payload) → IsUncut t
     taken_uncut t recv_is fin_is = by payload refl recv_is
       where
-        abbrev Given : List ℕ → Type 0
-        Given os = t.recv ≡ (with_payload (means.Taken pos a) os e).recv
-
         -- a FIN that was passed is
         still_over : (o : Option ℕ) (edge : ℕ) → is_behind o edge ≡ true → is_behind (first_fin o has_fin (pos + length payload)) edge ≡ true
         still_over None edge is = absurd (true≢false (sym is))
@@ -247,7 +244,7 @@ module _ (first last : ℕ) where
         over : t.recv.edge ≡ e.recv.edge → is_fin_passed e ≡ true → is_fin_passed t ≡ true
         over edge is = ap (λ o. is_behind o t.recv.edge) fin_is ∙ ap (λ edge. is_behind (first_fin e.fin_at has_fin (pos + length payload)) edge) edge ∙ still_over e.fin_at e.recv.edge is
 
-        by : (os : List ℕ) → payload ≡ os → Given os → IsUncut t
+        by : (os : List ℕ) → payload ≡ os → t.recv ≡ (with_payload (means.Taken pos a) os e).recv → IsUncut t
         by [] is given = record {
           edge = subst (λ (v : Receiving). (v.edge ≤ first) ⊎ (last ≤ v.edge)) (sym given) h.edge;
           kept = subst AllOrNone (sym given) h.kept;
@@ -263,20 +260,20 @@ module _ (first last : ℕ) where
 
   -- ---- a piece
 
+  abbrev advanced : ℕ → EndState → Receiving
+  advanced n t = after_advance (t.recv.edge + n) t.recv
+
   advanced_uncut : (n : ℕ) (t : EndState) → (t.recv.edge + n ≤ first) ⊎ (last ≤ t.recv.edge + n) → IsUncut t → IsUncut (record t { recv = after_advance (t.recv.edge + n) t.recv })
-  advanced_uncut n t clear h = record { edge = clear; kept = moved; held = inl (alike to (after_keep_held to) (le_refl (t.recv.edge + n)) (λ pos from below. refl) moved); fin = h.fin }
+  advanced_uncut n t clear h = record { edge = clear; kept = moved; held = inl (alike (advanced n t) (after_keep_held (advanced n t)) (le_refl (t.recv.edge + n)) (λ pos from below. refl) moved); fin = h.fin }
     where
-      abbrev to : Receiving
-      to = after_advance (t.recv.edge + n) t.recv
-
       -- what lies behind RCV.NXT stays
-      stays : (pos : ℕ) → t.recv.edge + n ≤ pos → octet_at pos to ≡ octet_at pos t.recv
-      stays pos high = inside pos to high ∙ place_drop (t.recv.edge + n - t.recv.edge) (pos - (t.recv.edge + n)) (pos - t.recv.edge) t.recv.places (omega (arith, high)) ∙ sym (inside pos t.recv (omega (arith, high)))
+      stays : (pos : ℕ) → t.recv.edge + n ≤ pos → octet_at pos (advanced n t) ≡ octet_at pos t.recv
+      stays pos high = inside pos (advanced n t) high ∙ place_drop (t.recv.edge + n - t.recv.edge) (pos - (t.recv.edge + n)) (pos - t.recv.edge) t.recv.places (omega (arith, high)) ∙ sym (inside pos t.recv (omega (arith, high)))
 
-      moved : AllOrNone to
+      moved : AllOrNone (advanced n t)
       moved = ⊎_elim
-          (λ low. alike t.recv to (omega arith) (λ pos from below. stays pos (omega (arith, low, from))) h.kept)
-          (λ high. AllOrNone.all (λ pos from below. inl (omega (arith, high, below))))
+          (λ low. alike t.recv (advanced n t) (omega arith) (λ pos from below. stays pos (omega (arith, low, from))) h.kept)
+          (λ high. AllOrNone.has_each (λ pos from below. inl (omega (arith, high, below))))
           clear
 
   -- what may be passed without a fallback
@@ -306,8 +303,15 @@ module _ (first last : ℕ) where
     -- so many octets go as the mapping has from there on, or as stand in order
     module _ (kept : KeptMapping) (here : mapping_at e.receiving.mappings e.tcp.recv.edge ≡ Some kept) (is : some_piece (named_piece kept e.tcp.recv.edge (filled e.tcp.recv.places)) ≡ Some piece)
         (low : e.tcp.recv.edge ≤ first) (over : first < e.tcp.recv.edge + length piece.octets) (under : e.tcp.recv.edge + length piece.octets < last) where
-      count : n ≡ min (count_in edge_now kept) (length (filled places))
+      covered : (kept.pos ≤ edge_now) × (edge_now < kept.pos + octets_of kept)
+      covered =
+          let found = mapping_found e.receiving.mappings edge_now edge_now kept live here in
+          let parts = and_parts (nat_le kept.pos edge_now) (nat_lt edge_now (run_of kept).to) found.fits in
+          let high = ltb-true edge_now (run_of kept).to parts.1 in (leb-true kept.pos edge_now parts.0, omega (arith, high))
+
+      count : n ≡ min (kept.pos + octets_of kept - edge_now) (length (filled places))
       count = ap (λ (x : Piece). length x.octets) (sym (some_is (named_piece kept edge_now (filled places)) piece is)) ∙ length-take (count_in edge_now kept) (filled places)
+          ∙ ap (λ m. min m (length (filled places))) (count_is (2 ^ 62) kept.pos (octets_of kept) edge_now kept.place covered.0 covered.1 (mapping_found e.receiving.mappings edge_now edge_now kept live here).within)
 
       few : n ≤ length (filled places)
       few = let so = count in omega (arith, so)
@@ -325,18 +329,15 @@ module _ (first last : ℕ) where
               filled_more places n octet few (sym (ap (λ i. place_at i places) index) ∙ sym (inside (edge_now + n) e.tcp.recv (omega arith)) ∙ is)
 
           by : AllOrNone e.tcp.recv → n < length (filled places)
-          by (AllOrNone.none so) = absurd (so first stands.0 (le_refl first) (omega (arith, over, under)) stands.1)
-          by (AllOrNone.all so) = ⊎_elim (λ passed. absurd (omega (arith, passed))) (λ there. behind_them there.0 there.1) (so (edge_now + n) (omega (arith, over)) under)
+          by (AllOrNone.has_none so) = absurd (so first stands.0 (le_refl first) (omega (arith, over, under)) stands.1)
+          by (AllOrNone.has_each so) = ⊎_elim (λ passed. absurd (omega (arith, passed))) (λ there. behind_them there.0 there.1) (so (edge_now + n) (omega (arith, over)) under)
 
       cut_off : ⊥
       cut_off =
           let found = mapping_found e.receiving.mappings edge_now edge_now kept live here in
-          let parts = and_parts (nat_le kept.pos edge_now) (nat_lt edge_now (run_of kept).to) found.fits in
-          let from = leb-true kept.pos edge_now parts.0 in let to = ltb-true edge_now (run_of kept).to parts.1 in
-          let whole = count_is (2 ^ 62) kept.pos (octets_of kept) edge_now kept.place from (omega (arith, to)) found.within in
-          let so = count in let left = more in
-          let same = ends found.at kept found.there (omega (arith, from, low)) (omega (arith, so, left, whole, over, from)) in
-          omega (arith, so, left, whole, same, under, from, low, over)
+          let from = covered.0 in let to = covered.1 in let so = count in let left = more in
+          let same = ends found.at kept found.there (omega (arith, from, low)) (omega (arith, so, left, over, from, to)) in
+          omega (arith, so, left, same, under, from, to, low, over)
 
     clear : Clear
     clear = by_here (receives_plainly e.modes edge_now) (by_mapping e.modes.identity (covers e.modes.peer_infinite edge_now) c.spelling.checksums (some_piece (plain_piece e.tcp)) (infinite_piece e.modes.peer_infinite e.tcp) (mapping_here e) e.tcp piece mapped finite unchecked is_next)

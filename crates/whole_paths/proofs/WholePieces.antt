@@ -339,10 +339,10 @@ both_granted alters checked paths buffer capacity events =
 
 -- a segment of so many octets from a position on has none of these positions, or all
 pub data Meets (first last pos len : ℕ) (fin : Bool) : Type 0 where
-  empty : len ≡ 0 → fin ≡ false → Meets first last pos len fin
-  before : pos + len + one_if fin ≤ first → Meets first last pos len fin
-  behind : last ≤ pos → Meets first last pos len fin
-  whole : pos ≤ first → last ≤ pos + len → fin ≡ false → Meets first last pos len fin
+  is_empty : len ≡ 0 → fin ≡ false → Meets first last pos len fin
+  lies_before : pos + len + one_if fin ≤ first → Meets first last pos len fin
+  lies_behind : last ≤ pos → Meets first last pos len fin
+  has_all : pos ≤ first → last ≤ pos + len → fin ≡ false → Meets first last pos len fin
 
 -- of a record of data that isn't acknowledged whole: each copy to the peer has all of it or none, each mapping that the peer knows ends where it does, and
 -- its FIN stands behind it
@@ -428,13 +428,13 @@ module _ (path : ℕ) (v : View) (p : Lane) (holds : LaneHolds v path p) (h : Is
       where
         data_meets : x.fin ≡ false → HasData p.datas x.position x.payload → Meets first (first + length piece) x.position (length x.payload) x.fin
         data_meets none has = ⊎_elim
-            (λ low. Meets.before (let zeroth = ap one_if none in omega (arith, low, zeroth)))
-            (λ rest. ⊎_elim (λ low. Meets.behind low) (λ same. Meets.whole (let at = same.0 in omega (arith, at)) (let end = same.1 in omega (arith, end)) none) rest)
+            (λ low. Meets.lies_before (let zeroth = ap one_if none in omega (arith, low, zeroth)))
+            (λ rest. ⊎_elim (λ low. Meets.lies_behind low) (λ same. Meets.has_all (let at = same.0 in omega (arith, at)) (let end = same.1 in omega (arith, end)) none) rest)
             (meets x.position (length x.payload) (piece_of_data x.position x.payload has))
 
         by : (b : Bool) → x.fin ≡ b → Meets first (first + length piece) x.position (length x.payload) x.fin
-        by true is = Meets.behind (fin_behind x.position (shows.fin is).1)
-        by false is = ⊎_elim (λ none. Meets.empty (ap (λ (os : List ℕ). length os) none) is) (λ has. data_meets is has) shows.payload
+        by true is = Meets.lies_behind (fin_behind x.position (shows.fin is).1)
+        by false is = ⊎_elim (λ none. Meets.is_empty (ap (λ (os : List ℕ). length os) none) is) (λ has. data_meets is has) shows.payload
 
     mapping_ends : (live : List KeptMapping) → Every (KeptShows p.maps) live → (i : ℕ) (m : KeptMapping) → slice_get live i ≡ Some m → m.pos ≤ first → first < m.pos + octets_of m → m.pos + octets_of m ≡ first + length piece
     mapping_ends live known i m at low high = ⊎_elim

@@ -108,14 +108,6 @@ RecordsArePassedWhole = (start : Start) (plan : PathPlan) (s : Side) → BeginsW
 abbrev pub NumbersAlwaysAgree : Type 0
 NumbersAlwaysAgree = (start : Start) (plan : PathPlan) (s : Side) → BeginsWithOnePath start plan → NumbersAgree start s
 
--- where records are passed whole
-abbrev pub NumbersAgreeSo : Type 0
-NumbersAgreeSo = (start : Start) (plan : PathPlan) (s : Side) → BeginsWithOnePath start plan → ArePassedWhole start s → NumbersAgree start s
-
--- with checksums always
-abbrev pub CheckedNumbersAgree : Type 0
-CheckedNumbersAgree = (start : Start) (plan : PathPlan) (s : Side) → BeginsWithOnePath start plan → start.checksums ≡ true → NumbersAgree start s
-
 -- Where numbers agree, and there are no more debts than harms at each open moment, debts along a direction are mended.
 abbrev pub DirectionsAreMended : Type 0
 DirectionsAreMended = (start : Start) (plan : PathPlan) (most : ℕ) (s : Side) → BeginsWithOnePath start plan → NumbersAgree start s
