@@ -202,7 +202,7 @@ module _ (start : Start) (unchecked : start.checksums ≡ false) (p : PathState 
     opens = λ x to a is. opens_without x to a is;
   }
 
-  pub turned_uncut : (q : PathState Carried) → Becomes values p q → Uncut (end_at t p).tcp → Uncut (end_at t q).tcp
+  turned_uncut : (q : PathState Carried) → Becomes values p q → Uncut (end_at t p).tcp → Uncut (end_at t q).tcp
   turned_uncut q Becomes.stays h = h
   turned_uncut q (Becomes.takes_a_reply r) h = ⊎_elim (λ held. held) (λ never. absurd never) (takes_goes Uncut Unchecked values Never (uncut_so first last) r p t fits h)
   turned_uncut q Becomes.begins_anew h = next_goes Uncut Unchecked values Never (uncut_so first last) p t (k.first.checksums ∙ unchecked) h
@@ -291,11 +291,8 @@ module _ (start : Start) (mild : IsMildStart start) (unchecked : start.checksums
 
   -- at first no end has a record of data
   opened_uncut : (number : ℕ) (plan : PathPlan) → AllUncut (begins_turn (waiting_path (path_begins start number plan) start.lines))
-  opened_uncut number plan living s r one kind = absurd (none s ((begins_lasts SameRecords same_lasts first) s) one)
+  opened_uncut number plan living s r one kind = absurd (let p : PathState Carried = waiting_path (path_begins start number plan) start.lines in none s ((begins_lasts SameRecords same_lasts p) s) one)
     where
-      first : PathState Carried
-      first = waiting_path (path_begins start number plan) start.lines
-
       syn_alone : (rs : List Record) (i : ℕ) → rs ≡ syn_record never_sent ∷ [] → slice_get rs i ≡ Some r → ⊥
       syn_alone rs i is at = by i (sym (ap (λ (xs : List Record). slice_get xs i) is) ∙ at)
         where
