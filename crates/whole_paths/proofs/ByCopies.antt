@@ -57,7 +57,7 @@ use Rattle.path_core.specs.OptionsIn.{hint_of, items_of, options_heard, owes_by}
 use Rattle.path_core.specs.Profile.{Profile}
 use Rattle.path_core.specs.Standing.{after_ack_out, answered_ack_out}
 use Rattle.path_core.specs.State.{PathState, at_tick, end_at, goes_on, with_agenda}
-use Rattle.path_core.specs.Steps.{takes}
+use Rattle.path_core.specs.Steps.{next_round, takes}
 use Rattle.path_core.specs.Timer.{after_firing, timer_fired, with_timer_settled}
 use Rattle.path_core.specs.Treating.{answered_heard, answered_item, item_of, item_passed}
 use Rattle.path_core.specs.declared.events.Event.{Event}
@@ -283,7 +283,7 @@ module _ (Holds : EndState → Type 0) (May : Profile → Type 0) where
         abbrev Stays : PathEnd → Type 0
         Stays f = Holds f.tcp ⊎ Over s p
 
-        copy : (segment : HeardSegment) → heard_in k s (arriving due p.link) p ≡ Some segment → Comes k p
+        abbrev copy : (segment : HeardSegment) → heard_in k s (arriving due p.link) p ≡ Some segment → Comes k p
         copy segment heard = record { others = others; first = first; due = due; next = next; segment = segment; heard = heard }
 
         meant : (segment : HeardSegment) (heard : heard_in k s (arriving due p.link) p ≡ Some segment) (m : Meaning) → judged_in (is_joined p.profile) s (options_heard e segment) e ≡ judged.As m

@@ -63,24 +63,24 @@ mapped : (nxt : ℕ) (f : Record → Record) → ((x : Record) → IsSameRecord 
 mapped nxt f same rs i t at = let found = in_map f rs i t at in inl (record { at = i; item = found.0; there = found.1; holds = subst (IsSameRecord found.0) found.2 (same found.0) })
 
 uncovered_old : (nxt pos : ℕ) (rs : List Record) → AllOld nxt rs (uncovered pos rs)
-uncovered_old nxt pos [] i t at = cc
-uncovered_old nxt pos (r ∷ rs) = by (nat_le (end_of r) pos)
+uncovered_old nxt pos [] = same_old nxt []
+uncovered_old nxt pos (r ∷ rs) = by (nat_le (end_of r) pos) (uncovered_old nxt pos rs)
   where
-    by : (b : Bool) → AllOld nxt (r ∷ rs) (if b then uncovered pos rs else r ∷ rs)
-    by true i t at = behind nxt r t rs (uncovered_old nxt pos rs i t at)
-    by false = same_old nxt (r ∷ rs)
+    by : (b : Bool) → AllOld nxt rs (uncovered pos rs) → AllOld nxt (r ∷ rs) (if b then uncovered pos rs else r ∷ rs)
+    by true rest = λ i t at. behind nxt r t rs (rest i t at)
+    by false rest = same_old nxt (r ∷ rs)
 
 first_old : (nxt now : ℕ) (rs : List Record) → AllOld nxt rs (first_sent now rs)
-first_old nxt now [] i t at = cc
+first_old nxt now [] = same_old nxt []
 first_old nxt now (r ∷ rs) = front nxt r _ rs rs (record { pos = refl; kind = refl; piece = refl; mapping = refl }) (same_old nxt rs)
 
 unsent_old : (nxt now : ℕ) (rs : List Record) → AllOld nxt rs (first_unsent_sent now rs)
-unsent_old nxt now [] i t at = cc
-unsent_old nxt now (r ∷ rs) = by (is_unsent r)
+unsent_old nxt now [] = same_old nxt []
+unsent_old nxt now (r ∷ rs) = by (is_unsent r) (unsent_old nxt now rs)
   where
-    by : (b : Bool) → AllOld nxt (r ∷ rs) (if b then record r { sending = sent_again now r.sending } ∷ rs else r ∷ first_unsent_sent now rs)
-    by true = first_old nxt now (r ∷ rs)
-    by false = front nxt r r rs (first_unsent_sent now rs) (same_record r) (unsent_old nxt now rs)
+    by : (b : Bool) → AllOld nxt rs (first_unsent_sent now rs) → AllOld nxt (r ∷ rs) (if b then record r { sending = sent_again now r.sending } ∷ rs else r ∷ first_unsent_sent now rs)
+    by true rest = first_old nxt now (r ∷ rs)
+    by false rest = front nxt r r rs (first_unsent_sent now rs) (same_record r) rest
 
 fin_same : (now : ℕ) (r : Record) → IsSameRecord r (fin_sent now r)
 fin_same now r = by (is_fin r.kind)
@@ -89,7 +89,7 @@ fin_same now r = by (is_fin r.kind)
     by = elim [ true ↦ record { pos = refl; kind = refl; piece = refl; mapping = refl } | false ↦ same_record r ]
 
 expired_old : (nxt : ℕ) (rs : List Record) → AllOld nxt rs (expired_records rs)
-expired_old nxt [] i t at = cc
+expired_old nxt [] = same_old nxt []
 expired_old nxt (r ∷ rs) = front nxt r _ rs (map unsent_again rs) (record { pos = refl; kind = refl; piece = refl; mapping = refl })
     (mapped nxt unsent_again (λ x. record { pos = refl; kind = refl; piece = refl; mapping = refl }) rs)
 

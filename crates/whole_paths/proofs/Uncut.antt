@@ -233,7 +233,7 @@ module _ (first last : ℕ) where
         by None was true has (Meets.lies_before low) is = let same = same_Some (pos + length payload) at is in let one = ap one_if has in inl (omega (arith, same, low, one))
         by None was true has (Meets.lies_behind high) is = let same = same_Some (pos + length payload) at is in inr (omega (arith, same, high))
 
-    taken_uncut : (t : EndState) → t.recv ≡ (with_payload (means.Taken pos a) payload e).recv → t.fin_at ≡ first_fin e.fin_at has_fin (pos + length payload) → IsUncut t
+    pub taken_uncut : (t : EndState) → t.recv ≡ (with_payload (means.Taken pos a) payload e).recv → t.fin_at ≡ first_fin e.fin_at has_fin (pos + length payload) → IsUncut t
     taken_uncut t recv_is fin_is = by payload refl recv_is
       where
         -- a FIN that was passed is
@@ -279,10 +279,10 @@ module _ (first last : ℕ) where
   -- what may be passed without a fallback
   by_mapping : (plainly infinite checks : Bool) (plain inf : Option Piece) (here : Option KeptMapping) (s : EndState) (piece : Piece) → plainly ≡ false → infinite ≡ false → checks ≡ false
       → (if plainly then plain else (if infinite then inf else piece_by checks here s)) ≡ Some piece → piece_by false here s ≡ Some piece
-  by_mapping true infinite checks plain inf here s piece no none unchecked is = absurd (true≢false no)
-  by_mapping false true checks plain inf here s piece no none unchecked is = absurd (true≢false none)
-  by_mapping false false true plain inf here s piece no none unchecked is = absurd (true≢false unchecked)
-  by_mapping false false false plain inf here s piece no none unchecked is = is
+  by_mapping true infinite checks plain inf here s piece unplain unmapped unchecked is = absurd (true≢false unplain)
+  by_mapping false true checks plain inf here s piece unplain unmapped unchecked is = absurd (true≢false unmapped)
+  by_mapping false false true plain inf here s piece unplain unmapped unchecked is = absurd (true≢false unchecked)
+  by_mapping false false false plain inf here s piece unplain unmapped unchecked is = is
 
   module _ (c : Profile) (e : PathEnd) (unchecked : c.spelling.checksums ≡ false) (mapped : e.modes.identity ≡ false) (finite : covers e.modes.peer_infinite e.tcp.recv.edge ≡ false)
       (live : AreLive e.receiving.mappings e.tcp.recv.edge)
@@ -359,7 +359,7 @@ module _ (first last : ℕ) where
         by_here true is = cc
         by_here false is = by_kept (mapping_at e.receiving.mappings edge_now) refl is
 
-    passes_uncut : IsUncut (record e.tcp { recv = after_advance (e.tcp.recv.edge + length piece.octets) e.tcp.recv })
+    pub passes_uncut : IsUncut (record e.tcp { recv = after_advance (e.tcp.recv.edge + length piece.octets) e.tcp.recv })
     passes_uncut = advanced_uncut n e.tcp clear h
 
   -- ---- checks

@@ -240,9 +240,8 @@ module _ (p : Lane) (b : BytesHold p.alters p.sent p.pieces p.datas p.edge p.kep
   set_goes reassembly_replies.FinSet = unmoved (refl, refl)
   set_goes _ = unmoved (refl, refl)
 
-  told_goes : (r : ReassemblyReply) → IsGranted (takes_ack_out r p)
-  told_goes (reassembly_replies.Ack next window) = unmoved (refl, refl)
-  told_goes _ = unmoved (refl, refl)
+  told_goes : (next window : ℕ) → IsGranted (takes_ack_out (reassembly_replies.Ack next window) p)
+  told_goes next window = unmoved (refl, refl)
 
 -- two pieces that have a position in common are the same
 one_piece : (p : Lane) → IsGranted p → (i j : ℕ) (m n : Mapping) → slice_get p.pieces i ≡ Some m → slice_get p.pieces j ≡ Some n → (m.pos + m.len ≤ n.pos → ⊥) → (n.pos + n.len ≤ m.pos → ⊥) → m ≡ n
@@ -269,7 +268,7 @@ module _ (f : Flags) (d : Direction) (holds : DirectionHolds f d) (h : AreGrante
   asks_goes path p there (AskAckIn next window) = lane_goes path p _ there (λ b c. ack_goes p b c next _)
   asks_goes path p there (AskPlace at bytes) = lane_goes path p _ there (λ b c. arrived_goes p b c (length bytes) _)
   asks_goes path p there (AskFin at) = lane_goes path p _ there (λ b c. set_goes p b c _)
-  asks_goes path p there AskAckOut = lane_goes path p _ there (λ b c. told_goes p b c _)
+  asks_goes path p there AskAckOut = lane_goes path p _ there (λ b c. told_goes p b c _ _)
 
   asked_goes : (path : ℕ) (o : Option Lane) → slice_get d.lanes path ≡ o → AreGranted (asks_at path o d)
   asked_goes path None there = h
