@@ -1,5 +1,5 @@
 -- What holds of an end's subflow and changes by three things alone: by a copy that the end takes, as RCV.NXT passes a piece, and where octets are let go.
-use Rattle.std.proofs.Common.{◌≡◌, refl, sym, subst, ap, ◌∙◌, ◌⊎◌, inl, inr, ⊎_elim, ℕ, zero, suc, ◌+◌, ◌-◌, ◌^◌, ◌<◌, ◌≤◌, arith, nat_lt, nat_le, ◌&&◌, Bool, true, false, true≢false, if◌then◌else◌, Option, Some, None, List, [], ◌∷◌, length}
+use Rattle.std.proofs.Common.{◌≡◌, refl, sym, subst, ap, ◌∙◌, ◌⊎◌, inl, inr, ⊎_elim, ℕ, ◌+◌, Bool, true, false, true≢false, if◌then◌else◌, Option, Some, None, List, [], ◌∷◌, length}
 use Rattle.path_segments.specs.Heard.{HeardSegment}
 use Rattle.sides.specs.declared.side.Side.{Side}
 use Rattle.sides.specs.declared.side.Side.TheVariants.{A, B}
@@ -8,18 +8,17 @@ use Rattle.join_handshake.specs.declared.hearing.JoinSyn.{JoinSyn}
 use Rattle.fallback_state.specs.declared.fall.Event.TheVariants as events
 use Rattle.link_model.specs.declared.flight.Due.{Due}
 use Rattle.link_model.specs.Steps.{after_delivery, arriving}
-use Rattle.subflow_recv.specs.Receiving.{Receiving, after_advance, after_forget_from, after_hold, after_keep_held, after_pass, cut, filled, octet_at, place_at, window_end, without_held}
+use Rattle.subflow_recv.specs.Receiving.{after_advance}
 use Rattle.subflow_send.specs.Rules.{ack_kind, after_acknowledge, sample_of}
 use Rattle.subflow_send.specs.declared.record.AckKind.TheVariants.{New, Duplicate, Old, Future}
 use Rattle.subflow_tcp.specs.declared.segments.Hint.{Hint}
 use Rattle.subflow_tcp.specs.declared.verdicts.Meaning.{Meaning}
 use Rattle.subflow_tcp.specs.declared.verdicts.Meaning.TheVariants as means
-use Rattle.subflow_tcp.specs.Closing.{after_passing_fin, is_fin_next}
 use Rattle.subflow_tcp.specs.Expiring.{after_expiry, is_sixth}
-use Rattle.subflow_tcp.specs.Judging.{is_at, meaning_of}
+use Rattle.subflow_tcp.specs.Judging.{meaning_of}
 use Rattle.subflow_tcp.specs.Opening.{after_begin}
 use Rattle.subflow_tcp.specs.Segments.{Copy}
-use Rattle.subflow_tcp.specs.State.{EndState, is_behind, is_fin_passed}
+use Rattle.subflow_tcp.specs.State.{EndState}
 use Rattle.subflow_tcp.specs.States.{is_dead, is_waiting}
 use Rattle.subflow_tcp.specs.declared.handshake.State.TheVariants as phase
 use Rattle.subflow_tcp.specs.Taking.{after_ack_kind, after_acknowledgement, after_death, after_duplicate, after_established, after_hearing, after_heard_ack, after_interruption, after_payload, after_syn, after_taken, after_telling, first_fin, is_duplicate, told_by, unkept}
@@ -36,16 +35,15 @@ use Rattle.path_agenda.specs.declared.duty.StepDuty.TheVariants as step_duties
 use Rattle.path_agenda.specs.declared.heard.Heard.{Heard}
 use Rattle.path_agenda.specs.declared.heard.Heard.TheVariants as says
 use Rattle.path_agenda.specs.declared.keys.KeyPair.{KeyPair}
-use Rattle.path_store.specs.Passing.{Piece, some_piece}
+use Rattle.path_store.specs.Passing.{Piece}
 use Rattle.path_store.specs.declared.lines.LineAction.{LineAction}
 use Rattle.path_store.specs.declared.lines.LineAction.TheVariants as actions
-use Rattle.path_store.specs.InfiniteMappings.{covers}
 use Rattle.path_core.specs.Addresses.{with_priority}
 use Rattle.path_core.specs.Arrival.{after_judged, copy_heard, copy_judged, copy_of, heard_in, judged_in, owing_if, reset_for, with_payload}
 use Rattle.path_core.specs.Breaking.{answered_break, died_unless_dead, reset_on}
 use Rattle.path_core.specs.Codec.{Codec}
 use Rattle.path_core.specs.DataFin.{after_pass_fin}
-use Rattle.path_core.specs.Deliver.{after_check, after_keep, after_piece, after_pieces, answered_piece, having_asked, infinite_piece, is_dropped, is_placed, mapping_here, next_piece, piece_by, piece_of, plain_piece}
+use Rattle.path_core.specs.Deliver.{after_check, after_keep, after_piece, after_pieces, answered_piece, having_asked, is_placed, next_piece, piece_of}
 use Rattle.path_core.specs.DssIn.{held_of, is_clash, with_learned}
 use Rattle.path_core.specs.Duties.{answered, passed}
 use Rattle.path_core.specs.End.{PathEnd, died}

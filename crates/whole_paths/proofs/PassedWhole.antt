@@ -1,6 +1,5 @@
 -- Without checksums, too, an end passes each record of data of its peer's whole: none of its octets came, or all.
 use Rattle.std.proofs.Common.{◌≡◌, refl, sym, subst, ap, ◌∙◌, ◌⊎◌, inl, inr, ⊎_elim, ℕ, zero, suc, ◌+◌, ◌<◌, ◌≤◌, ◌&&◌, ◌==◌, arith, Bool, true, false, true≢false, Option, Some, None, IfSome, List, [], ◌∷◌, ◌++◌, length}
-use Rattle.std.specs.Prelude.{find}
 use Rattle.std.specs.List.{slice_get}
 use Rattle.std.proofs.lemmas.Bool.{and_parts, cases_lt}
 use Rattle.std.proofs.lemmas.Option.{same_Some}
@@ -10,38 +9,31 @@ use Rattle.sides.specs.declared.side.Side.{Side}
 use Rattle.sides.specs.declared.side.Side.TheVariants.{A, B}
 use Rattle.sides.specs.Side.{peer}
 use Rattle.link_script.specs.Places.{same_side}
-use Rattle.link_model.specs.declared.flight.Due.{Due}
 use Rattle.link_model.specs.declared.flight.Flight.{Flight}
 use Rattle.link_model.specs.Steps.{arriving, is_due}
 use Rattle.stream_lanes.specs.Words.{Every, Has}
 use Rattle.dss_mapping.specs.Mappings.{octets_of}
 use Rattle.dss_mapping.specs.declared.kept.KeptMapping.{KeptMapping}
-use Rattle.subflow_recv.specs.Receiving.{after_keep_held, octet_at, window_end}
+use Rattle.subflow_recv.specs.Receiving.{after_keep_held, window_end}
 use Rattle.subflow_send.specs.Records.{Record, end_of}
 use Rattle.subflow_send.specs.Sendings.{never_sent}
 use Rattle.subflow_send.specs.Rules.{syn_record}
-use Rattle.subflow_send.specs.declared.record.RecordKind.{RecordKind}
 use Rattle.subflow_send.specs.declared.record.RecordKind.TheVariants.{Data, Syn}
 use Rattle.subflow_tcp.specs.Judging.{meaning_of}
 use Rattle.subflow_tcp.specs.State.{EndState, is_fin_passed}
 use Rattle.subflow_tcp.specs.States.{is_dead}
 use Rattle.subflow_tcp.specs.Taking.{first_fin}
 use Rattle.subflow_tcp.specs.declared.verdicts.Meaning.TheVariants as means
-use Rattle.actor_desk.specs.declared.ask.Reply.{Reply}
 use Rattle.path_store.specs.InfiniteMappings.{covers}
-use Rattle.path_store.specs.Passing.{Piece}
-use Rattle.path_core.specs.Arrival.{copy_of, heard_in, judged_in, with_payload}
-use Rattle.path_core.specs.Deliver.{next_piece}
+use Rattle.path_core.specs.Arrival.{copy_of, heard_in, with_payload}
 use Rattle.path_core.specs.End.{PathEnd}
 use Rattle.path_core.specs.Judged.{judged_of, taken_as}
-use Rattle.path_core.specs.MpJoin.{is_joined}
 use Rattle.path_core.specs.OptionsIn.{items_of, options_heard}
 use Rattle.path_core.specs.Profile.{Profile}
 use Rattle.path_core.specs.Start.{waiting_path}
 use Rattle.path_core.specs.State.{PathState, end_at}
 use Rattle.path_core.specs.Steps.{begins_turn, next_round, takes}
 use Rattle.path_core.specs.Values.{Carried, as_arrived, values}
-use Rattle.world_laws.specs.Actors.{ActorCrew}
 use Rattle.world_laws.specs.Members.{HoldsOfKind}
 use Rattle.world_laws.specs.Openings.{PathPlan, Start, opened_world, path_begins}
 use Rattle.world_laws.specs.RoundDone.{reached}

@@ -1,91 +1,37 @@
--- How far what an end has reaches, and which octets it lacks: only a copy that it takes brings more, and RCV.NXT moves over what came alone.
+-- How far what an end has reaches: only a copy that it takes brings more, and RCV.NXT moves over what came alone.
 use Rattle.std.proofs.Common.{◌≡◌, refl, sym, subst, ap, ◌∙◌, ◌⊎◌, inl, inr, ⊎_elim, ℕ, zero, suc, ◌+◌, ◌-◌, ◌^◌, ◌<◌, ◌≤◌, arith, nat_lt, nat_le, ◌&&◌, Bool, true, false, true≢false, if◌then◌else◌, Option, Some, None, List, [], ◌∷◌, length}
 use Rattle.std.specs.List.{slice_get}
 use Rattle.std.proofs.lemmas.Bool.{and_parts, cases_lt, eqb-true, le-ltb, lt-ltb}
 use Rattle.std.proofs.lemmas.Option.{same_Some, slice_get_within}
-use Rattle.path_segments.specs.Heard.{HeardSegment}
 use Rattle.sides.specs.declared.side.Side.{Side}
-use Rattle.sides.specs.declared.side.Side.TheVariants.{A, B}
-use Rattle.sides.specs.Side.{peer}
-use Rattle.join_handshake.specs.declared.hearing.JoinSyn.{JoinSyn}
-use Rattle.fallback_state.specs.declared.fall.Event.TheVariants as events
-use Rattle.link_model.specs.declared.flight.Due.{Due}
-use Rattle.link_model.specs.Steps.{after_delivery, arriving}
 use Rattle.subflow_recv.specs.Laws.{first_of, payload_octet}
 use Rattle.subflow_recv.specs.Receiving.{Receiving, after_advance, after_forget_from, after_hold, after_keep_held, after_pass, cut, filled, octet_at, place_at, window_end, without_held}
 use Rattle.subflow_recv.proofs.ByPosition.{forgotten_octets_are_gone_lem, what_comes_first_is_kept_lem}
-use Rattle.subflow_send.specs.Rules.{ack_kind, after_acknowledge, sample_of}
-use Rattle.subflow_send.specs.declared.record.AckKind.TheVariants.{New, Duplicate, Old, Future}
-use Rattle.subflow_tcp.specs.declared.segments.Hint.{Hint}
-use Rattle.subflow_tcp.specs.declared.verdicts.Meaning.{Meaning}
 use Rattle.subflow_tcp.specs.declared.verdicts.Meaning.TheVariants as means
 use Rattle.subflow_tcp.specs.Closing.{after_passing_fin, is_fin_next}
-use Rattle.subflow_tcp.specs.Expiring.{after_expiry, is_sixth}
-use Rattle.subflow_tcp.specs.Judging.{is_at, meaning_of}
-use Rattle.subflow_tcp.specs.Opening.{after_begin}
-use Rattle.subflow_tcp.specs.Segments.{Copy}
+use Rattle.subflow_tcp.specs.Judging.{is_at}
 use Rattle.subflow_tcp.specs.State.{EndState, is_behind, is_fin_passed}
-use Rattle.subflow_tcp.specs.States.{is_dead, is_waiting}
-use Rattle.subflow_tcp.specs.Taking.{after_ack_kind, after_acknowledgement, after_death, after_duplicate, after_established, after_hearing, after_heard_ack, after_interruption, after_payload, after_syn, after_taken, after_telling, first_fin, is_duplicate, told_by, unkept}
+use Rattle.subflow_tcp.specs.Taking.{after_death, first_fin}
 use Rattle.actor_desk.specs.declared.ask.Reply.{Reply}
-use Rattle.actor_desk.specs.Words.{pick, tail_of}
-use Rattle.path_agenda.specs.Agenda.{emission, leaves, resets}
-use Rattle.path_agenda.specs.Words.{replaced}
-use Rattle.path_agenda.specs.declared.duty.Duty.{Duty}
-use Rattle.path_agenda.specs.declared.duty.Duty.TheVariants as duties
-use Rattle.path_agenda.specs.declared.duty.AskDuty.TheVariants as ask_duties
-use Rattle.path_agenda.specs.declared.duty.SendDuty.TheVariants as send_duties
-use Rattle.path_agenda.specs.declared.duty.SilentDuty.TheVariants as silent_duties
-use Rattle.path_agenda.specs.declared.duty.StepDuty.TheVariants as step_duties
-use Rattle.path_agenda.specs.declared.heard.Heard.{Heard}
-use Rattle.path_agenda.specs.declared.heard.Heard.TheVariants as says
-use Rattle.path_agenda.specs.declared.keys.KeyPair.{KeyPair}
 use Rattle.path_store.specs.Passing.{Piece, some_piece}
-use Rattle.path_store.specs.declared.lines.LineAction.{LineAction}
-use Rattle.path_store.specs.declared.lines.LineAction.TheVariants as actions
 use Rattle.path_store.specs.InfiniteMappings.{covers}
-use Rattle.path_core.specs.Addresses.{with_priority}
-use Rattle.path_core.specs.Arrival.{after_judged, copy_heard, copy_judged, copy_of, heard_in, judged_in, owing_if, reset_for, with_payload}
-use Rattle.path_core.specs.Breaking.{answered_break, died_unless_dead, reset_on}
+use Rattle.path_core.specs.Arrival.{with_payload}
 use Rattle.path_core.specs.Codec.{Codec}
 use Rattle.path_core.specs.DataFin.{after_pass_fin}
-use Rattle.path_core.specs.Deliver.{after_check, after_keep, after_piece, after_pieces, answered_piece, having_asked, infinite_piece, is_dropped, is_placed, mapping_here, next_piece, piece_by, piece_of, plain_piece}
-use Rattle.path_core.specs.DssIn.{held_of, is_clash, with_learned}
-use Rattle.path_core.specs.Duties.{answered, passed}
-use Rattle.path_core.specs.End.{PathEnd, died}
-use Rattle.path_core.specs.Events.{after_line, happens_if, next_event}
-use Rattle.path_core.specs.Fallback.{after_check_failed, after_fell, after_infinite, breaks_by_ack, fell_duties, with_plain_ack}
-use Rattle.path_core.specs.Judged.{taken_as}
-use Rattle.path_core.specs.MpJoin.{asked_at, is_joined, is_listening, is_never, join_taken, joined_by, keys_begun, never_joined, opened_by, syn_of_window, with_mode_refused}
-use Rattle.path_core.specs.OptionsIn.{hint_of, items_of, options_heard, owes_by}
+use Rattle.path_core.specs.Deliver.{after_keep, infinite_piece, is_dropped, mapping_here, next_piece, piece_by, plain_piece}
+use Rattle.path_core.specs.End.{PathEnd}
 use Rattle.path_core.specs.Profile.{Profile}
-use Rattle.path_core.specs.Standing.{after_ack_out, answered_ack_out}
-use Rattle.path_core.specs.State.{PathState, at_tick, end_at, goes_on, with_agenda}
-use Rattle.path_core.specs.Steps.{takes}
-use Rattle.path_core.specs.Timer.{after_firing, timer_fired, with_timer_settled}
-use Rattle.path_core.specs.Treating.{answered_heard, answered_item, item_of, item_passed}
-use Rattle.path_core.specs.declared.events.Event.{Event}
-use Rattle.path_core.specs.declared.events.Event.TheVariants as happenings
-use Rattle.path_core.specs.declared.judged.Judged.{Judged}
-use Rattle.path_core.specs.declared.judged.Judged.TheVariants as judged
-use Rattle.path_core.proofs.Judgements.{judged_taken}
+use Rattle.path_core.specs.State.{PathState, end_at}
 use Rattle.path_core.proofs.Sendings.{infinite_fits, piece_fits}
 use Rattle.world_laws.specs.declared.member.Member.TheVariants.{App, Path}
 use Rattle.world_laws.specs.Actors.{Actor, ActorCrew, member_next, member_takes}
 use Rattle.world_laws.specs.StampedBooks.{answer_to}
 use Rattle.world_laws.specs.Worlds.{WorldState, Turn, after_turn}
-use Rattle.world_laws.specs.Writes.{EndView, Only, OnlyAt, PathView, Writes, nothing, side_of, writes}
-use Rattle.world_laws.proofs.Falls.FailedChecks.{Forgets, check_failed_so, fail_answered_so, forgets_so, infinite_came_so}
-use Rattle.world_laws.proofs.Whole.Ends.{MeansIs, means_so}
-use Rattle.world_laws.proofs.Writes.Paths.{passes_no_more, writes_no_more}
-use Rattle.world_laws.proofs.Writes.Steps.{Lasts, begins_lasts, settled_lasts, unwritten}
+use Rattle.world_laws.proofs.Falls.FailedChecks.{Forgets, check_failed_so, forgets_so}
 use Rattle.whole_paths.specs.AsFar.{stage}
 use Rattle.whole_paths.specs.Brought.{Brings}
 use Rattle.whole_paths.specs.News.{one_if}
 use Rattle.whole_paths.proofs.ByCopies.{IsFit, IsKeptSo, next_goes, takes_goes}
-use Rattle.whole_paths.proofs.Moving.{item_tcp, taken_recv}
-use Rattle.whole_paths.proofs.Pieces.{is_event, own_only}
-use Rattle.whole_paths.proofs.Settling.{sides}
 use Rattle.whole_paths.proofs.Staying.{inside, place_drop}
 use Rattle.whole_paths.proofs.Turns.{turn_each}
 
@@ -384,33 +330,3 @@ module _ {C : Type 0} (k : Codec C) (n : ℕ) where
   pub ends_stay_below : (w : WorldState C) (turn : Turn) (actor : ℕ) (c : ActorCrew C) → slice_get w.crew actor ≡ Some c
       → (d : ActorCrew C) × (slice_get (after_turn k turn w).crew actor ≡ Some d) × BelowTo c.member d.member
   ends_stay_below w turn = ends_stay_so n (λ pos. pos < n) (not_before n) (GoesPast n) (goes_past n) k w turn
-
--- ---- but for a position
-
--- a segment covers it
-abbrev pub Covers : ℕ → ℕ → ℕ → Bool → Type 0
-Covers n at len fin = (at ≤ n) × (n < at + len + one_if fin)
-
-pub not_itself : (n : ℕ) → (n ≡ n → ⊥) → ⊥
-not_itself n apart = apart refl
-
-pub covers_it : (n at len : ℕ) (fin : Bool) → ((m : ℕ) → at ≤ m → m < at + len + one_if fin → m ≡ n → ⊥) ⊎ Covers n at len fin
-covers_it n at len fin = ⊎_elim
-    (λ before. inl (λ m from below is. omega (arith, before, from, is)))
-    (λ from_it. ⊎_elim (λ covered. inr (from_it, covered)) (λ past. inl (λ m from below is. omega (arith, past, below, is))) (cases_lt n (at + len + one_if fin)))
-    (cases_lt n at)
-
--- RCV.NXT isn't past the position, and no octet came for it
-abbrev pub HasNoneAt : ℕ → EndState → Type 0
-HasNoneAt n = IsBelowSo n (λ pos. pos ≡ n → ⊥)
-
-module _ {C : Type 0} (k : Codec C) (n : ℕ) where
-  abbrev pub BringsIt : Side → PathState C → Type 0
-  BringsIt = OvertakesSo n (λ pos. pos ≡ n → ⊥) (not_itself n) (Covers n) (covers_it n) k
-
-  abbrev pub NoneComes : Actor C → Actor C → Type 0
-  NoneComes = BelowSo n (λ pos. pos ≡ n → ⊥) (not_itself n) (Covers n) (covers_it n) k
-
-  pub none_comes_else : (w : WorldState C) (turn : Turn) (actor : ℕ) (c : ActorCrew C) → slice_get w.crew actor ≡ Some c
-      → (d : ActorCrew C) × (slice_get (after_turn k turn w).crew actor ≡ Some d) × NoneComes c.member d.member
-  none_comes_else w turn = ends_stay_so n (λ pos. pos ≡ n → ⊥) (not_itself n) (Covers n) (covers_it n) k w turn

@@ -1,6 +1,6 @@
 -- Of these positions no octet came to an end, or all: as each copy that it takes has none of them or all, and each mapping that it knows ends where they
 -- do, RCV.NXT never lies among them.
-use Rattle.std.proofs.Common.{◌≡◌, refl, sym, subst, ap, ◌∙◌, ◌⊎◌, inl, inr, ⊎_elim, ℕ, zero, suc, ◌+◌, ◌-◌, ◌^◌, ◌<◌, ◌≤◌, ◌&&◌, nat_le, nat_lt, min, get_or, arith, le_refl, Bool, true, false, true≢false, if◌then◌else◌, Option, Some, None, List, [], ◌∷◌, length, take}
+use Rattle.std.proofs.Common.{◌≡◌, refl, sym, subst, ap, ◌∙◌, ◌⊎◌, inl, inr, ⊎_elim, ℕ, zero, suc, ◌+◌, ◌-◌, ◌^◌, ◌<◌, ◌≤◌, ◌&&◌, nat_le, nat_lt, min, get_or, arith, le_refl, Bool, true, false, true≢false, if◌then◌else◌, Option, Some, None, List, [], ◌∷◌, length}
 use Rattle.std.specs.List.{slice_get}
 use Rattle.std.proofs.lemmas.Bool.{and_from, and_parts, cases_lt, eqb-true, le-leb, leb-true, lt-ltb, ltb-true}
 use Rattle.std.proofs.lemmas.List.{length-take}
@@ -21,9 +21,9 @@ use Rattle.path_store.specs.InfiniteMappings.{covers}
 use Rattle.path_store.specs.Passing.{Piece, count_in, named_piece, some_piece}
 use Rattle.path_core.specs.Arrival.{with_payload}
 use Rattle.path_core.specs.DataFin.{after_pass_fin}
-use Rattle.path_core.specs.Deliver.{after_check, after_keep, failing_by, forgotten_by, infinite_piece, is_dropped, mapping_here, next_piece, piece_by, plain_piece}
+use Rattle.path_core.specs.Deliver.{after_keep, failing_by, forgotten_by, infinite_piece, is_dropped, mapping_here, next_piece, piece_by, plain_piece}
 use Rattle.path_core.specs.End.{PathEnd}
-use Rattle.path_core.specs.Fallback.{after_check_failed, after_fell, with_failure}
+use Rattle.path_core.specs.Fallback.{after_fell, with_failure}
 use Rattle.path_core.specs.Modes.{receives_plainly}
 use Rattle.path_core.specs.Profile.{Profile}
 use Rattle.fallback_state.specs.declared.fall.Event.TheVariants as events

@@ -1,6 +1,6 @@
 -- What is sent on a lane is whole pieces, which lie in order: so each copy under way, and each mapping that is known, has all of a record of data or
 -- none of it.
-use Rattle.std.proofs.Common.{replicate, set, ◌≡◌, refl, sym, subst, ap, ◌∙◌, ◌⊎◌, ⊎_elim, inl, inr, ℕ, zero, suc, ◌+◌, ◌<◌, ◌≤◌, ◌==◌, ◌&&◌, ◌||◌, nat_lt, nat_le, arith, Bool, true, false, true≢false, if◌then◌else◌, Option, Some, None, IfSome, List, [], ◌∷◌, ◌++◌, length}
+use Rattle.std.proofs.Common.{replicate, set, ◌≡◌, refl, sym, subst, ap, ◌∙◌, ◌⊎◌, ⊎_elim, inl, inr, ℕ, zero, suc, ◌+◌, ◌<◌, ◌≤◌, ◌==◌, ◌&&◌, ◌||◌, nat_lt, nat_le, arith, Bool, true, false, if◌then◌else◌, Option, Some, None, IfSome, List, [], ◌∷◌, ◌++◌, length}
 use Rattle.std.specs.List.{slice_get}
 use Rattle.std.proofs.lemmas.Bool.{cases_lt}
 use Rattle.std.proofs.lemmas.Option.{same_Some, slice_get_within}
@@ -20,10 +20,10 @@ use Rattle.dss_mapping.specs.declared.kept.KeptMapping.{KeptMapping}
 use Rattle.link_model.specs.declared.flight.Flight.{Flight}
 use Rattle.stream_lanes.specs.Duo.{Duo, Event, after_event, after_events, flags_ab, flags_ba, opening_over}
 use Rattle.stream_lanes.specs.Duo.Event.{ToB, ToA}
-use Rattle.stream_lanes.specs.Holding.{BytesHold, DirectionHolds, Holds, IsFin, LaneHolds}
+use Rattle.stream_lanes.specs.Holding.{BytesHold, DirectionHolds, Holds, LaneHolds}
 use Rattle.stream_lanes.specs.Lane.{AckCopy, Ask, DataCopy, Lane, Mapping, Pair, lane_over}
 use Rattle.stream_lanes.specs.Lane.Ask.{Nothing, AskGrant, AskAckIn, AskPlace, AskFin, AskAckOut}
-use Rattle.stream_lanes.specs.Moves.{Flags, Move, altered_piece_of, clashes, ends_pair, hears, hears_data_fin, hears_fin, hears_sub, in_order, keeps, learns, learns_mapping, lies_in, may_finish, moved, part_of, passes, piece_of, place_by, places, places_pair, sends_altered, sends_fin_pair, sends_pair, sends_piece, shifted, takes_ack, takes_ack_out, takes_fin, takes_grant, takes_pair, takes_placed, is_whole}
+use Rattle.stream_lanes.specs.Moves.{Flags, Move, altered_piece_of, clashes, ends_pair, hears, hears_data_fin, hears_fin, hears_sub, in_order, keeps, learns, learns_mapping, lies_in, may_finish, moved, part_of, passes, piece_of, places, places_pair, sends_altered, sends_fin_pair, sends_pair, sends_piece, takes_ack, takes_ack_out, takes_fin, takes_grant, takes_pair, takes_placed, is_whole}
 use Rattle.stream_lanes.specs.Moves.{Move as move}
 use Rattle.stream_lanes.specs.Streams.{Direction, StreamEvent, after, asks, asks_at, goes_infinite, is_done, may_go, moves, reads}
 use Rattle.stream_lanes.specs.Streams.{StreamEvent as event}
