@@ -162,6 +162,11 @@ pub mod FinsSent
 pub mod FinRounds
 pub mod OneDebt
 pub mod WindowsComing
+pub mod WindowsAssured
+pub mod FilesFit
+pub mod AnswersAssure
+pub mod AsksOwed
+pub mod ToldEdges
 pub mod WindowRounds
 pub mod Unharmed
 pub mod Unmended
