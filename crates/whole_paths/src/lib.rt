@@ -25,6 +25,7 @@ mod delivery_laws;
 mod expiry_laws;
 mod laws;
 mod opening_laws;
+mod window_laws;
 
 pub use debt_laws::checked_records_are_passed_whole;
 pub use debt_laws::debts_go_on;
@@ -194,3 +195,8 @@ pub use opening_laws::a_has_the_key_first;
 pub use opening_laws::each_first_piece_comes_soon;
 pub use opening_laws::each_syn_ack_is_answered_soon;
 pub use opening_laws::each_syn_comes_soon;
+pub use window_laws::fitting_files_are_never_shut;
+pub use window_laws::what_comes_opens_the_window;
+pub use window_laws::what_is_told_goes_on;
+pub use window_laws::who_asks_owes;
+pub use window_laws::windows_are_assured;
