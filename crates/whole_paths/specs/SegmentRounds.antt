@@ -14,6 +14,7 @@ use Rattle.world_laws.specs.Promises.{arrived_at, written_by}
 use Rattle.world_laws.specs.RoundDone.{reached}
 use Rattle.world_laws.specs.Worlds.{Turn, all_over}
 use Rattle.whole_paths.specs.Delivery.{IsAllThere}
+use Rattle.whole_paths.specs.Directions.{DirectionIsWell}
 use Rattle.whole_paths.specs.Finish.{IsPathAt}
 use Rattle.whole_paths.specs.GoingOn.{steps_of}
 use Rattle.whole_paths.specs.Mending.{IsToldSoon, IsWell}
@@ -49,12 +50,9 @@ module _ (start : Start) where
   abbrev pub written_after : Side → List Turn → ℕ
   written_after s turns = length (written_by s (reached values start turns)).written
 
-  -- As a round is over, each record of the side on path 0 is well, and its end is told soon how far its peer is, or all of the side's stream is there.
-  pub record IsWellAfter (s : Side) (turns : List Turn) : Type 0 where
-    pub path : PathState Carried
-    pub here : IsPathAt 0 (reached values start turns) path
-    pub records : Every (IsWell s path) (end_at s path).tcp.send.records
-    pub told : IsToldSoon s path ⊎ IsAllThere s (reached values start turns)
+  -- nothing of the stream is to be mended
+  abbrev pub IsWellAfter : Side → List Turn → Type 0
+  IsWellAfter s turns = DirectionIsWell s (reached values start turns)
 
   -- What the peer could tell of the stream after the first turns is heard after the others: all that its side had received is acknowledged, and
   -- its window takes a full segment's payload past what its reader had read.
