@@ -68,15 +68,15 @@ use Rattle.whole_paths.specs.Mild.{IsMildStart}
 use Rattle.whole_paths.specs.PositionCounts.{CountsBytes}
 use Rattle.whole_paths.proofs.KnownWindows.{HasNumber, each_numbered}
 use Rattle.whole_paths.proofs.PositionCounts.{positions_count_bytes}
-use Rattle.whole_paths.proofs.Pushing.{AllStay, answered_next, event_next, refused_next, send_next, unsent_next}
+use Rattle.whole_paths.proofs.Pushing.{AllStay, answered_next, event_next, refused_next, unsent_next}
 use Rattle.whole_paths.proofs.Turns.{TellsSteps, paths_between}
 
 -- ---- lists
 
 -- what is put last is there
-last_so : {P : Record → Type 0} (rs : List Record) (x : Record) → P x → Has P (rs ++ x ∷ [])
-last_so [] x h = record { at = 0; item = x; there = refl; holds = h }
-last_so (r ∷ rs) x h = let rest = last_so rs x h in record { at = suc rest.at; item = rest.item; there = rest.there; holds = rest.holds }
+last_so : (P : Record → Type 0) (rs : List Record) (x : Record) → P x → Has P (rs ++ x ∷ [])
+last_so P [] x h = record { at = 0; item = x; there = refl; holds = h }
+last_so P (r ∷ rs) x h = let rest = last_so P rs x h in record { at = suc rest.at; item = rest.item; there = rest.there; holds = rest.holds }
 
 all_pass : (p : ByteMark → Bool) (xs : List ByteMark) → ((i : ℕ) (x : ByteMark) → slice_get xs i ≡ Some x → p x ≡ true) → prefix_len p xs ≡ length xs
 all_pass p [] all = refl
@@ -183,16 +183,20 @@ same_last = record { agenda = λ ds p s. refl; chains = λ p q r x y s. y s ∙ 
 
 -- ---- what a turn makes of SND.NXT
 
+-- a record of data that begins at SND.NXT, with the bytes of the span
+abbrev IsGrantOf : SendState → Sending → Span → Record → Type 0
+IsGrantOf v b span r = (r.kind ≡ Data) × (r.pos ≡ v.nxt) × (r.piece ≡ part_of span b.written)
+
 data Grants (s : Side) (six : SixBooks) (p q : PathState Carried) : Type 0 where
   stays : (end_at s q).tcp.send.nxt ≡ (end_at s p).tcp.send.nxt → Grants s six p q
   ends : (end_at s q).tcp.send.finished ≡ true → Grants s six p q
   gives : (stands : Bool) (span : Span) → decision (path_of p) (payload_size p.profile) stands (send_of s six) ≡ Ok span
-      → Has (λ (r : Record). (r.kind ≡ Data) × (r.pos ≡ (end_at s p).tcp.send.nxt) × (r.piece ≡ part_of span (send_of s six).written)) (end_at s q).tcp.send.records → Grants s six p q
+      → Has (IsGrantOf (end_at s p).tcp.send (send_of s six) span) (end_at s q).tcp.send.records → Grants s six p q
 
 then_same : (s : Side) (six : SixBooks) (p y q : PathState Carried) → SameSend y q → Grants s six p y → Grants s six p q
 then_same s six p y q same (stays is) = stays (ap (λ (v : SendState). v.nxt) (same s) ∙ is)
 then_same s six p y q same (ends is) = ends (ap (λ (v : SendState). v.finished) (same s) ∙ is)
-then_same s six p y q same (gives stands span decided has) = gives stands span decided (subst (Has _) (sym (ap (λ (v : SendState). v.records) (same s))) has)
+then_same s six p y q same (gives stands span decided has) = gives stands span decided (subst (Has (IsGrantOf (end_at s p).tcp.send (send_of s six) span)) (sym (ap (λ (v : SendState). v.records) (same s))) has)
 
 module _ (six : SixBooks) (p : PathState Carried) where
   all_stay : (s : Side) (q : PathState Carried) → AllStay p q → Grants s six p q
@@ -204,12 +208,12 @@ module _ (six : SixBooks) (p : PathState Carried) where
     where
       by : (o : Result Span Why) → decision (path_of p) (payload_size p.profile) p.a.modes.standby six.send_a ≡ o → let r = replies.Send (reply_by o six.send_a) in Grants A six p (answered_grant A (grant_in r) r p)
       by (Err why) is = all_stay A _ (refused_next A _ p)
-      by (Ok span) is = gives p.a.modes.standby span is (last_so p.a.tcp.send.records (record { pos = p.a.tcp.send.nxt; kind = Data; piece = part_of span six.send_a.written; mapping = mapping_of p.profile A span.from p.a.tcp.send.nxt (part_of span six.send_a.written); sending = never_sent }) (refl, refl, refl))
+      by (Ok span) is = gives p.a.modes.standby span is (last_so (IsGrantOf p.a.tcp.send six.send_a span) p.a.tcp.send.records (record { pos = p.a.tcp.send.nxt; kind = Data; piece = part_of span six.send_a.written; mapping = mapping_of p.profile A span.from p.a.tcp.send.nxt (part_of span six.send_a.written); sending = never_sent }) (refl, refl, refl))
   granted_row B = by (decision (path_of p) (payload_size p.profile) p.b.modes.standby six.send_b) refl
     where
       by : (o : Result Span Why) → decision (path_of p) (payload_size p.profile) p.b.modes.standby six.send_b ≡ o → let r = replies.Send (reply_by o six.send_b) in Grants B six p (answered_grant B (grant_in r) r p)
       by (Err why) is = all_stay B _ (refused_next B _ p)
-      by (Ok span) is = gives p.b.modes.standby span is (last_so p.b.tcp.send.records (record { pos = p.b.tcp.send.nxt; kind = Data; piece = part_of span six.send_b.written; mapping = mapping_of p.profile B span.from p.b.tcp.send.nxt (part_of span six.send_b.written); sending = never_sent }) (refl, refl, refl))
+      by (Ok span) is = gives p.b.modes.standby span is (last_so (IsGrantOf p.b.tcp.send six.send_b span) p.b.tcp.send.records (record { pos = p.b.tcp.send.nxt; kind = Data; piece = part_of span six.send_b.written; mapping = mapping_of p.profile B span.from p.b.tcp.send.nxt (part_of span six.send_b.written); sending = never_sent }) (refl, refl, refl))
 
   other_next : (s : Side) (o : Option Record) (r : Reply) → (end_at s (answered_data values (peer s) o r p)).tcp.send.nxt ≡ (end_at s p).tcp.send.nxt
   other_next A (Some u) r = refl
