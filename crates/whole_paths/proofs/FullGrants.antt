@@ -207,12 +207,12 @@ module _ (six : SixBooks) (p : PathState Carried) where
   granted_row A = by (decision (path_of p) (payload_size p.profile) p.a.modes.standby six.send_a) refl
     where
       by : (o : Result Span Why) → decision (path_of p) (payload_size p.profile) p.a.modes.standby six.send_a ≡ o → let r = replies.Send (reply_by o six.send_a) in Grants A six p (answered_grant A (grant_in r) r p)
-      by (Err why) is = all_stay A _ (refused_next A _ p)
+      by (Err why) is = let r : Reply = replies.Send (reply_by (Err why) six.send_a) in all_stay A (answered_grant A None r p) (refused_next A r p)
       by (Ok span) is = gives p.a.modes.standby span is (last_so (IsGrantOf p.a.tcp.send six.send_a span) p.a.tcp.send.records (record { pos = p.a.tcp.send.nxt; kind = Data; piece = part_of span six.send_a.written; mapping = mapping_of p.profile A span.from p.a.tcp.send.nxt (part_of span six.send_a.written); sending = never_sent }) (refl, refl, refl))
   granted_row B = by (decision (path_of p) (payload_size p.profile) p.b.modes.standby six.send_b) refl
     where
       by : (o : Result Span Why) → decision (path_of p) (payload_size p.profile) p.b.modes.standby six.send_b ≡ o → let r = replies.Send (reply_by o six.send_b) in Grants B six p (answered_grant B (grant_in r) r p)
-      by (Err why) is = all_stay B _ (refused_next B _ p)
+      by (Err why) is = let r : Reply = replies.Send (reply_by (Err why) six.send_b) in all_stay B (answered_grant B None r p) (refused_next B r p)
       by (Ok span) is = gives p.b.modes.standby span is (last_so (IsGrantOf p.b.tcp.send six.send_b span) p.b.tcp.send.records (record { pos = p.b.tcp.send.nxt; kind = Data; piece = part_of span six.send_b.written; mapping = mapping_of p.profile B span.from p.b.tcp.send.nxt (part_of span six.send_b.written); sending = never_sent }) (refl, refl, refl))
 
   other_next : (s : Side) (o : Option Record) (r : Reply) → (end_at s (answered_data values (peer s) o r p)).tcp.send.nxt ≡ (end_at s p).tcp.send.nxt
@@ -222,14 +222,14 @@ module _ (six : SixBooks) (p : PathState Carried) where
   other_next B None r = elim (grant_in r) as (λ o. (answered_grant A o r p).b.tcp.send.nxt ≡ p.b.tcp.send.nxt) [ None ↦ refl | Some grant ↦ refl ]
 
   own_row : (s : Side) (o : Option Record) → Grants s six p (answered_data values s o (reply_of six (data_ask values s o p)) p)
-  own_row s (Some u) = all_stay s _ (unsent_next values s u _ p)
+  own_row s (Some u) = let r : Reply = reply_of six (data_ask values s (Some u) p) in all_stay s (answered_data values s (Some u) r p) (unsent_next values s u r p)
   own_row s None = granted_row s
 
   data_row : (s t : Side) → Grants s six p (answered values (duties.Step (step_duties.Data t)) (reply_of six (ask_for values (duties.Step (step_duties.Data t)) p)) p)
   data_row A A = own_row A (first_unsent p.a)
   data_row B B = own_row B (first_unsent p.b)
-  data_row A B = stays (other_next A (first_unsent p.b) _)
-  data_row B A = stays (other_next B (first_unsent p.a) _)
+  data_row A B = stays (other_next A (first_unsent p.b) (reply_of six (data_ask values B (first_unsent p.b) p)))
+  data_row B A = stays (other_next B (first_unsent p.a) (reply_of six (data_ask values A (first_unsent p.a) p)))
 
   fin_row : (s t : Side) (r : Reply) → Grants s six p (answered values (duties.Send (send_duties.Fin t)) r p)
   fin_row A A r = ends refl
@@ -239,9 +239,10 @@ module _ (six : SixBooks) (p : PathState Carried) where
 
   duty_row : (s : Side) (d : Duty) → Grants s six p (answered values d (reply_of six (ask_for values d p)) p)
   duty_row s (duties.Step (step_duties.Data t)) = data_row s t
-  duty_row s (duties.Step step_duties.Events) = all_stay s _ (event_next values (next_event p) _ p)
-  duty_row s (duties.Send (send_duties.Fin t)) = fin_row s t _
-  duty_row s d = all_stay s _ (answered_next values d _ p refl refl)
+  duty_row s (duties.Step step_duties.Events) = let r : Reply = reply_of six (ask_for values (duties.Step step_duties.Events) p) in
+      all_stay s (answered values (duties.Step step_duties.Events) r p) (event_next values (next_event p) r p)
+  duty_row s (duties.Send (send_duties.Fin t)) = fin_row s t (reply_of six (ask_for values (duties.Send (send_duties.Fin t)) p))
+  duty_row s d = let r : Reply = reply_of six (ask_for values d p) in all_stay s (answered values d r p) (answered_next values d r p refl refl)
 
 -- as the path takes a reply, and as its next round begins
 takes_row : (six : SixBooks) (ask : Ask) (p : PathState Carried) → asks_of values p ≡ Some ask → (s : Side) → Grants s six p (takes values (reply_of six ask) p)
