@@ -226,6 +226,8 @@ pub mod PositionCounts
 pub mod SentInOrder
 pub mod Unroomy
 pub mod Pushed
+pub mod FullGrants
+pub mod FlightsGo
 pub mod RoundSteps
 pub mod SegmentRounds
 pub mod ReadSegments

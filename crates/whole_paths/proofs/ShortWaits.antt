@@ -247,9 +247,9 @@ module _ (start : Start) (plan : PathPlan) (Well : List Turn → Type 0) where
 
 pub exchanges_go_on_so : ExchangesGoOnSo
 exchanges_go_on_so start plan most paid count Owes Mends x counts debts well hears = sharp_by_debts start plan most paid count Owes Mends (WaitsForAUnit start plan count Owes) x.mild counts debts
-    (short_waits start plan most paid count Owes Mends x counts debts (in_fewer start plan (Owes 0) 13 10 refl (λ v u rounds. unit_so start plan x (Owes 0) well hears v u rounds)))
+    (short_waits start plan most paid count Owes Mends x counts debts (in_fewer start plan (Owes 0) 20 3 refl (λ v u rounds. unit_so start plan x (Owes 0) well hears v u rounds)))
 
 -- ---- where nothing is owed
 
 pub what_is_not_owed_is_well : WhatIsNotOwedIsWell
-what_is_not_owed_is_well start turns h wide s = record { path = h.path; here = h.here; records = (none_owed h.path h.owes).records s; told = inl ((none_owed h.path h.owes).told s); wide = wide s }
+what_is_not_owed_is_well start turns h s = record { path = h.path; here = h.here; records = (none_owed h.path h.owes).records s; told = inl ((none_owed h.path h.owes).told s) }

@@ -138,6 +138,7 @@ pub mod NeverAborted
 pub mod PositionCounts
 pub mod SentInOrder
 pub mod Pushed
+pub mod FullGrants
 pub mod SegmentRounds
 pub mod EndRounds
 pub mod UnitRounds

@@ -55,7 +55,6 @@ ExchangesGoOnSo = (start : Start) (plan : PathPlan) (most : ℕ) (paid count : L
     → WhatIsToldIsHeard start plan (Owes 0)
     → SharpExchanges start plan paid most (AreMended start plan most count Owes) (AwaitsEither start plan most count Owes Mends (WaitsForAUnit start plan count Owes))
 
--- Where no debt is, of records that may be lost and of acknowledgements, all is well, as long as both congestion windows hold two full segments.
+-- Where no debt is, of records that may be lost and of acknowledgements, all is well.
 abbrev pub WhatIsNotOwedIsWell : Type 0
-WhatIsNotOwedIsWell = (start : Start) (turns : List Turn) (h : Owes start 0 turns)
-    → ((s : Side) → 2 * h.path.profile.mss ≤ (end_at s h.path).tcp.congestion.reno.window) → IsAllWell start turns
+WhatIsNotOwedIsWell = (start : Start) (turns : List Turn) → Owes start 0 turns → IsAllWell start turns

@@ -5,6 +5,7 @@ ghost use Rattle.whole_paths.specs.FinDebts.{FinsAreHeard, FinsGoAgain, FinsStan
 ghost use Rattle.whole_paths.specs.OneDebt.{FinDebtsAreKnown, FinDebtsGoOn};
 ghost use Rattle.whole_paths.specs.OpenFirst.{AOwesRecordsFirst, BOwesNoneFirst, FewAsItOpensAreFew, OpensWithFewSo, PathsOpenByClearing};
 ghost use Rattle.whole_paths.specs.Directions.{DirectionsGoOn, WhatOwesNoneIsWell, WhoIsToldButStaysSo};
+ghost use Rattle.whole_paths.specs.FullGrants.{EachGrantIsFull};
 ghost use Rattle.whole_paths.specs.FirstLost.{LostRecordsAreAwaited, LostRecordsAreMended};
 ghost use Rattle.whole_paths.specs.Mends.{WhatRunsOutIsMended};
 ghost use Rattle.whole_paths.specs.ClearRounds.{LostRecordsAreFirst, LostRecordsStay, WhatIsReachedIsFirst};
@@ -157,4 +158,13 @@ pub fn what_is_reached_is_first()
 /// it is harmed, or each record of the end is well: the first one comes within 400 ticks, each other one is to be sent.
 pub fn what_runs_out_is_mended()
     ensures { WhatRunsOutIsMended }
+{}
+
+/// A law: what the end of the only path of a mild connection is granted is a full segment's payload, or all that there is for it (RFC 9293, section
+/// 3.8.6).
+///
+/// By any turn SND.NXT of an end that sent no FIN stays; or where it was a record of data begins now that holds a full segment's payload, or reaches
+/// all that is written of the side's stream, or the edge of the peer's window.
+pub fn each_grant_is_full()
+    ensures { EachGrantIsFull }
 {}
