@@ -259,3 +259,6 @@ pub mod SynsSoon
 pub mod FirstPiecesSoon
 pub mod AnswersSoon
 pub mod KeyedFirst
+pub mod Opened
+pub mod SignPieces
+pub mod EarlyRecords

@@ -27,7 +27,7 @@ ghost use Rattle.whole_paths.specs.OnlyPaths.{long_patience, news_within};
 ghost use Rattle.whole_paths.specs.OpenAsks.{OpenAsksAreInTime, OpenAsksGoOn, OpenEndsHardlyGoAwry};
 ghost use Rattle.whole_paths.specs.OverOctets.{FewLossesFinishAsOverValues, OctetsAreAsFarAsValues, OnePathEndsAsOverValues, BriefPathsDeliverAsOverValues, WholePathsDeliverAsOverValues};
 ghost use Rattle.whole_paths.specs.OpenCourses.{WhatHoldsUpCounts};
-ghost use Rattle.whole_paths.specs.OpeningCourses.{opening_patience, DeliversWithin, OpensWithin};
+ghost use Rattle.whole_paths.specs.OpeningCourses.{opening_allowance, opening_patience, DeliversWithin, OpensWithin};
 ghost use Rattle.whole_paths.specs.OpeningWaits.{EndsOpenOrArePast, LivingEndsOpenOrArePast, OpeningsAreAwaited};
 ghost use Rattle.whole_paths.specs.Outstanding.{WhatIsOutstandingIsAwaited};
 ghost use Rattle.whole_paths.specs.Overruns.{NoEndOverruns};
@@ -566,12 +566,13 @@ pub fn b_is_idle_before()
 /// is lost, late or repeated (`octets`, `values`).
 ///
 /// It is said of mild scripts, by which no option is taken away, no payload is altered and no side closes at once, and of fewer than 2^64 - 1 turns:
-/// the link counts the segments of each side below that. After half of these rounds the path is whole, or all of both streams is with the peers, or
-/// an end died (`opens`); then they go on as in `whole_paths_deliver` (`delivers`), whose rounds are enough twice. Both are said of connections over
-/// one path with buffers of 4,096 octets at least.
+/// the link counts the segments of each side below that. Within 3,055 rounds, and 611 for each segment that is harmed, the path is whole, or all of
+/// both streams is with the peers, or an end died (`opens`): five steps lead there, and each takes a greatest timeout of a minute and eleven rounds
+/// at most, unless a segment is harmed. Then they go on as in `whole_paths_deliver` (`delivers`). Both are said of connections over one path with
+/// buffers of 4,096 octets at least.
 pub fn one_path_ends()
-    ensures opens { OpensWithin (for_all_news news_within) }
-    ensures delivers { DeliversWithin (for_all_news news_within) }
+    ensures opens { OpensWithin opening_allowance }
+    ensures delivers { DeliversWithin opening_allowance (for_all_news news_within) }
     ensures octets { OneBriefPathEnds octets opening_patience }
     ensures values { OneBriefPathEnds values opening_patience }
 {}

@@ -191,5 +191,7 @@ pub use laws::who_waits_has_a_timer;
 pub use laws::writers_go_on;
 pub use opening_laws::a_has_the_key_first;
 pub use opening_laws::each_first_piece_comes_soon;
+pub use opening_laws::each_sign_piece_comes;
 pub use opening_laws::each_syn_ack_is_answered_soon;
 pub use opening_laws::each_syn_comes_soon;
+pub use opening_laws::paths_open_owing_records;
