@@ -44,7 +44,7 @@ use Rattle.path_core.specs.OptionsIn.{items_of, options_heard}
 use Rattle.path_core.specs.Profile.{Profile}
 use Rattle.whole_paths.specs.Brought.{Brings, IsToReset}
 use Rattle.whole_paths.specs.Mild.{EndsGoByMappings, IsMildStart, IsNeverBroken, IsUnbroken}
-use Rattle.whole_paths.specs.Opened.{OpensOn as opened}
+use Rattle.whole_paths.specs.Opened.{OpensOn as opens_on}
 use Rattle.whole_paths.specs.OpeningConfirmed.{Confirming, ConfirmedOn, PathsConfirm}
 use Rattle.whole_paths.specs.OpeningConfirmed.{ConfirmedOn as confirmed}
 use Rattle.whole_paths.specs.OpeningConfirmed.{IsConfirmed as sure}
@@ -132,7 +132,7 @@ module _ (p q : PathState Carried) (known : Known p) (faithful : IsFaithful p) (
     if_unclear unclear still = by q.a.modes.clear refl
       where
         by : (b : Bool) → q.a.modes.clear ≡ b → Goes
-        by true is = goes.opens (opened.clears A unclear is)
+        by true is = goes.opens (opens_on.clears A unclear is)
         by false is = still is
 
     never_reset : IsToReset A q.agenda → ⊥
@@ -142,7 +142,7 @@ module _ (p q : PathState Carried) (known : Known p) (faithful : IsFaithful p) (
 
     confirmed_goes : p.a.modes.clear ≡ false → ConfirmedOn A steps q → Goes
     confirmed_goes unclear (confirmed.on h) = if_unclear unclear (λ still. goes.on (hears still h))
-    confirmed_goes unclear (confirmed.gone dead) = goes.opens (opened.gone A (inr dead))
+    confirmed_goes unclear (confirmed.gone dead) = goes.opens (opens_on.gone A (inr dead))
     confirmed_goes unclear (confirmed.reset is) = absurd (never_reset is)
     confirmed_goes unclear (confirmed.plain is) = absurd (both_ways q.a.modes.identity (later_maps A).identity is)
     confirmed_goes unclear (confirmed.refused is) = absurd (both_ways (was_told tells_other_key steps) own_key is)
@@ -156,12 +156,12 @@ module _ (p q : PathState Carried) (known : Known p) (faithful : IsFaithful p) (
       if_unacked still = by q.b.sending.close.own_acked refl
         where
           by : (b : Bool) → q.b.sending.close.own_acked ≡ b → Goes
-          by true is = goes.opens (opened.news B unclear (news.data_fin waits.unacked is))
+          by true is = goes.opens (opens_on.news B unclear (news.data_fin waits.unacked is))
           by false is = still is
 
       on_goes : (w : IsAskedAgain values B x q) → IsAskedSo (AsksByItsEnd p.a.tcp.recv.edge) w → Goes
       on_goes w w_so = if_unclear unclear (λ still. ⊎_elim
-          (λ more. goes.opens (opened.comes A unclear more))
+          (λ more. goes.opens (opens_on.comes A unclear more))
           (λ same. if_unacked (λ unacked. goes.on (comes still (let up = far.a.subflow.state in omega (arith, high, up))
           (record { clear = far.b.clear waits.clear; sent = far.b.stream.fin_sent waits.sent; unacked = unacked }) w (subst (λ n. IsAskedSo (AsksByItsEnd n) w) (let up = far.a.subflow.received in omega (arith, same, up)) w_so))))
           (cases_lt p.a.tcp.recv.edge q.a.tcp.recv.edge))
@@ -218,7 +218,7 @@ module _ (p q : PathState Carried) (known : Known p) (faithful : IsFaithful p) (
         sign_comes = by (is_dead p.a.tcp.state) refl
           where
             by : (b : Bool) → is_dead p.a.tcp.state ≡ b → Goes
-            by true is = goes.opens (opened.gone A (inl is))
+            by true is = goes.opens (opens_on.gone A (inl is))
             by false is =
                 let t = taken is in ⊎_elim
                 (λ same. same_goes same)
@@ -229,11 +229,11 @@ module _ (p q : PathState Carried) (known : Known p) (faithful : IsFaithful p) (
       goes_by (asking.on w) w_so = on_goes w w_so
       goes_by (asking.arrives f low there h others first then_event) w_so = sign_comes f there h w_so others first then_event
       goes_by (asking.record_waits r none is_first way ungone) w_so = goes.record_waits (far.b.clear waits.clear) (let up = far.a.subflow.state in omega (arith, high, up)) r is_first way ungone
-      goes_by (asking.news news) w_so = goes.opens (opened.news B unclear news)
+      goes_by (asking.news news) w_so = goes.opens (opens_on.news B unclear news)
       goes_by (asking.done none) w_so = if_unacked (λ unacked. absurd (none (outstanding.data_fin (later_maps B).identity (later_maps B).own (far.b.stream.fin_sent waits.sent) unacked)))
-      goes_by (asking.harmed is) w_so = goes.opens (opened.harmed B is)
-      goes_by (asking.gone dead) w_so = goes.opens (opened.gone B (inr dead))
-      goes_by (asking.dies line event is dead) w_so = goes.opens (opened.gone A (inr dead))
+      goes_by (asking.harmed is) w_so = goes.opens (opens_on.harmed B is)
+      goes_by (asking.gone dead) w_so = goes.opens (opens_on.gone B (inr dead))
+      goes_by (asking.dies line event is dead) w_so = goes.opens (opens_on.gone A (inr dead))
 
       -- what the end sends now
       asks_so : is_dead p.b.tcp.state ≡ false → p.b.tcp.send.records ≡ [] → AsksByItsEnd p.a.tcp.recv.edge p.b (is_stripped B (next_number B p.link) p.clock p.link.lines) (is_altered B (next_number B p.link) p.link.lines)
@@ -253,7 +253,7 @@ module _ (p q : PathState Carried) (known : Known p) (faithful : IsFaithful p) (
       sign_goes asks = by (is_dead p.b.tcp.state) refl
         where
           by : (b : Bool) → is_dead p.b.tcp.state ≡ b → Goes
-          by true is = goes.opens (opened.gone B (inl is))
+          by true is = goes.opens (opens_on.gone B (inl is))
           by false living = let go = asks B x (few B) (asks_so living) next so in goes_by go.0 go.1
 
     goes_so : ((Was : PathEnd → Bool → Bool → Type 0) → AsksComeSo Was values (Path p) (Path q)) → IsSignAwaited x p → Goes

@@ -61,6 +61,7 @@ use Rattle.whole_paths.specs.Expiries.{IsSegmentOf, IsSaidAt, IsToSendAgain, Pat
 use Rattle.whole_paths.specs.Flights.{IsFirst, IsCopyOf, IsOnItsWay, IsSentSo, ComesSo, GoesOnTo, RecordsGoOn, IsOnItsWayAtTheEnd, WhatWaitsComes}
 use Rattle.whole_paths.specs.Flights.IsOnItsWay.{waits, resends, flies}
 use Rattle.whole_paths.specs.Flights.{GoesOnTo as goes}
+use Rattle.whole_paths.specs.Harms.{longest_way}
 use Rattle.whole_paths.specs.InTime.{ComesFrom, NothingIsOverdue}
 use Rattle.whole_paths.specs.Mending.{IsSentSoon}
 use Rattle.whole_paths.specs.Kept.{AreKept, IsSameRecord, KeepsWhatWaits, EndsKeepWhatWaits}
@@ -157,8 +158,19 @@ module _ {C : Type 0} where
   pub record Frames (p q : PathState C) : Type 0 where
     pub profile : SameProfile p q
     pub lines : SameLines p q
+    pub way : (s : Side) → longest_way s q.link ≡ longest_way s p.link
     pub stands : (d : Duty) (others : List Duty) → p.agenda ≡ d ∷ others → is_event d ≡ false → SameClock p q
     pub moves : (event : Event) (others : List Duty) → p.agenda ≡ duties.Step step_duties.Events ∷ others → next_event p ≡ Some event → (q ≡ p) ⊎ (q.clock ≡ max p.clock (tick_of event))
+
+  sent_way : (strip alter : Side → C → C) (from s : Side) (carried : C) (size now : ℕ) (link : LinkState C) → longest_way s (after_send strip alter from carried size now link) ≡ longest_way s link
+  sent_way strip alter A s carried size now link = refl
+  sent_way strip alter B s carried size now link = refl
+
+  link_way : {d : Duty} (k : Codec C) (s : Side) (p q : PathState C) → LinkStep d k p q → longest_way s q.link ≡ longest_way s p.link
+  link_way k s p q (stays is) = ap (λ (l : LinkState C). longest_way s l) is
+  link_way k s p q (hands from carried size still is) = ap (λ (l : LinkState C). longest_way s l) is ∙ sent_way (k.strips p.profile.spelling) (k.alters p.profile.spelling) from s carried size p.clock p.link
+  link_way k s p q (delivers event due next is) = ap (λ (l : LinkState C). longest_way s l) is
+  link_way k s p q (is_cut line next action is dead) = ap (λ (l : LinkState C). longest_way s l) is
 
   sent_lines : (strip alter : Side → C → C) (from : Side) (carried : C) (size now : ℕ) (link : LinkState C) → (after_send strip alter from carried size now link).lines ≡ link.lines
   sent_lines strip alter A carried size now link = refl
@@ -186,10 +198,17 @@ module _ {C : Type 0} where
   takes_frames k r p = record {
     profile = takes_lasts SameProfile profile_lasts k r p (λ d. ap (λ (v : PathView C). v.profile) (writes_no_more k d r p).same);
     lines = takes_lines k r p;
+    way = λ s. way s p.agenda;
     stands = λ d others is other. subst (λ ds. (takes k r (with_agenda ds p)).clock ≡ p.clock) (sym is) (stand d others other);
     moves = λ event others is next. inr (subst (λ ds. (takes k r (with_agenda ds p)).clock ≡ max p.clock (tick_of event)) (sym is) (move event others next));
   }
     where
+      way : (s : Side) (ds : List Duty) → longest_way s (takes k r (with_agenda ds p)).link ≡ longest_way s p.link
+      way s [] = refl
+      way s (d ∷ ds) =
+          let x : PathState C = with_agenda (d ∷ ds) p in let y : PathState C = answered k d r x in
+          ap (λ (l : LinkState C). longest_way s l) (settled_lasts LinkStays links_last y.agenda y) ∙ link_way k s x y (link_step k d r x)
+
       stand : (d : Duty) (others : List Duty) → is_event d ≡ false → (takes k r (with_agenda (d ∷ others) p)).clock ≡ p.clock
       stand d others other =
           let x : PathState C = with_agenda (d ∷ others) p in let y : PathState C = answered k d r x in
@@ -206,6 +225,7 @@ module _ {C : Type 0} where
       record {
         profile = begins_lasts SameProfile profile_lasts q;
         lines = begins_lines q;
+        way = λ s. ap (λ (l : LinkState C). longest_way s l) (begins_lasts LinkStays links_last q);
         stands = λ d others is other. none d others is;
         moves = λ event others is next. none (duties.Step step_duties.Events) others is;
       }
@@ -228,7 +248,7 @@ module _ {C : Type 0} where
 
   member_stays : (m : Actor C) → FramesStay m m
   member_stays (App a) = tt
-  member_stays (Path p) = record { profile = refl; lines = refl; stands = λ d others is other. refl; moves = λ event others is next. inl refl }
+  member_stays (Path p) = record { profile = refl; lines = refl; way = λ s. refl; stands = λ d others is other. refl; moves = λ event others is next. inl refl }
 
   pub timer_from : (s : Side) (tick : ℕ) (p : PathState C) → ComesFrom p.clock p → (end_at s p).tcp.timing.timer ≡ Some tick → p.clock ≤ tick
   timer_from A tick p h runs = subst (λ o. IfSome o (λ t. p.clock ≤ t)) runs h.timer_a

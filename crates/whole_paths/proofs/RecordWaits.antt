@@ -390,8 +390,7 @@ module _ (start : Start) (most : ℕ) (mild : IsMildStart start) (Holds : PathSt
           let most_sent = few other in let one = one_most (end_at other path).tcp.send.finished in
           let left = data_is.left in
           let own = few side in let none = ap one_if unsent in let came_here = came.una side (opened.living side) in
-          let way_same = ap (λ x. 400) (sender_of side) in let low_way = short in
-          side_begins other r others is data_is (inr (omega (arith, past, most_sent, one, left, edge_same))) (omega (arith, own, none, came_here, nxt_same)) (omega (arith, low_way, way_same)) of_other
+          side_begins other r others is data_is (inr (omega (arith, past, most_sent, one, left, edge_same))) (omega (arith, own, none, came_here, nxt_same)) short of_other
 
       pub room_or : Of other → Awaits (round_end values start v + (60000 + way)) u ⊎ ((end_at other path).tcp.send.nxt ≤ (end_at side path).tcp.recv.edge + 1048576)
       room_or of_other = ⊎_elim (λ past. inl (other_begins past of_other (end_at other path).tcp.send.records refl)) (λ room. inr room) (cases_lt ((end_at side path).tcp.recv.edge + 1048576) (end_at other path).tcp.send.nxt)

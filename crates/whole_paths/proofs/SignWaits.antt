@@ -62,10 +62,10 @@ use Rattle.whole_paths.proofs.Timing.{timers_run_out}
 -- ---- a turn
 
 -- what didn't go yet may go as it is to
-ungone_so : {c : Profile} (r : Record) (x : ℕ) (q : PathState Carried) (w : IsOnItsWay values B r x q) → IsSentSo (λ sender stripped altered. ⊥) w → IsSentSo (ShowsADss c r) w
-ungone_so r x q (ways.waits tick low runs first) so = tt
-ungone_so r x q (ways.resends low is first) so = tt
-ungone_so r x q (ways.flies f low there copy) so = absurd so
+ungone_so : (c : Profile) (r : Record) (x : ℕ) (q : PathState Carried) (w : IsOnItsWay values B r x q) → IsSentSo (λ sender stripped altered. ⊥) w → IsSentSo (ShowsADss c r) w
+ungone_so c r x q (ways.waits tick low runs first) so = tt
+ungone_so c r x q (ways.resends low is first) so = tt
+ungone_so c r x q (ways.flies f low there copy) so = absurd so
 
 module _ (start : Start) (plan : PathPlan) (begins : BeginsWithOnePath start plan) (turns : List Turn) (turn : Turn) where
   abbrev w : WorldState Carried
@@ -116,7 +116,7 @@ module _ (start : Start) (plan : PathPlan) (begins : BeginsWithOnePath start pla
               clear = clear;
               met = omega (arith, past);
               edge = edge_first start plan begins (turns ++ turn ∷ []) q at after.is_open A still;
-            }) r piece.0 piece.1 way (ungone_so r x q way ungone)))
+            }) r piece.0 piece.1 way (ungone_so q.profile r x q way ungone)))
 
     goes_on : (x : ℕ) → IsFirstSignAwaited x p → Rises ⊎ IsFirstSignAwaited x q
     goes_on x (first_sign.piece h) = piece_by x (with_both start begins.mild turns turn before after FirstPiecesGoOn

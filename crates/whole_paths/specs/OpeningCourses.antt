@@ -73,9 +73,9 @@ opening_allowance start harms = 61100 * (5 + harms)
 
 -- Both files are delivered, or an end died, after rounds enough: until the path is whole, and from then on.
 abbrev pub DeliversWithin : Allowance → Allowance → Type 0
-DeliversWithin opening rest = (start : Start) (plan : PathPlan) (turns : List Turn) (most : ℕ) → BeginsWithOnePath start plan
+DeliversWithin first rest = (start : Start) (plan : PathPlan) (turns : List Turn) (most : ℕ) → BeginsWithOnePath start plan
     → AreLawful values turns (opened_world start) → length turns < 2 ^ 64 - 1 → harmed values 0 turns (opened_world start) ≤ most
-    → opening start most + rest start most + 400 < 100 * rounds_in turns → (outcome_of (reached values start turns).crew ≡ Delivered) ⊎ AnEndDied 0 (reached values start turns)
+    → first start most + rest start most + 400 < 100 * rounds_in turns → (outcome_of (reached values start turns).crew ≡ Delivered) ⊎ AnEndDied 0 (reached values start turns)
 
 -- ---- by scripts
 
