@@ -41,6 +41,7 @@ pub mod ExpirySegments
 pub mod AnsweredExpiries
 pub mod FewLossesDeliver
 pub mod FinDebts
+pub mod FinsMended
 pub mod FinWaits
 pub mod FinsHeard
 pub mod HarmlessDeaths
@@ -233,6 +234,7 @@ pub mod SegmentRounds
 pub mod ReadSegments
 pub mod EndRounds
 pub mod UnitRounds
+pub mod PatientPaths
 pub mod ShortWaits
 pub mod UnderWay
 pub mod ByTurns

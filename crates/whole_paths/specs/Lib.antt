@@ -38,6 +38,7 @@ pub mod Deaths
 pub mod ExpirySegments
 pub mod AnsweredExpiries
 pub mod FinDebts
+pub mod FinsMended
 pub mod HeardBelow
 pub mod HeardSaid
 pub mod KeptAddresses
@@ -144,6 +145,7 @@ pub mod EndRounds
 pub mod UnitRounds
 pub mod RisesOwed
 pub mod ToldStays
+pub mod PatientPaths
 pub mod ShortWaits
 pub mod Rising
 pub mod FirstSigns
