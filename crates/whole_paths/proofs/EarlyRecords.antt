@@ -1,7 +1,7 @@
 -- As path 0 opens each of A's records may be lost, and nothing else is owed; so no more is than A's end has records then.
-use Rattle.std.proofs.Common.{◌≡◌, refl, sym, subst, ap, ◌∙◌, ℕ, ◌≤◌, arith, Bool, true, false, true≢false, if◌then◌else◌, Option, None, Some, List, [], ◌∷◌, ◌++◌, length}
-use Rattle.std.specs.List.{map, slice_get}
-use Rattle.std.specs.Prelude.{option_map}
+use Rattle.std.proofs.Common.{◌≡◌, refl, sym, subst, ap, ◌∙◌, ℕ, ◌≤◌, arith, inr, Bool, true, false, true≢false, if◌then◌else◌, Option, None, Some, List, [], ◌∷◌, ◌++◌, length}
+use Rattle.std.specs.List.{slice_get}
+use Rattle.std.specs.Prelude.{map, option_map}
 use Rattle.std.proofs.lemmas.Bool.{both_ways}
 use Rattle.std.proofs.lemmas.List.{length-map}
 use Rattle.std.proofs.lemmas.Option.{slice_get-map}
@@ -87,15 +87,15 @@ module _ (start : Start) (plan : PathPlan) (one : BeginsWithOnePath start plan) 
   -- until B's end may send a DSS there is none
   none_before : (before : List Turn) (p : PathState Carried) → IsPathAt 0 (reached values start before) p → p.b.modes.clear ≡ false → (cs ds : List Turn) → cs ++ ds ≡ before
       → early_in (slice_get (reached values start cs).crew 2) ≡ None
-  none_before before p here unclear cs ds is = by found.2.0.b.modes.clear refl
+  none_before before p here unclear cs ds is = by found.2.b.modes.clear refl
     where
       found : (c : ActorCrew Carried) × (slice_get (reached values start cs).crew 2 ≡ Some c) × (q : PathState Carried) × (c.member ≡ Path q)
       found = let x = path_at start plan one.one cs in (x.0, x.1, x.2, x.3)
 
-      by : (b : Bool) → found.2.0.b.modes.clear ≡ b → early_in (slice_get (reached values start cs).crew 2) ≡ None
-      by false is_false = ap (λ o. early_in o) found.1 ∙ ap (λ m. of_kind (λ app. None) early_on m) found.2.1 ∙ ap (λ b. if b then Some (length found.2.0.a.tcp.send.records) else None) is_false
+      by : (b : Bool) → found.2.b.modes.clear ≡ b → early_in (slice_get (reached values start cs).crew 2) ≡ None
+      by false is_false = ap (λ o. early_in o) found.1 ∙ ap (λ m. of_kind (λ app. None) early_on m) found.3 ∙ ap (λ b. if b then Some (length found.2.a.tcp.send.records) else None) is_false
       by true is_true =
-          let later : LaterPath (reached values start cs) (world_run values ds (reached values start cs)) found.2.0 = later_path (reached values start cs) ds found.2.0 (record { crew = found.0; there = found.1; is = found.2.1 }) in
+          let later : LaterPath (reached values start cs) (world_run values ds (reached values start cs)) found.2 = later_path (reached values start cs) ds found.2 (record { crew = found.0; there = found.1; is = found.3 }) in
           let then_is : world_run values ds (reached values start cs) ≡ reached values start before = sym (run_append values cs ds (opened_world start)) ∙ ap (reached values start) is in
           let same : later.path ≡ p = path_is (reached values start before) later.path p (subst (λ (w : WorldState Carried). IsPathAt 0 w later.path) then_is later.here) here in
           absurd (both_ways p.b.modes.clear unclear (subst (λ (q : PathState Carried). q.b.modes.clear ≡ true) same (later.far.b.clear is_true)))

@@ -312,7 +312,7 @@ module _ (start : Start) (plan : PathPlan) (most : ℕ) (begins : BeginsWithOneP
     -- ---- which wait begins
 
     -- one does, and a step is left to be made
-    Begins : Type 0
+    abbrev Begins : Type 0
     Begins = Over u ⊎ ((steps_open p ≤ 4) × Awaits (round_end values start v + 61000) u)
 
     low_of : (s : Side) → (end_at s p).modes.clear ≡ false → steps_open p ≤ 4

@@ -158,7 +158,7 @@ module _ (start : Start) (plan : PathPlan) (begins : BeginsWithOnePath start pla
     (ends : (first more : List Turn) → first ++ more ≡ turns → AreLawful values more (reached values start first) → IsWhole 0 (reached values start first) → rest + 300 < 100 * rounds_in more
     → (outcome_of (reached values start (first ++ more)).crew ≡ Delivered) ⊎ AnEndDiedEarly values start (first ++ more))
     (enough : opened + rest + 400 < 100 * rounds_in turns) where
-  last : ℕ
+  abbrev last : ℕ
   last = rest / 100 + 4
 
   last_few : 100 * last ≤ rest + 400
@@ -167,7 +167,7 @@ module _ (start : Start) (plan : PathPlan) (begins : BeginsWithOnePath start pla
   last_enough : rest + 300 < 100 * last
   last_enough = let high = lt-div-mul-add {a = rest} {b = 100} (omega arith) in omega (arith, high)
 
-  Ends : List Turn → Type 0
+  abbrev Ends : List Turn → Type 0
   Ends ts = (outcome_of (reached values start ts).crew ≡ Delivered) ⊎ AnEndDied 0 (reached values start ts)
 
   parts : LastRounds last turns
