@@ -43,6 +43,7 @@ pub mod FewLossesDeliver
 pub mod FinDebts
 pub mod FinWaits
 pub mod FinsHeard
+pub mod FinsMended
 pub mod HarmlessDeaths
 pub mod HeardBelow
 pub mod HeardSaid

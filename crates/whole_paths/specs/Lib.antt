@@ -38,6 +38,7 @@ pub mod Deaths
 pub mod ExpirySegments
 pub mod AnsweredExpiries
 pub mod FinDebts
+pub mod FinsMended
 pub mod HeardBelow
 pub mod HeardSaid
 pub mod KeptAddresses
