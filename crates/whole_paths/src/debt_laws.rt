@@ -2,6 +2,7 @@
 ghost use Rattle.whole_paths.specs.CutRecords.{CheckedRecordsArePassedWhole, UncheckedRecordsArePassedWhole};
 ghost use Rattle.whole_paths.specs.DirectionWaits.{DirectionsAreMended, NumbersAlwaysAgree, RecordsArePassedWhole};
 ghost use Rattle.whole_paths.specs.FinDebts.{FinsAreHeard, FinsGoAgain, FinsStandOn};
+ghost use Rattle.whole_paths.specs.FinsMended.{FewFinsAreOwed, FinsAreMended, WhatIsAckedLasts, WhoOwesNoFinStands};
 ghost use Rattle.whole_paths.specs.OneDebt.{FinDebtsAreKnown, FinDebtsGoOn};
 ghost use Rattle.whole_paths.specs.OpenFirst.{AOwesRecordsFirst, BOwesNoneFirst, FewAsItOpensAreFew, OpensWithFewSo, PathsOpenByClearing};
 ghost use Rattle.whole_paths.specs.Directions.{DirectionsGoOn, WhatOwesNoneIsWell, WhoIsToldButStaysSo};
@@ -106,6 +107,19 @@ pub fn fins_stand_on()
 /// Then the peer's side knows where the stream ends. It is said of a DATA_FIN that was sent, and of bytes that are acknowledged as the rounds begin.
 pub fn fins_are_heard()
     ensures { FinsAreHeard }
+{}
+
+/// A law: a DATA_FIN is a debt of one at most, which is mended within 60,100 ticks, unless more is counted, over one path of a mild connection
+/// (RFC 8684, section 3.3.3; RFC 6298, section 5).
+///
+/// What is counted takes in the segments that are harmed, and once the moment from which on all bytes of the side's file are acknowledged (`mended`),
+/// which stays so (`acked`). No more such debts are owed at any open moment than were counted (`few`), and without one the DATA_FIN wasn't sent, was
+/// heard or comes, or bytes before it aren't acknowledged, or all of the stream is there (`none`).
+pub fn fins_are_mended()
+    ensures mended { FinsAreMended }
+    ensures few { FewFinsAreOwed }
+    ensures acked { WhatIsAckedLasts }
+    ensures none { WhoOwesNoFinStands }
 {}
 
 /// A law: between open ends of the only path of a mild connection no more is to be mended of what a side sends, but for one if a segment of it is

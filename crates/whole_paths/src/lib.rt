@@ -36,6 +36,7 @@ pub use debt_laws::each_grant_is_full;
 pub use debt_laws::few_as_it_opens_are_few;
 pub use debt_laws::fin_debts_go_on;
 pub use debt_laws::fins_are_heard;
+pub use debt_laws::fins_are_mended;
 pub use debt_laws::fins_stand_on;
 pub use debt_laws::harms_alone_are_owed;
 pub use debt_laws::lost_records_are_awaited;
