@@ -44,7 +44,6 @@ pub mod FinDebts
 pub mod FinsMended
 pub mod FinWaits
 pub mod FinsHeard
-pub mod FinsMended
 pub mod HarmlessDeaths
 pub mod HeardBelow
 pub mod HeardSaid
