@@ -53,7 +53,8 @@ ExchangesGoOnSo = (start : Start) (plan : PathPlan) (most : ℕ) (paid count : L
     (Mends : ℕ → ℕ → List Turn → Type 0) → BeginsWithOnePath start plan → Counts start paid count
     → DebtsAreMendedBy start plan most count Owes Mends long_wait → ((turns : List Turn) → Owes 0 turns → IsAllWell start turns)
     → WhatIsToldIsHeard start plan (Owes 0)
-    → SharpExchanges start plan paid most (AreMended start plan most count Owes) (AwaitsEither start plan most count Owes Mends (WaitsForAUnit start plan count Owes))
+    → SharpExchanges start plan paid most (AreMended start plan most count Owes)
+    (AwaitsEither start plan most count Owes Mends (WaitsForAUnit start plan count Owes))
 
 -- Where no debt is, of records that may be lost and of acknowledgements, all is well.
 abbrev pub WhatIsNotOwedIsWell : Type 0
