@@ -26,6 +26,7 @@ pub mod DataAcksAsked
 pub mod DataAcksCome
 pub mod DataAcksExchanged
 pub mod DataAcksHeard
+pub mod Counts
 pub mod Courses
 pub mod DataAcksNow
 pub mod DataAcksOwed
@@ -161,6 +162,8 @@ pub mod FinsComing
 pub mod FinsSent
 pub mod FinRounds
 pub mod OneDebt
+pub mod OneDebtAfter
+pub mod PaidEnds
 pub mod WindowsComing
 pub mod WindowRounds
 pub mod Unharmed
@@ -215,6 +218,8 @@ pub mod PositionCounts
 pub mod SentInOrder
 pub mod Unroomy
 pub mod Pushed
+pub mod FullGrants
+pub mod FlightsGo
 pub mod RoundSteps
 pub mod SegmentRounds
 pub mod ReadSegments

@@ -24,6 +24,7 @@ pub mod DataAcksAsked
 pub mod DataAcksCome
 pub mod DataAcksExchanged
 pub mod DataAcksHeard
+pub mod Counts
 pub mod Courses
 pub mod DataAcksNow
 pub mod DataAcksOwed
@@ -74,6 +75,7 @@ pub mod Outstanding
 pub mod OverOctets
 pub mod Owed
 pub mod PaidCourses
+pub mod PaidEnds
 pub mod PaidRounds
 pub mod Passed
 pub mod Probes
@@ -130,6 +132,7 @@ pub mod NeverAborted
 pub mod PositionCounts
 pub mod SentInOrder
 pub mod Pushed
+pub mod FullGrants
 pub mod SegmentRounds
 pub mod EndRounds
 pub mod UnitRounds

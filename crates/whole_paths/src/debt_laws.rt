@@ -4,6 +4,7 @@ ghost use Rattle.whole_paths.specs.DirectionWaits.{CheckedNumbersAgree, Directio
 ghost use Rattle.whole_paths.specs.OneDebt.{FinDebtsAreKnown, FinDebtsGoOn};
 ghost use Rattle.whole_paths.specs.OpenFirst.{AOwesRecordsFirst, BOwesNoneFirst, FewAsItOpensAreFew, OpensWithFewSo, PathsOpenByClearing};
 ghost use Rattle.whole_paths.specs.Directions.{DirectionsGoOn, WhatOwesNoneIsWell, WhoIsToldButStaysSo};
+ghost use Rattle.whole_paths.specs.FullGrants.{EachGrantIsFull};
 ghost use Rattle.whole_paths.specs.FirstLost.{LostRecordsAreAwaited, LostRecordsAreMended};
 ghost use Rattle.whole_paths.specs.Mends.{WhatRunsOutIsMended};
 ghost use Rattle.whole_paths.specs.ClearRounds.{LostRecordsAreFirst, LostRecordsStay, WhatIsReachedIsFirst};
@@ -43,7 +44,7 @@ pub fn directions_go_on()
 ///
 /// An end hears what it wasn't told: its timer runs out within a minute, its first record goes again, and the peer answers. A record that may be
 /// lost becomes the first one, since all before it comes within 400 ticks, and is acknowledged; then it goes again, as the timer runs out. That the
-/// direction's numbers agree, as they do with checksums (`numbers_agree`), is a premise, and that there are no more debts than harmed segments.
+/// direction's numbers agree, as they do with checksums (`numbers_agree`), is a premise.
 pub fn directions_are_mended()
     ensures { DirectionsAreMended }
 {}
@@ -129,4 +130,13 @@ pub fn what_is_reached_is_first()
 /// it is harmed, or each record of the end is well: the first one comes within 400 ticks, each other one is to be sent.
 pub fn what_runs_out_is_mended()
     ensures { WhatRunsOutIsMended }
+{}
+
+/// A law: what the end of the only path of a mild connection is granted is a full segment's payload, or all that there is for it (RFC 9293, section
+/// 3.8.6).
+///
+/// By any turn SND.NXT of an end that sent no FIN stays; or where it was a record of data begins now that holds a full segment's payload, or reaches
+/// all that is written of the side's stream, or the edge of the peer's window.
+pub fn each_grant_is_full()
+    ensures { EachGrantIsFull }
 {}

@@ -30,6 +30,7 @@ pub use debt_laws::checked_records_are_passed_whole;
 pub use debt_laws::debts_go_on;
 pub use debt_laws::directions_are_mended;
 pub use debt_laws::directions_go_on;
+pub use debt_laws::each_grant_is_full;
 pub use debt_laws::few_as_it_opens_are_few;
 pub use debt_laws::fin_debts_go_on;
 pub use debt_laws::harms_alone_are_owed;
