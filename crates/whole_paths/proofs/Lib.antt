@@ -40,6 +40,10 @@ pub mod Deaths
 pub mod ExpirySegments
 pub mod AnsweredExpiries
 pub mod FewLossesDeliver
+pub mod FinDebts
+pub mod FinWaits
+pub mod FinsHeard
+pub mod FinsMended
 pub mod HarmlessDeaths
 pub mod HeardBelow
 pub mod HeardSaid

@@ -37,6 +37,8 @@ pub mod ExpiriesInARow
 pub mod Deaths
 pub mod ExpirySegments
 pub mod AnsweredExpiries
+pub mod FinDebts
+pub mod FinsMended
 pub mod HeardBelow
 pub mod HeardSaid
 pub mod KeptAddresses

@@ -1,6 +1,8 @@
 //! What is to be mended of a connection over one path, and how it is, as clauses of functions that do nothing.
 ghost use Rattle.whole_paths.specs.CutRecords.{CheckedRecordsArePassedWhole};
 ghost use Rattle.whole_paths.specs.DirectionWaits.{CheckedNumbersAgree, DirectionsAreMended, NumbersAgreeSo};
+ghost use Rattle.whole_paths.specs.FinDebts.{FinsAreHeard, FinsGoAgain, FinsStandOn};
+ghost use Rattle.whole_paths.specs.FinsMended.{FewFinsAreOwed, FinsAreMended, WhatIsAckedLasts, WhoOwesNoFinStands};
 ghost use Rattle.whole_paths.specs.OneDebt.{FinDebtsAreKnown, FinDebtsGoOn};
 ghost use Rattle.whole_paths.specs.OpenFirst.{AOwesRecordsFirst, BOwesNoneFirst, FewAsItOpensAreFew, OpensWithFewSo, PathsOpenByClearing};
 ghost use Rattle.whole_paths.specs.Directions.{DirectionsGoOn, WhatOwesNoneIsWell, WhoIsToldButStaysSo};
@@ -78,6 +80,39 @@ pub fn few_as_it_opens_are_few()
 pub fn fin_debts_go_on()
     ensures goes_on { FinDebtsGoOn }
     ensures known { FinDebtsAreKnown }
+{}
+
+/// A law: once all bytes before it are acknowledged a DATA_FIN comes, or goes again as a timer runs out, unless it is harmed, over one path of a
+/// mild connection (RFC 8684, section 3.3.3; RFC 6298, section 5).
+///
+/// While bytes wait for the peer's window it may go before them, and be overtaken by a piece that is sent later. Nothing is sent behind it once
+/// SND.UNA is past the last byte of the side's file. By the turn in which it comes to be past, and by one in which a segment of the side is harmed,
+/// the DATA_FIN may be owed; by others it isn't (`stands`). Where it is owed its end's timer runs, and as that runs out it goes again, and comes
+/// within 400 ticks, or is harmed (`again`).
+pub fn fins_stand_on()
+    ensures stands { FinsStandOn }
+    ensures again { FinsGoAgain }
+{}
+
+/// A law: a DATA_FIN that isn't owed is heard in four rounds, once all bytes before it are acknowledged, over one path of a mild connection
+/// (RFC 8684, section 3.3.3).
+///
+/// Then the peer's side knows where the stream ends. It is said of a DATA_FIN that was sent, and of bytes that are acknowledged as the rounds begin.
+pub fn fins_are_heard()
+    ensures { FinsAreHeard }
+{}
+
+/// A law: a DATA_FIN is a debt of one at most, which is mended within 60,100 ticks, unless more is counted, over one path of a mild connection
+/// (RFC 8684, section 3.3.3; RFC 6298, section 5).
+///
+/// What is counted takes in the segments that are harmed, and once the moment from which on all bytes of the side's file are acknowledged (`mended`),
+/// which stays so (`acked`). No more such debts are owed at any open moment than were counted (`few`), and without one the DATA_FIN wasn't sent, was
+/// heard or comes, or bytes before it aren't acknowledged, or all of the stream is there (`none`).
+pub fn fins_are_mended()
+    ensures mended { FinsAreMended }
+    ensures few { FewFinsAreOwed }
+    ensures acked { WhatIsAckedLasts }
+    ensures none { WhoOwesNoFinStands }
 {}
 
 /// A law: between open ends of the only path of a mild connection no more is to be mended of what a side sends, but for one if a segment of it is
