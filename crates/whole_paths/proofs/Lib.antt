@@ -268,3 +268,8 @@ pub mod SynsSoon
 pub mod FirstPiecesSoon
 pub mod AnswersSoon
 pub mod KeyedFirst
+pub mod ByCopies
+pub mod OldRecords
+pub mod PassedWhole
+pub mod Uncut
+pub mod WholePieces

@@ -100,13 +100,13 @@ pub record NumbersAgree (start : Start) (s : Side) : Type 0 where
       ⊎ ((end_at s h.path).tcp.send.una ≤ suc (end_at s h.path).sending.heard)
   pub whole : ArePassedWhole start s
 
--- So it is over one path, where records are passed whole.
-abbrev pub NumbersAgreeSo : Type 0
-NumbersAgreeSo = (start : Start) (plan : PathPlan) (s : Side) → BeginsWithOnePath start plan → ArePassedWhole start s → NumbersAgree start s
+-- Over one path records are passed whole.
+abbrev pub RecordsArePassedWhole : Type 0
+RecordsArePassedWhole = (start : Start) (plan : PathPlan) (s : Side) → BeginsWithOnePath start plan → ArePassedWhole start s
 
--- with checksums always
-abbrev pub CheckedNumbersAgree : Type 0
-CheckedNumbersAgree = (start : Start) (plan : PathPlan) (s : Side) → BeginsWithOnePath start plan → start.checksums ≡ true → NumbersAgree start s
+-- So numbers agree there.
+abbrev pub NumbersAlwaysAgree : Type 0
+NumbersAlwaysAgree = (start : Start) (plan : PathPlan) (s : Side) → BeginsWithOnePath start plan → NumbersAgree start s
 
 -- Where numbers agree, debts along a direction are mended.
 abbrev pub DirectionsAreMended : Type 0

@@ -3,6 +3,8 @@ ghost use Rattle.whole_paths.specs.CutRecords.{CheckedRecordsArePassedWhole};
 ghost use Rattle.whole_paths.specs.DirectionWaits.{CheckedNumbersAgree, DirectionsAreMended, NumbersAgreeSo};
 ghost use Rattle.whole_paths.specs.FinDebts.{FinsAreHeard, FinsGoAgain, FinsStandOn};
 ghost use Rattle.whole_paths.specs.FinsMended.{FewFinsAreOwed, FinsAreMended, WhatIsAckedLasts, WhoOwesNoFinStands};
+ghost use Rattle.whole_paths.specs.CutRecords.{CheckedRecordsArePassedWhole, UncheckedRecordsArePassedWhole};
+ghost use Rattle.whole_paths.specs.DirectionWaits.{DirectionsAreMended, NumbersAlwaysAgree, RecordsArePassedWhole};
 ghost use Rattle.whole_paths.specs.OneDebt.{FinDebtsAreKnown, FinDebtsGoOn};
 ghost use Rattle.whole_paths.specs.OpenFirst.{AOwesRecordsFirst, BOwesNoneFirst, FewAsItOpensAreFew, OpensWithFewSo, PathsOpenByClearing};
 ghost use Rattle.whole_paths.specs.Directions.{DirectionsGoOn, WhatOwesNoneIsWell, WhoIsToldButStaysSo};
@@ -18,14 +20,21 @@ pub fn checked_records_are_passed_whole()
     ensures { CheckedRecordsArePassedWhole }
 {}
 
-/// A law: with checksums as many bytes of a side's stream are acknowledged by Data ACKs as positions of the only path of a mild connection, where a
-/// turn is over, and never more; and RCV.NXT of the peer lies inside no record of data (RFC 8684, sections 3.3.1 and 3.3.2; `checked`).
+/// A law: without checksums RCV.NXT of an end lies inside no record of data of its peer's either, on path 0 of a mild connection neither end of which
+/// is dead: each segment has all of a record, so that none of its octets comes, or all (RFC 9293, section 3.4; `unchecked`).
 ///
-/// So it is at each moment at which the path is open, unless all of the side's stream is with the peer; without checksums, too, where records are
-/// passed whole (`so`).
+/// Over one path it doesn't wherever the path is open, with checksums or without (`always`).
+pub fn records_are_passed_whole()
+    ensures unchecked { UncheckedRecordsArePassedWhole }
+    ensures always { RecordsArePassedWhole }
+{}
+
+/// A law: as many bytes of a side's stream are acknowledged by Data ACKs as positions of the only path of a mild connection, where a turn is over, and
+/// never more; and RCV.NXT of the peer lies inside no record of data (RFC 8684, sections 3.3.1 and 3.3.2).
+///
+/// So it is at each moment at which the path is open, unless all of the side's stream is with the peer.
 pub fn numbers_agree()
-    ensures so { NumbersAgreeSo }
-    ensures checked { CheckedNumbersAgree }
+    ensures { NumbersAlwaysAgree }
 {}
 
 /// A law: in one direction of the only path of a mild connection a segment that is harmed makes one debt at most (RFC 9293, section 3.10.7.4).
@@ -47,6 +56,9 @@ pub fn directions_go_on()
 /// An end hears what it wasn't told: its timer runs out within a minute, its first record goes again, and the peer answers. A record that may be
 /// lost becomes the first one, since all before it comes within 400 ticks, and is acknowledged; then it goes again, as the timer runs out. That the
 /// direction's numbers agree, as they do with checksums (`numbers_agree`), is a premise.
+{}
+
+/// direction's numbers agree, as they do (`numbers_agree`), is a premise, and that there are no more debts than harmed segments.
 pub fn directions_are_mended()
     ensures { DirectionsAreMended }
 {}
