@@ -273,3 +273,6 @@ pub mod OldRecords
 pub mod PassedWhole
 pub mod Uncut
 pub mod WholePieces
+pub mod Opened
+pub mod SignPieces
+pub mod EarlyRecords

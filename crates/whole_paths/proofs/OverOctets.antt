@@ -69,7 +69,7 @@ lawful_turn (Turn.Step actor) w = (λ is. sym (same_going actor w) ∙ is, λ is
 lawful_turn Turn.Round w = (λ is. sym (same_all_over w.crew) ∙ is, λ is. same_all_over w.crew ∙ is)
 
 -- one turn, shown
-shown_turn : (turn : Turn) (turns : List Turn) (w : WorldState Carried) → AreFresh (turn ∷ turns) w → after_turn octets turn (shown_world w) ≡ shown_world (after_turn values turn w)
+pub shown_turn : (turn : Turn) (turns : List Turn) (w : WorldState Carried) → AreFresh (turn ∷ turns) w → after_turn octets turn (shown_world w) ≡ shown_world (after_turn values turn w)
 shown_turn turn turns w fresh = run_same (turn ∷ []) w (fresh.0, tt)
 
 lawful_shown : (turns : List Turn) (w : WorldState Carried) → AreFresh turns w → AreLawful octets turns (shown_world w) ↔ AreLawful values turns w

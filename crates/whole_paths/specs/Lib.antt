@@ -157,3 +157,6 @@ pub mod SharpPaths
 pub mod SynsSoon
 pub mod FirstPiecesSoon
 pub mod AnswersSoon
+pub mod Opened
+pub mod SignPieces
+pub mod EarlyRecords

@@ -6,7 +6,7 @@
 //! leaves a link by arriving alone, as it was sent (`copies_arrive_as_sent`), or as the path dies (`a_copy_leaves_by_arriving`). Whoever
 //! waits for an answer has a timer that runs (`who_waits_has_a_timer`), for a minute at most (`timers_run_out`), and no event is passed by
 //! (`nothing_is_overdue`); news alone puts it off (`no_timer_is_put_off`, `timers_run_on`), and as it runs out the first record goes again
-//! (`what_runs_out_goes_again`). What is lost comes again within a minute and the longest time on its way (`what_waits_comes`), and what
+//! (`what_runs_out_goes_again`). What is lost comes again within a minute and 400 ticks (`what_waits_comes`), and what
 //! comes is kept until it is passed (`what_comes_is_kept`, `what_is_told_is_known`), and is passed and answered in its turn
 //! (`each_piece_comes_in_order`, `what_is_in_order_is_passed`, `what_is_in_hand_is_acknowledged`, `each_copy_is_answered_at_once`), by a
 //! segment that acknowledges all of it (`each_segment_says_what_came`) and nothing that didn't come (`what_is_acknowledged_came`), as
@@ -83,6 +83,6 @@ pub use laws::{
     who_waits_has_a_timer, writers_go_on,
 };
 pub use opening_laws::{
-    a_has_the_key_first, each_first_piece_comes_soon, each_syn_ack_is_answered_soon,
-    each_syn_comes_soon,
+    a_has_the_key_first, each_first_piece_comes_soon, each_sign_piece_comes,
+    each_syn_ack_is_answered_soon, each_syn_comes_soon, paths_open_owing_records,
 };
