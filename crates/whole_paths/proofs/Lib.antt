@@ -169,6 +169,11 @@ pub mod OneDebt
 pub mod OneDebtAfter
 pub mod PaidEnds
 pub mod WindowsComing
+pub mod WindowsAssured
+pub mod FilesFit
+pub mod AnswersAssure
+pub mod AsksOwed
+pub mod ToldEdges
 pub mod WindowRounds
 pub mod Unharmed
 pub mod Unmended

@@ -113,6 +113,11 @@ pub mod BareSegments
 pub mod FinsComing
 pub mod OneDebt
 pub mod WindowsComing
+pub mod WindowsAssured
+pub mod FilesFit
+pub mod AnswersAssure
+pub mod AsksOwed
+pub mod ToldEdges
 pub mod Writers
 pub mod EndedStreams
 pub mod Ends

@@ -25,6 +25,7 @@ mod delivery_laws;
 mod expiry_laws;
 mod laws;
 mod opening_laws;
+mod window_laws;
 
 pub use debt_laws::{
     checked_records_are_passed_whole, debts_go_on, directions_are_mended, directions_go_on,
@@ -85,4 +86,8 @@ pub use laws::{
 pub use opening_laws::{
     a_has_the_key_first, each_first_piece_comes_soon, each_sign_piece_comes,
     each_syn_ack_is_answered_soon, each_syn_comes_soon, paths_open_owing_records,
+};
+pub use window_laws::{
+    fitting_files_are_never_shut, what_comes_opens_the_window, what_is_told_goes_on, who_asks_owes,
+    windows_are_assured,
 };
