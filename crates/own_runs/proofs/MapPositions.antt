@@ -14,14 +14,16 @@ use Rattle.std.proofs.lemmas.Option.{get_or_from_slice_get, slice_get_within}
 use Rattle.sides.specs.Side.{peer}
 use Rattle.dss_checksum.specs.Checksum.{dss_checksum}
 use Rattle.mptcp_options.specs.Value.{OptionValue, Dss, Fail}
+use Rattle.mptcp_options.specs.declared.dss.DataNumber.{DataNumber}
 use Rattle.judge_rules.specs.declared.acks.ToldPlace.{ToldPlace}
 use Rattle.judge_rules.specs.declared.finding.Finding.{Finding}
-use Rattle.judge_rules.specs.declared.finding.Finding.TheVariants.{BeyondFin, MappedBeyond, NoPosition, OtherFin, OtherPlace, WrongSum}
+use Rattle.judge_rules.specs.declared.finding.Finding.TheVariants.{BeyondFin, Falls, MappedBeyond, NoPosition, NotSeen, OtherFin, OtherPlace, WrongSum}
 use Rattle.judge_rules.specs.declared.finding.Rule.{Rule}
 use Rattle.judge_rules.specs.declared.finding.Rule.TheVariants as rule
 use Rattle.judge_rules.specs.declared.mappings.Line.{Line}
 use Rattle.judge_rules.specs.declared.mappings.Offer.{Offer}
-use Rattle.judge_rules.specs.Acks.{ack_place}
+use Rattle.judge_rules.specs.Acks.{ack_by, ack_place, behind_fin, not_below}
+use Rattle.judge_rules.specs.declared.acks.AckFacts.{AckFacts}
 use Rattle.judge_rules.specs.Clashes.{clash_by, first_clash}
 use Rattle.judge_rules.specs.Mappings.{fin_fault, fin_told, is_too_early, mapped_octets, mapped_place, natural, offer_of}
 use Rattle.judge_rules.specs.Mappings as mapping
@@ -32,6 +34,7 @@ use Rattle.seen_octets.specs.declared.octet.Octet.{Octet}
 use Rattle.seen_octets.specs.declared.octet.OtherOctet.{OtherOctet}
 use Rattle.seen_octets.specs.Octets.{all_held, octet_by}
 use Rattle.seen_octets.specs.Others.{first_other, other_by}
+use Rattle.seen_octets.specs.Places.{whole}
 use Rattle.seen_streams.specs.declared.told.Broke.{Broke}
 use Rattle.seen_streams.specs.declared.told.Infinite.{Infinite}
 use Rattle.seen_streams.specs.declared.told.Teller.{Teller}
@@ -54,7 +57,7 @@ use Rattle.own_runs.proofs.OwnPositions.{same_position}
 use Rattle.own_runs.proofs.FinePositions.{EndsAt, NumberIs, TellsNoFail, near_so}
 use Rattle.own_runs.proofs.Telling.{Untold, others_keep}
 
--- the rules on mappings and what they map, on the end of a stream, and that on MP_FAIL
+-- the rules on mappings and what they map, on the end of a stream, on Data ACKs, and that on MP_FAIL
 abbrev pub is_mapping : Rule → Bool
 is_mapping rule.Mapping = true
 is_mapping rule.PlaceContent = true
@@ -62,6 +65,7 @@ is_mapping rule.DssSum = true
 is_mapping rule.DataFin = true
 is_mapping rule.Infinite = true
 is_mapping rule.Fail = true
+is_mapping rule.DataAck = true
 is_mapping _ = false
 
 -- the positions from one on have the places from another one on
@@ -147,8 +151,9 @@ module _ (limit : ℕ) (few : limit < 2 ^ 31) (content : ℕ → ℕ) where
   found_so r packet (Some finding) s other h = tell_so r packet (Found finding) s other h
 
   -- where the positions of a lane have these places, and place 0 this number: no infinite mapping was told on it, its positions have their
-  -- octets, and the mappings that wait for them have their checksums
-  module _ (first : ℕ) (where_at : ℕ → ℕ) where
+  -- octets, and the mappings that wait for them have their checksums; of the other stream no more was acknowledged on it than up
+  -- to a place, and what was sent on it ends up to a position
+  module _ (first : ℕ) (where_at : ℕ → ℕ) (most high : ℕ) where
     -- the octet of a position
     abbrev pub at : ℕ → ℕ
     at p = content (where_at p)
@@ -167,6 +172,8 @@ module _ (limit : ℕ) (few : limit < 2 ^ 31) (content : ℕ → ℕ) where
       pub placed : (p : ℕ) → IfSome (l.placed p) (λ told. (told.image ≡ where_at p) × (told.image < limit))
       pub octets : (p : ℕ) → IfSome (l.octet p) (λ o. o.octet ≡ at p)
       pub waiting : All Waits l.waiting
+      pub acked : l.acknowledged ≤ most
+      pub top : l.top ≤ high
 
     abbrev pub Fine : StreamValue → LaneValue → Type 0
     Fine s l = StreamFine s × LaneFine l
@@ -281,6 +288,8 @@ module _ (limit : ℕ) (few : limit < 2 ^ 31) (content : ℕ → ℕ) where
       line = h.line;
       octets = h.octets;
       waiting = h.waiting;
+      acked = h.acked;
+      top = h.top;
       placed = λ p. either p (l.placed p) (h.placed p) (told_by (run_of packet mapping) p) (told p);
     }
       where
@@ -566,6 +575,8 @@ module _ (limit : ℕ) (few : limit < 2 ^ 31) (content : ℕ → ℕ) where
           placed = h.placed;
           octets = h.octets;
           waiting = All-append Waits l.waiting (one ∷ []) h.waiting (All-cons Waits one [] right (All-nil Waits));
+          acked = h.acked;
+          top = h.top;
         }
 
         told : (known : Bool) → unwrap_or m.checksum 0 ≡ sum_of m → LaneFine (if known then l else record l {
@@ -604,29 +615,50 @@ module _ (limit : ℕ) (few : limit < 2 ^ 31) (content : ℕ → ℕ) where
           placed = fine.placed;
           octets = fine.octets;
           waiting = All-filter (λ waiting. not (is_whole l.octet waiting)) Waits l.waiting fine.waiting;
+          acked = fine.acked;
+          top = fine.top;
         }
 
     -- ---- Data ACKs and MP_FAIL
 
-    acked_by_so : (place : Result ℕ Finding) (packet : ℕ) (acked : Acked) → Fine acked.stream acked.lane → Fine (acked_by place packet acked).stream (acked_by place packet acked).lane
-    acked_by_so (Err finding) packet acked h = (tell_so rule.DataAck packet (Found finding) acked.stream refl h.0, h.1)
-    acked_by_so (Ok place) packet acked h = (
-      record { infinite = h.0.infinite; fin = h.0.fin; top = h.0.top; octets = h.0.octets; below = h.0.below; untold = h.0.untold },
-      record { line = h.1.line; placed = h.1.placed; octets = h.1.octets; waiting = h.1.waiting },
-    )
+    -- a Data ACK up to that place, which was seen
+    abbrev pub AckIs : ℕ → StreamValue → OptionValue → Type 0
+    AckIs known peers (Dss (Some number) mapping fin) =
+        NumberIs known number most × (peers.top < 2 ^ 31) × (most < 2 ^ 31) × (most ≤ behind_fin peers.fin (whole peers.seen 0))
+    AckIs known peers _ = Unit {0}
 
-    acked_one_so : (facts : Facts) (known : ℕ) (peers : StreamValue) (option : OptionValue) (acked : Acked) → Fine acked.stream acked.lane
+    -- it isn't below the highest one before
+    ack_so : (facts : AckFacts) (number : DataNumber) → NumberIs facts.first number most → facts.top < 2 ^ 31 → most < 2 ^ 31
+        → most ≤ behind_fin facts.fin facts.whole → IfSome facts.highest (λ highest. highest ≤ most) → ack_place facts number ≡ Ok most
+    ack_so facts number is few small behind on =
+        ap (ack_by facts number) (near_so facts.first facts.top most number is few small)
+        ∙ ap (λ (b : Bool). if b then Err (NotSeen most (behind_fin facts.fin facts.whole)) else not_below facts.highest most) (le-ltb (behind_fin facts.fin facts.whole) most behind)
+        ∙ highest facts.highest on
+      where
+        highest : (o : Option ℕ) → IfSome o (λ highest. highest ≤ most) → not_below o most ≡ Ok most
+        highest None on = refl
+        highest (Some after) on = ap (λ (b : Bool). if b then Err (Falls most after) else Ok most) (le-ltb most after on)
+
+    acked_one_so : (facts : Facts) (known : ℕ) (peers : StreamValue) (option : OptionValue) (acked : Acked) → AckIs known peers option → Fine acked.stream acked.lane
         → Fine (acked_one facts known peers option acked).stream (acked_one facts known peers option acked).lane
-    acked_one_so facts known peers (Dss (Some number) mapping fin) acked h =
-        acked_by_so (ack_place (ack_facts facts.at_sender known peers acked.lane) number) facts.packet (ack_counted acked)
-        (record { infinite = h.0.infinite; fin = h.0.fin; top = h.0.top; octets = h.0.octets; below = h.0.below; untold = h.0.untold }, h.1)
-    acked_one_so facts known peers option acked h = h
+    acked_one_so facts known peers (Dss (Some number) mapping fin) acked is h =
+        subst (λ (r : Result ℕ Finding). Fine (acked_by r facts.packet (ack_counted acked)).stream (acked_by r facts.packet (ack_counted acked)).lane)
+        (sym (ack_so (ack_facts facts.at_sender known peers acked.lane) number is.0 is.1 is.2 is.3 (on facts.at_sender))) (
+          record { infinite = h.0.infinite; fin = h.0.fin; top = h.0.top; octets = h.0.octets; below = h.0.below; untold = h.0.untold },
+          record { line = h.1.line; placed = h.1.placed; octets = h.1.octets; waiting = h.1.waiting; acked = (let low = h.1.acked in omega (arith, low)); top = h.1.top },
+        )
+      where
+        on : (b : Bool) → IfSome (if b then Some acked.lane.acknowledged else None) (λ highest. highest ≤ most)
+        on true = h.1.acked
+        on false = tt
+    acked_one_so facts known peers option acked is h = h
 
-    acked_so : (facts : Facts) (known : ℕ) (peers : StreamValue) (options : List OptionValue) (acked : Acked) → Fine acked.stream acked.lane
+    acked_so : (facts : Facts) (known : ℕ) (peers : StreamValue) (options : List OptionValue) (acked : Acked) → All (AckIs known peers) options → Fine acked.stream acked.lane
         → Fine (acked_each facts known peers options acked).stream (acked_each facts known peers options acked).lane
-    acked_so facts known peers [] acked h = h
-    acked_so facts known peers (option ∷ options) acked h =
-        acked_so facts known peers options (acked_one facts known peers option acked) (acked_one_so facts known peers option acked h)
+    acked_so facts known peers [] acked all h = h
+    acked_so facts known peers (option ∷ options) acked all h =
+        acked_so facts known peers options (acked_one facts known peers option acked) (All-tail (AckIs known peers) option options all)
+        (acked_one_so facts known peers option acked (All-head (AckIs known peers) option options all) h)
 
     failed_one_so : (packet first : ℕ) (peers : StreamValue) (option : OptionValue) (s : StreamValue) → TellsNoFail option → StreamFine s
         → StreamFine (failed_one packet first peers option s)
@@ -641,11 +673,11 @@ module _ (limit : ℕ) (few : limit < 2 ^ 31) (content : ℕ → ℕ) where
         (failed_one_so packet first peers option s (All-head TellsNoFail option options calm) h)
 
     acks_so : (facts : Facts) (known : Option ℕ) (peers : StreamValue) (options : List OptionValue) (acked : Acked) → All TellsNoFail options
-        → Fine acked.stream acked.lane
+        → IfSome known (λ n. All (AckIs n peers) options) → Fine acked.stream acked.lane
         → Fine (behind_acks facts known peers options acked).stream (behind_acks facts known peers options acked).lane
-    acks_so facts None peers options acked calm h = h
-    acks_so facts (Some known) peers options acked calm h =
-        let it = acked_so facts known peers options acked h in
+    acks_so facts None peers options acked calm acks h = h
+    acks_so facts (Some known) peers options acked calm acks h =
+        let it = acked_so facts known peers options acked acks h in
         (failed_so facts.packet known peers options (acked_each facts known peers options acked).stream calm it.0, it.1)
 
     -- ---- all of a segment
@@ -703,10 +735,10 @@ module _ (limit : ℕ) (few : limit < 2 ^ 31) (content : ℕ → ℕ) where
           by false high true is = before (l.octet p) (octets p)
           by false high false is = tt
 
-    payload_so : (facts : Facts) (position acknowledged : ℕ) (mapped : Mapped) → Bears at position facts.seen.segment.payload
+    payload_so : (facts : Facts) (position acknowledged : ℕ) (mapped : Mapped) → Bears at position facts.seen.segment.payload → (payload_at facts position).to ≤ high
         → Fine mapped.stream mapped.lane
         → Fine (behind_payload facts position acknowledged mapped).stream (behind_payload facts position acknowledged mapped).lane
-    payload_so facts position acknowledged mapped bears h =
+    payload_so facts position acknowledged mapped bears ends h =
         let payload = payload_at facts position in
         let lane = with_payload payload facts.packet mapped.lane in
         let octets = with_octets facts position bears facts.packet mapped.lane h.1 in
@@ -715,6 +747,8 @@ module _ (limit : ℕ) (few : limit < 2 ^ 31) (content : ℕ → ℕ) where
           placed = h.1.placed;
           octets = octets;
           waiting = h.1.waiting;
+          acked = h.1.acked;
+          top = let low = h.1.top in omega (arith, low, ends);
         } in
         let s = within_each facts position mapped.learnt mapped.stream in (
           shown_so (place_of lane) (comes payload mapped lane) acknowledged facts.packet 1 (lane.top - 1) (ended_by_fin mapped.lane facts.packet s)
@@ -724,17 +758,17 @@ module _ (limit : ℕ) (few : limit < 2 ^ 31) (content : ℕ → ℕ) where
         )
 
     pub at_so : (facts : Facts) (position : ℕ) (options : List OptionValue) (keys : Keys) (peers s : StreamValue) (l : LaneValue) → IfSome (first_of facts.side keys) (λ n. n ≡ first)
-        → All (OffersWell first limit content where_at position) options → All TellsNoFail options
-        → Bears at position facts.seen.segment.payload → Fine s l
+        → All (OffersWell first limit content where_at position) options → All TellsNoFail options → IfSome (first_of (peer facts.side) keys) (λ n. All (AckIs n peers) options)
+        → Bears at position facts.seen.segment.payload → (payload_at facts position).to ≤ high → Fine s l
         → Fine (judged_at facts position options keys peers s l).stream (judged_at facts position options keys peers s l).lane
-    at_so facts position options keys peers s l is all calm bears h =
+    at_so facts position options keys peers s l is all calm acks bears ends h =
         let before : Mapped = record { stream = s; lane = fin_taken facts position l; learnt = []; has_line = false } in
         let mapped = mapped_with facts (first_of facts.side keys) position options before in
         let held = mapped_so facts (first_of facts.side keys) is position options before all ((h.0, fin_lane facts.seen.segment.head.fin), All-nil Summed) in
         let paid = behind_payload facts position peers.acknowledged mapped in
-        acks_so facts (first_of (peer facts.side) keys) peers options (summed facts (first_of facts.side keys) mapped.learnt paid) calm
-        (summed_so facts (first_of facts.side keys) is mapped.learnt paid held.1 (payload_so facts position peers.acknowledged mapped bears held.0))
+        acks_so facts (first_of (peer facts.side) keys) peers options (summed facts (first_of facts.side keys) mapped.learnt paid) calm acks
+        (summed_so facts (first_of facts.side keys) is mapped.learnt paid held.1 (payload_so facts position peers.acknowledged mapped bears ends held.0))
       where
         fin_lane : (b : Bool) → LaneFine (if b then with_fin (position + facts.seen.payload_len) l else l)
-        fin_lane true = record { line = h.1.line; placed = h.1.placed; octets = h.1.octets; waiting = h.1.waiting }
+        fin_lane true = record { line = h.1.line; placed = h.1.placed; octets = h.1.octets; waiting = h.1.waiting; acked = h.1.acked; top = h.1.top }
         fin_lane false = h.1

@@ -1,4 +1,4 @@
--- What each segment of a connection of ours keeps holds of each book and of what was sent on each flow, over the packets of a capture.
+-- What a segment of a connection of ours keeps in its flow it keeps of each book and of what was sent on each flow.
 use Rattle.std.proofs.Common.{◌≡◌, refl, sym, ap, ◌∙◌, subst, ℕ, ◌+◌, nat_lt, ◌||◌, Bool, true, false, not, if◌then◌else◌, Option, Some, None, List, [], ◌∷◌, ◌++◌, length}
 use Rattle.std.specs.Prelude.{All, IfSome}
 use Rattle.std.specs.List.{slice_get}
@@ -22,8 +22,6 @@ use Rattle.seen_streams.specs.State.{StreamValue}
 use Rattle.rule_book.specs.Judged.{Told, empty_book, empty_lanes, grown, grown_to, judged, judged_belonging, judged_flow, judged_in_flow, judged_known, judged_place, judged_taken, nothing_judged, side_of, token_in, token_told, with_wrong_token}
 use Rattle.rule_book.specs.State.{BookValue, JudgedValue, LanesValue, stream_at}
 use Rattle.rule_book.specs.Stream.{Left}
-use Rattle.capture_verdict.specs.Judging.{judged_if_seen, judged_packets}
-use Rattle.judge_laws.specs.GoesOn.{stream_in}
 use Rattle.judge_laws.proofs.Flows.{key_flows}
 use Rattle.judge_laws.proofs.Standing.{set_item, some_same}
 use Rattle.stream_lanes.proofs.Lists.{in_append}
@@ -31,12 +29,12 @@ use Rattle.own_runs.proofs.Openers.{openers_stay}
 use Rattle.own_runs.proofs.Own.{Drawn, IsOwn, end_of, is_a, is_opener, same_place}
 use Rattle.own_runs.proofs.OwnFlows.{Each, FlowOn, FlowsOwn, KeysOwn, each_end, each_set, key_so, place_so, taken_so}
 
-grown_each : {X : Type 0} → (P : X → Type 0) (count : ℕ) (one : X) (xs : List X) → Each P xs → P one → Each P (grown_to count one xs)
-grown_each {X} P count one xs each p = by (nat_lt (length xs) count)
+grown_each : {X : Type 0} → (P : X → Type 0) (count : ℕ) (one : X) (xs : List X) → Each P xs → (nat_lt (length xs) count ≡ true → P one) → Each P (grown_to count one xs)
+grown_each {X} P count one xs each p = by (nat_lt (length xs) count) refl
   where
-    by : (b : Bool) → Each P (if b then xs ++ one ∷ [] else xs)
-    by true = each_end P xs one each p
-    by false = each
+    by : (b : Bool) → nat_lt (length xs) count ≡ b → Each P (if b then xs ++ one ∷ [] else xs)
+    by true more = each_end P xs one each (p more)
+    by false more = each
 
 -- the sender of a segment in its flow
 pub opens_so : (d : Drawn) (seen : Seen) (own : IsOwn d seen) (flow : Flow) → FlowOn d own.path flow → same_end seen.source flow.opener ≡ is_a own.from
@@ -72,7 +70,6 @@ module _ (d : Drawn) (P : Seen → Type 0) (B : BookValue → Type 0) (L : ℕ �
   -- each segment of the connection, in its flow
   pub record SegmentsKeep : Type 0 where
     pub own : (seen : Seen) → P seen → IsOwn d seen
-    pub new_book : B empty_book
     pub new_lanes : (path : ℕ) → L path empty_lanes
     pub token : (wrong : WrongToken) (book : BookValue) → B book → B (token_told wrong book)
     pub flow : (at : Option Side) (packet : ℕ) (seen : Seen) (p : P seen) (index : ℕ) (flow : Flow) → FlowOn d (own seen p).path flow → (belongs : Belongs)
@@ -80,20 +77,24 @@ module _ (d : Drawn) (P : Seen → Type 0) (B : BookValue → Type 0) (L : ℕ �
         → IsLeft (own seen p).path (judged_flow at packet seen index flow belongs keys left)
 
   -- lanes of a flow of a path
-  record AreBound (flows : List Flow) (i : ℕ) (lanes : LanesValue) : Type 0 where
-    path : ℕ
-    flow : Flow
-    there : slice_get flows i ≡ Some flow
-    opener : flow.opener ≡ end_of path A
-    holds : L path lanes
+  pub record AreBound (flows : List Flow) (i : ℕ) (lanes : LanesValue) : Type 0 where
+    pub path : ℕ
+    pub flow : Flow
+    pub there : slice_get flows i ≡ Some flow
+    pub opener : flow.opener ≡ end_of path A
+    pub holds : L path lanes
 
-  abbrev LanesHold : List Flow → List LanesValue → Type 0
+  abbrev pub LanesHold : List Flow → List LanesValue → Type 0
   LanesHold flows all = (i : ℕ) (lanes : LanesValue) → slice_get all i ≡ Some lanes → (lanes ≡ empty_lanes) ⊎ AreBound flows i lanes
 
-  record AllHold (state : JudgedValue) : Type 0 where
-    seen : FlowsOwn d state.seen
-    books : Each B state.books
-    lanes : LanesHold state.seen.flows state.lanes
+  pub record AllHold (state : JudgedValue) : Type 0 where
+    pub seen : FlowsOwn d state.seen
+    pub books : Each B state.books
+    pub lanes : LanesHold state.seen.flows state.lanes
+
+  -- a connection more begins with an empty book
+  abbrev pub NewBook : JudgedValue → ℕ → Seen → Type 0
+  NewBook state packet seen = nat_lt (length state.books) (length (taken state.seen packet seen true).now.connections) ≡ true → B empty_book
 
   -- a packet with a segment of the connection
   abbrev pub PacketIs : Captured → Type 0
@@ -106,7 +107,7 @@ module _ (d : Drawn) (P : Seen → Type 0) (B : BookValue → Type 0) (L : ℕ �
 
       -- ---- put back
 
-      lanes_so : (index : ℕ) (flow : Flow) (f : FlowOn d own.path flow) (flows : List Flow) → slice_get flows index ≡ Some flow → (lanes : LanesValue)
+      pub lanes_so : (index : ℕ) (flow : Flow) (f : FlowOn d own.path flow) (flows : List Flow) → slice_get flows index ≡ Some flow → (lanes : LanesValue)
           → (lanes ≡ empty_lanes) ⊎ AreBound flows index lanes → L own.path lanes
       lanes_so index flow f flows there lanes (inl empty) = subst (L own.path) (sym empty) (keep.new_lanes own.path)
       lanes_so index flow f flows there lanes (inr bound) =
@@ -184,13 +185,13 @@ module _ (d : Drawn) (P : Seen → Type 0) (B : BookValue → Type 0) (L : ℕ �
           found None same = tt
           found (Some flow) same = on flow (sym same)
 
-      segment_so : (state : JudgedValue) → AllHold state → AllHold (judged at true state packet seen)
-      segment_so state all =
+      pub segment_so : (state : JudgedValue) → NewBook state packet seen → AllHold state → AllHold (judged at true state packet seen)
+      segment_so state new all =
           subst (λ (b : Bool). AllHold (judged_taken at packet seen (taken state.seen packet seen b) state)) (sym good)
           (place_at (taken state.seen packet seen true).place (grown now state) (place_so d state.seen packet seen own all.seen)
           (record {
             seen = taken_so d state.seen packet seen own all.seen;
-            books = grown_each B (length now.connections) empty_book state.books all.books keep.new_book;
+            books = grown_each B (length now.connections) empty_book state.books all.books new;
             lanes = λ i lanes at. ⊎_elim (λ empty. inl empty) (λ old. ⊎_elim (λ empty. inl empty) (λ bound. inr (bound_on i lanes bound)) (all.lanes i lanes old))
                 (grown_item (length now.flows) empty_lanes state.lanes i lanes at);
           }))
@@ -205,39 +206,3 @@ module _ (d : Drawn) (P : Seen → Type 0) (B : BookValue → Type 0) (L : ℕ �
 
           good : (seen.has_good_sum || not true) ≡ true
           good = ap (λ (b : Bool). b || false) own.good
-
-    -- ---- packets
-
-    seen_so : (at : Option Side) (state : JudgedValue) (n : ℕ) (seen : Option Seen) → IfSome seen P → AllHold state → AllHold (judged_if_seen at true state n seen)
-    seen_so at state n None p all = all
-    seen_so at state n (Some seen) p all = segment_so at n seen p state all
-
-    packets_so : (at : Option Side) (state : JudgedValue) (n : ℕ) (packets : List Captured) → All PacketIs packets → AllHold state
-        → AllHold (judged_packets at true state n packets)
-    packets_so at state n [] each all = all
-    packets_so at state n (packet ∷ packets) each all =
-        packets_so at (judged_if_seen at true state n (segment_in_packet packet)) (n + 1) packets (All-tail PacketIs packet packets each)
-        (seen_so at state n (segment_in_packet packet) (All-head PacketIs packet packets each) all)
-
-    -- of each book
-    pub book_holds : (at : Option Side) (packets : List Captured) → All PacketIs packets → (connection : ℕ) (s : Side) (stream : StreamValue)
-        → stream_in (judged_packets at true nothing_judged 1 packets) connection s ≡ Some stream → (book : BookValue) × B book × (stream_at s book ≡ stream)
-    book_holds at packets each connection s stream there = by (slice_get judged_all.books connection) refl there
-      where
-        judged_all : JudgedValue
-        judged_all = judged_packets at true nothing_judged 1 packets
-
-        nothing_there : {X : Type 0} → (i : ℕ) (x : X) → slice_get [] i ≡ Some x → ⊥
-        nothing_there i x e = cc
-
-        all : AllHold judged_all
-        all = packets_so at nothing_judged 1 packets each (record {
-          seen = record { flows = λ i flow at. absurd (nothing_there i flow at); connections = λ i keys at. absurd (nothing_there i keys at); known = refl };
-          books = λ i book at. absurd (nothing_there i book at);
-          lanes = λ i lanes at. absurd (nothing_there i lanes at);
-        })
-
-        by : (book : Option BookValue) → slice_get judged_all.books connection ≡ book → option_map (stream_at s) book ≡ Some stream
-            → (book : BookValue) × B book × (stream_at s book ≡ stream)
-        by None e h = cc
-        by (Some book) e h = (book, all.books connection book e, some_same (stream_at s book) stream h)
