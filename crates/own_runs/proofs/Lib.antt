@@ -19,6 +19,8 @@ mod Handed
 mod Handing
 mod Ipv4
 mod Kept
+mod JudgedHere
+mod KeptCovers
 mod KeptOptions
 mod KeyDuties
 mod KeyHears
@@ -34,10 +36,13 @@ mod MomentFacts
 mod Moments
 mod NextGrows
 mod NextRuns
+mod NextTrace
 mod Nonces
 mod Numbered
 mod Offering
 mod OneConnection
+mod OpenCounts
+mod OpenFlows
 mod Openers
 mod Own
 mod OwnFlows

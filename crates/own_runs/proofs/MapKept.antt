@@ -222,6 +222,7 @@ module _ (d : Drawn) (limit : Side → ℕ) (few : (s : Side) → limit s < 2 ^ 
 
           from : (position : Option ℕ) → position_of (own_base facts) (own_lane facts left.lanes) facts.seen.segment.head.seq facts.seen.payload_len ≡ position
               → LeftGood (judged_from facts position options keys left)
+
           -- where all stands low, the position is that of the number
           ends_low : (position : ℕ) → position_of (own_base facts) (own_lane facts left.lanes) facts.seen.segment.head.seq facts.seen.payload_len ≡ Some position
               → Straight own.path facts.side → (payload_at facts position).to < 2 ^ 31
@@ -237,7 +238,6 @@ module _ (d : Drawn) (limit : Side → ℕ) (few : (s : Side) → limit s < 2 ^ 
               held : (b : Bool) → (if b then 0 else facts.seen.payload_len) ≤ facts.seen.payload_len
               held true = omega arith
               held false = omega arith
-
           from None e = h
           from (Some position) e =
               let same : position % 2 ^ 32 ≡ at % 2 ^ 32 = alike (own_base facts) facts.seen.segment.head.seq position at
@@ -336,17 +336,20 @@ module _ (d : Drawn) (limit : Side → ℕ) (few : (s : Side) → limit s < 2 ^ 
           options_are = ap (λ (c : Bool). seen_options c seen.segment.options) k.checksums ∙ own.options
 
     new_lane : (path : ℕ) (s : Side) → Laned path s empty_lane
-    new_lane path s = (1, (
-      record {
-        line = refl;
-        placed = λ p. tt;
-        octets = λ p. tt;
-        waiting = All-nil (Waits (limit s) (few s) (content s) (first_at s) (where_at path s) (most path s) 1);
-        acked = omega arith;
-        top = omega arith;
-      },
-      λ straight. omega arith,
-    ))
+    new_lane path s = (
+      1,
+      (
+        record {
+          line = refl;
+          placed = λ p. tt;
+          octets = λ p. tt;
+          waiting = All-nil (Waits (limit s) (few s) (content s) (first_at s) (where_at path s) (most path s) 1);
+          acked = omega arith;
+          top = omega arith;
+        },
+        λ straight. omega arith,
+      ),
+    )
 
     pub keep : SegmentsKeep d IsGood BookGood LanesFine
     keep = record {
@@ -391,17 +394,20 @@ module _ (d : Drawn) (limit : Side → ℕ) (few : (s : Side) → limit s < 2 ^ 
     later_lanes path lanes h = record { opener = one A lanes.opener h.opener; other = one B lanes.other h.other }
       where
         one : (s : Side) (l : LaneValue) → Laned most Straight Shown Ended path s l → Laned more Still Later Over path s l
-        one s l h = (h.0, (
-          record {
-            line = h.1.0.line;
-            placed = h.1.0.placed;
-            octets = h.1.0.octets;
-            waiting = h.1.0.waiting;
-            acked = (let low = h.1.0.acked in let than = up path s in omega (arith, low, than));
-            top = h.1.0.top;
-          },
-          λ still. h.1.1 (was path s still),
-        ))
+        one s l h = (
+          h.0,
+          (
+            record {
+              line = h.1.0.line;
+              placed = h.1.0.placed;
+              octets = h.1.0.octets;
+              waiting = h.1.0.waiting;
+              acked = (let low = h.1.0.acked in let than = up path s in omega (arith, low, than));
+              top = h.1.0.top;
+            },
+            λ still. h.1.1 (was path s still),
+          ),
+        )
 
     pub later_holds : (state : JudgedValue)
         → ((s : Side) (stream : StreamValue) → stream_in state 0 s ≡ Some stream → ((q : ℕ) → Later s q → stream.seen q ≡ true) × (Over s → is_some stream.fin ≡ true))

@@ -16,7 +16,7 @@ use Rattle.run_trace.specs.Trace.{trace_of}
 use Rattle.stream_lanes.specs.Words.{Every, Has}
 use Rattle.own_runs.specs.Sending.{CarriesPlace}
 use Rattle.world_laws.specs.Openings.{Start, opened_world}
-use Rattle.world_laws.specs.Promises.{IsPlain, NumbersFit}
+use Rattle.world_laws.specs.Promises.{HasRoom, IsPlain, NumbersFit}
 use Rattle.world_laws.specs.Worlds.{Turn, world_run}
 use Rattle.own_runs.specs.Runs.{file_of}
 
@@ -50,3 +50,25 @@ abbrev pub EachAckIsCarried : Type 0
 EachAckIsCarried =
     (start : Start) (turns : List Turn) → IsPlain start → NumbersFit start
     → (i : ℕ) (x : Sent) → slice_get (trace_of turns (opened_world start)) i ≡ Some x → AcksAreCarried start (take i (trace_of turns (opened_world start))) x
+
+-- A Data ACK is no less than an earlier one.
+abbrev pub AckRises : PlainOption → PlainOption → Type 0
+AckRises (Dss (Some one) mapping) (Dss (Some other) more) = one ≤ other
+AckRises _ _ = Unit {0}
+
+-- Two segments, as they were made: each Data ACK of the second is no less than each of the first.
+pub record AcksRise (x y : Sent) : Type 0 where
+  pub spelling : Spelling
+  pub one : PlainSegment
+  pub one_octets : x.octets ≡ made spelling x.from one
+  pub other_spelling : Spelling
+  pub other : PlainSegment
+  pub other_octets : y.octets ≡ made other_spelling y.from other
+  pub rises : Every (λ o. Every (AckRises o) other.options) one.options
+
+-- So it is with each two segments of a side on a path, in the order of the trace.
+abbrev pub EachAckRises : Type 0
+EachAckRises =
+    (start : Start) (turns : List Turn) → HasRoom start → NumbersFit start
+    → (i j : ℕ) (x y : Sent) → i ≤ j → slice_get (trace_of turns (opened_world start)) i ≡ Some x → slice_get (trace_of turns (opened_world start)) j ≡ Some y
+    → x.path ≡ y.path → x.from ≡ y.from → AcksRise x y

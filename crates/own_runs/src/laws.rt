@@ -1,6 +1,6 @@
 //! What is read in a capture of ours, as clauses of functions that do nothing.
 ghost use Rattle.judge_rules.specs.declared.finding.Rule.TheVariants.{AddressHmac, DataFin, DssSum, Fail, FastCloseKey, Form, Infinite, JoinHmac, Keys, Mapping, PlaceContent, Token, Within};
-ghost use Rattle.own_runs.specs.Arrivals.{EachAckIsCarried, WhatCameWasSent};
+ghost use Rattle.own_runs.specs.Arrivals.{EachAckIsCarried, EachAckRises, WhatCameWasSent};
 ghost use Rattle.own_runs.specs.Fitting.{TracesFit};
 ghost use Rattle.own_runs.specs.Packets.{CapturesAreTheirPackets};
 ghost use Rattle.own_runs.specs.Runs.{DataFinsEndTheFiles, NoRunBreaks, NoWholeRunBreaks, StreamsBeginTheFiles, WholeStreamsAreTheFiles};
@@ -82,4 +82,11 @@ pub fn captures_show_the_files()
 pub fn what_came_was_sent()
     ensures octets { WhatCameWasSent }
     ensures acks { EachAckIsCarried }
+{}
+
+/// A law: the Data ACKs that a side sends on a path never fall (RFC 8684, section 3.3.2): of two of its segments there no Data ACK of the second is
+/// less than one of the first. It holds of every list of turns, lawful or not, whatever the script takes away or alters, where the numbers of the
+/// start fit.
+pub fn data_acks_never_fall()
+    ensures { EachAckRises }
 {}
