@@ -1,12 +1,11 @@
 -- In the trace of a run the Data ACKs of a side on a path are what its end there wants, which never falls.
-use Rattle.std.proofs.Common.{◌≡◌, refl, sym, ap, ◌∙◌, subst, ℕ, zero, suc, ◌+◌, ◌-◌, ◌≤◌, ◌<◌, ◌⊎◌, inl, inr, ⊎_elim, Option, Some, None, List, [], ◌∷◌, ◌++◌, append_assoc, append-nil, length, arith}
+use Rattle.std.proofs.Common.{◌≡◌, refl, sym, ap, ◌∙◌, subst, ℕ, suc, ◌-◌, ◌≤◌, ⊎_elim, Option, Some, None, List, [], ◌∷◌, ◌++◌, append_assoc, append-nil, length, arith}
 use Rattle.std.specs.List.{slice_get}
 use Rattle.std.specs.Option.{IfSome}
 use Rattle.std.proofs.lemmas.Option.{slice_get_within}
 use Rattle.link_trace.specs.declared.sent.Sent.{Sent}
 use Rattle.path_core.specs.Looking.{first_sends, segment_sent}
-use Rattle.path_core.specs.Octets.{made, octets}
-use Rattle.path_core.specs.Profile.{Profile}
+use Rattle.path_core.specs.Octets.{octets}
 use Rattle.path_core.specs.Said.{said_by}
 use Rattle.path_core.specs.Shown.{shown_path}
 use Rattle.path_core.specs.State.{PathState, end_at, path_of}
