@@ -373,10 +373,10 @@ module _ (limit : ℕ) (few : limit < 2 ^ 31) (content : ℕ → ℕ) (first : �
   pub judged_seen : (facts : Facts) (position : ℕ) (options : List OptionValue) (keys : Keys) (peers s : StreamValue) (lane : LaneValue) (p : ℕ) → first_of facts.side keys ≡ Some first
       → All (OffersWell first limit content where_at position) options → Fine limit few content first where_at most high s lane → IsCovered first position p options
       → 1 ≤ p → position ≤ p → p < (payload_at facts position).to → (judged_at facts position options keys peers s lane).stream.seen (where_at p) ≡ true
-  judged_seen facts position options keys peers s lane p known all fine covered some low high =
+  judged_seen facts position options keys peers s lane p known all fine covered some low under =
       acks_seen facts (first_of (peer facts.side) keys) peers options (where_at p) (summed facts (first_of facts.side keys) told.learnt (behind_payload facts position peers.acknowledged told))
       (summed_seen facts (first_of facts.side keys) told.learnt (where_at p) (behind_payload facts position peers.acknowledged told)
-      (payload_seen facts position peers.acknowledged told p (where_at p) some low high place))
+      (payload_seen facts position peers.acknowledged told p (where_at p) some low under place))
     where
       before : Mapped
       before = record { stream = s; lane = fin_taken facts position lane; learnt = []; has_line = false }

@@ -315,8 +315,8 @@ module _ (d : Drawn) (limit : Side → ℕ) (few : (s : Side) → limit s < 2 ^ 
   left_is : LeftGood d limit few content where_at most Straight Shown Ended at packet seen g left
   left_is = record { book = with_good d limit few content where_at most Straight Shown Ended own.from (stream_at own.from j.book) j.book (book_is own.from) book_is; lanes = lanes_are }
 
-  it : IsOf d is_mapping own.path facts
-  it = of_flow d limit few content where_at most Straight Shown Ended at packet seen g j.index j.flow j.on j.keys k left left_is j.opened j.has_opened
+  ours : IsOf d is_mapping own.path facts
+  ours = of_flow d limit few content where_at most Straight Shown Ended at packet seen g j.index j.flow j.on j.keys k left left_is j.opened j.has_opened
 
   keyed : IsKeyed d is_mapping own.path own.from first
   keyed = begun_keyed d limit few content where_at most Straight Shown Ended at packet seen g j.index j.flow j.on j.keys k left left_is j.opened j.has_opened
@@ -335,25 +335,29 @@ module _ (d : Drawn) (limit : Side → ℕ) (few : (s : Side) → limit s < 2 ^ 
         by : (s : Side) → own.from ≡ s → is_some (key_of s made.keys) ≡ true
         by B of_b = refl
         by A of_a =
-            ⊎_elim (λ was. key_stays d is_mapping own.path facts it own.values first was)
-            (λ shows. key_shown d is_mapping own.path facts it own.values first own.each keyed (j.capable shows.0) of_a shows.1) (knows of_a)
+            ⊎_elim (λ was. key_stays d is_mapping own.path facts ours own.values first was)
+            (λ shows. key_shown d is_mapping own.path facts ours own.values first own.each keyed (j.capable shows.0) of_a shows.1) (knows of_a)
 
     known : first_of own.from made.keys ≡ Some number
-    known = by (key_of own.from made.keys) key_made (key_is d is_mapping own.from made.keys (options_so d is_mapping own.path facts it own.values first own.each keyed).keys)
+    known = by (key_of own.from made.keys) key_made (key_is d is_mapping own.from made.keys (options_so d is_mapping own.path facts ours own.values first own.each keyed).keys)
       where
         by : (o : Option ℕ) → is_some o ≡ true → IfSome o (λ key. key ≡ own_key d own.from) → option_map first_number o ≡ Some number
         by None some is = absurd (false≢true some)
         by (Some key) some is = ap (λ (n : ℕ). Some (first_number n)) is
 
     -- where MP_CAPABLE with data is A's on path 0
-    module _ (firsts : All (λ v. maps_first v ≡ true → (own.path ≡ 0) × (own.from ≡ A)) own.values) where
-      firsts_so : (values : List OptionValue) → All (λ v. maps_first v ≡ true → (own.path ≡ 0) × (own.from ≡ A)) values → All (IsFirst facts) values
+    abbrev Firsts : OptionValue → Type 0
+    Firsts v = maps_first v ≡ true → (own.path ≡ 0) × (own.from ≡ A)
+
+    module _ (firsts : All Firsts own.values) where
+      firsts_so : (values : List OptionValue) → All Firsts values → All (IsFirst facts) values
       firsts_so [] each = All-nil (IsFirst facts)
       firsts_so (v ∷ values) each =
-          All-cons (IsFirst facts) v values (λ maps. let is = All-head _ v values each maps in (j.capable is.0, is.1)) (firsts_so values (All-tail _ v values each))
+          All-cons (IsFirst facts) v values (λ maps. let is = All-head Firsts v values each maps in (j.capable is.0, is.1)) (firsts_so values (All-tail Firsts v values each))
 
       wells : All (OffersWell number (limit own.from) (content own.from) (where_at own.path own.from) g.fine.at) made.options
-      wells = kept_so (OffersWell number (limit own.from) (content own.from) (where_at own.path own.from) g.fine.at) facts own.values first (g.fine.offers g.fine.at refl) (All-nil _)
+      wells = kept_so (OffersWell number (limit own.from) (content own.from) (where_at own.path own.from) g.fine.at) facts own.values first (g.fine.offers g.fine.at refl)
+          (All-nil (OffersWell number (limit own.from) (content own.from) (where_at own.path own.from) g.fine.at))
 
       fine : Fine (limit own.from) (few own.from) (content own.from) number (where_at own.path own.from) (most own.path own.from) lane.0 (stream_at own.from before.book) (own_lane facts j.lanes)
       fine = (subst (StreamFine (limit own.from) (few own.from) (content own.from)) (sym (own_stream own.from made.stream left.book)) made_fine, lane.1.0)
@@ -377,7 +381,7 @@ module _ (d : Drawn) (limit : Side → ℕ) (few : (s : Side) → limit s < 2 ^ 
           subst (λ (s : StreamValue). s.seen (where_at own.path own.from p) ≡ true) (sym (stream_here stream there))
           (judged_seen (limit own.from) (few own.from) (content own.from) number (where_at own.path own.from) (most own.path own.from) lane.0 facts g.fine.at made.options made.keys
           (stream_at (peer own.from) before.book) (stream_at own.from before.book) (own_lane facts j.lanes) p known wells fine
-          (kept_any d is_mapping own.path facts it (λ v. IsCover g.fine.at p (offer_of number v)) (cover_offers p) own.values first own.each keyed (firsts_so own.values firsts) covered) some low high)
+          (kept_any d is_mapping own.path facts ours (λ v. IsCover g.fine.at p (offer_of number v)) (cover_offers p) own.values first own.each keyed (firsts_so own.values firsts) covered) some low high)
 
       -- a DATA_FIN that it tells stands
       pub fin_here : EndsIn number own.values → (stream : StreamValue) → stream_in (judged at true state packet seen) 0 own.from ≡ Some stream → is_some stream.fin ≡ true
@@ -385,7 +389,7 @@ module _ (d : Drawn) (limit : Side → ℕ) (few : (s : Side) → limit s < 2 ^ 
           subst (λ (s : StreamValue). is_some s.fin ≡ true) (sym (stream_here stream there))
           (judged_ended (limit own.from) (few own.from) (content own.from) number (where_at own.path own.from) (most own.path own.from) lane.0 facts g.fine.at made.options made.keys
           (stream_at (peer own.from) before.book) (stream_at own.from before.book) (own_lane facts j.lanes) known wells fine
-          (kept_any d is_mapping own.path facts it (λ v. EndsOffer (offer_of number v)) end_offers own.values first own.each keyed (firsts_so own.values firsts) ends))
+          (kept_any d is_mapping own.path facts ours (λ v. EndsOffer (offer_of number v)) end_offers own.values first own.each keyed (firsts_so own.values firsts) ends))
 
   -- A's key is known behind it
   pub key_here : is_some made.keys.a ≡ true → (keys : Keys) × (slice_get (judged at true state packet seen).seen.connections 0 ≡ Some keys) × (is_some keys.a ≡ true)

@@ -166,10 +166,12 @@ module _ (d : Drawn) (which : Rule → Bool) (path : ℕ) (facts : Facts) (it : 
   key_shown [] state each k capable of_a shows = absurd (false≢true shows)
   key_shown (value ∷ values) state each k capable of_a shows =
       by (shows_both value) refl shows
+      (λ any. key_shown values (keyed_one facts value state) (All-tail (ValueIs d path facts.side) value values each)
+      (next value state (All-head (ValueIs d path facts.side) value values each) k) capable of_a any)
     where
-      is : ValueIs d path facts.side value
-      is = All-head (ValueIs d path facts.side) value values each
-
-      by : (b : Bool) → shows_both value ≡ b → b || list_any shows_both values ≡ true → is_some (keyed_each facts (map Readable values) (keyed_one facts value state)).keys.a ≡ true
-      by true here any = key_stays values (keyed_one facts value state) (key_now value state is k capable of_a here)
-      by false here any = key_shown values (keyed_one facts value state) (All-tail (ValueIs d path facts.side) value values each) (next value state is k) capable of_a any
+      by : (b : Bool) → shows_both value ≡ b → b || list_any shows_both values ≡ true
+          → (list_any shows_both values ≡ true → is_some (keyed_each facts (map Readable values) (keyed_one facts value state)).keys.a ≡ true)
+          → is_some (keyed_each facts (map Readable values) (keyed_one facts value state)).keys.a ≡ true
+      by true here any later =
+          key_stays values (keyed_one facts value state) (key_now value state (All-head (ValueIs d path facts.side) value values each) k capable of_a here)
+      by false here any later = later any

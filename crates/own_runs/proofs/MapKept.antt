@@ -52,7 +52,7 @@ alike base seq p at is same = omega (arith, is, same)
 
 module _ (d : Drawn) (limit : Side → ℕ) (few : (s : Side) → limit s < 2 ^ 31) (content : Side → ℕ → ℕ) (where_at : ℕ → Side → ℕ → ℕ) where
   -- the number of place 0 of a side, and what is offered well on a path
-  abbrev first_at : Side → ℕ
+  abbrev pub first_at : Side → ℕ
   first_at s = first_number (own_key d s)
 
   abbrev Well : ℕ → Side → ℕ → OptionValue → Type 0
@@ -75,7 +75,7 @@ module _ (d : Drawn) (limit : Side → ℕ) (few : (s : Side) → limit s < 2 ^ 
     abbrev pub AckSays : ℕ → Side → OptionValue → Type 0
     AckSays path s (Dss (Some number) mapping fin) =
         NumberIs (first_at (peer s)) number (most path s) × (most path s ≤ limit (peer s) + 1)
-        × ((q : ℕ) → q < most path s → q < limit (peer s) → Shown (peer s) q) × (limit (peer s) < most path s → Ended (peer s))
+        × ((q : ℕ) → q < most path s → q < limit (peer s) → Shown (peer s) q) × (limit (peer s) < most path s → Ended (peer s)) × (most path s < 2 ^ 31)
     AckSays path s _ = Unit {0}
 
     pub record IsGood (seen : Seen) : Type 0 where
@@ -164,12 +164,12 @@ module _ (d : Drawn) (limit : Side → ℕ) (few : (s : Side) → limit s < 2 ^ 
     ack_so : (path : ℕ) (s : Side) (high : ℕ) (peers : StreamValue) → StreamGood (peer s) peers → (option : OptionValue) → AckSays path s option
         → AckIs (limit s) (few s) (content s) (first_at s) (where_at path s) (most path s) high (first_at (peer s)) peers option
     ack_so path s high peers h (Dss (Some number) mapping fin) is =
-        let top = h.fine.top in let short = few (peer s) in let upto = is.1 in (
+        let top = h.fine.top in let short = few (peer s) in (
           is.0,
           omega (arith, top, short),
-          omega (arith, upto, short),
+          is.4,
           behind_all (limit (peer s)) (most path s) peers (few (peer s))
-              (seen_so (limit (peer s)) (few (peer s)) (content (peer s)) (first_at (peer s)) (where_at path (peer s)) (most path (peer s)) peers h.fine (most path s)
+              (seen_so (limit (peer s)) (few (peer s)) (content (peer s)) (first_at (peer s)) (where_at path (peer s)) (most path (peer s)) high peers h.fine (most path s)
               (λ q below within. h.seen q (is.2 q below within)) is.1 (λ behind. h.fin (is.3 behind))),
         )
     ack_so path s high peers h (Dss None mapping fin) is = tt
@@ -197,11 +197,14 @@ module _ (d : Drawn) (limit : Side → ℕ) (few : (s : Side) → limit s < 2 ^ 
           → IfSome (first_of (peer s) keys) (λ n. All (AckIs (limit s) (few s) (content s) (first_at s) (where_at own.path s) (most own.path s) high n peers) options)
       acks_at s high keys peers options k good says = by (first_of (peer s) keys) (first_so (peer s) keys k)
         where
+          Is : ℕ → OptionValue → Type 0
+          Is = λ n option. AckIs (limit s) (few s) (content s) (first_at s) (where_at own.path s) (most own.path s) high n peers option
+
           all : (options : List OptionValue) → All (AckSays own.path s) options
               → All (AckIs (limit s) (few s) (content s) (first_at s) (where_at own.path s) (most own.path s) high (first_at (peer s)) peers) options
-          all [] each = All-nil _
+          all [] each = All-nil (Is (first_at (peer s)))
           all (option ∷ options) each =
-              All-cons _ option options (ack_so own.path s high peers good option (All-head (AckSays own.path s) option options each)) (all options (All-tail (AckSays own.path s) option options each))
+              All-cons (Is (first_at (peer s))) option options (ack_so own.path s high peers good option (All-head (AckSays own.path s) option options each)) (all options (All-tail (AckSays own.path s) option options each))
 
           by : (o : Option ℕ) → IfSome o (λ first. first ≡ first_at (peer s))
               → IfSome o (λ n. All (AckIs (limit s) (few s) (content s) (first_at s) (where_at own.path s) (most own.path s) high n peers) options)
@@ -220,9 +223,6 @@ module _ (d : Drawn) (limit : Side → ℕ) (few : (s : Side) → limit s < 2 ^ 
           lane : Laned own.path facts.side (own_lane facts left.lanes)
           lane = lane_at own.path facts.side facts.is_opener left.lanes opens h.lanes
 
-          from : (position : Option ℕ) → position_of (own_base facts) (own_lane facts left.lanes) facts.seen.segment.head.seq facts.seen.payload_len ≡ position
-              → LeftGood (judged_from facts position options keys left)
-
           -- where all stands low, the position is that of the number
           ends_low : (position : ℕ) → position_of (own_base facts) (own_lane facts left.lanes) facts.seen.segment.head.seq facts.seen.payload_len ≡ Some position
               → Straight own.path facts.side → (payload_at facts position).to < 2 ^ 31
@@ -238,6 +238,9 @@ module _ (d : Drawn) (limit : Side → ℕ) (few : (s : Side) → limit s < 2 ^ 
               held : (b : Bool) → (if b then 0 else facts.seen.payload_len) ≤ facts.seen.payload_len
               held true = omega arith
               held false = omega arith
+
+          from : (position : Option ℕ) → position_of (own_base facts) (own_lane facts left.lanes) facts.seen.segment.head.seq facts.seen.payload_len ≡ position
+              → LeftGood (judged_from facts position options keys left)
           from None e = h
           from (Some position) e =
               let same : position % 2 ^ 32 ≡ at % 2 ^ 32 = alike (own_base facts) facts.seen.segment.head.seq position at
@@ -317,7 +320,7 @@ module _ (d : Drawn) (limit : Side → ℕ) (few : (s : Side) → limit s < 2 ^ 
         formed_so None e = record { keys = k; book = h.book; lanes = h.lanes }
         formed_so (Some opened) e = opened_so opened e
 
-      flow_so : (index : ℕ) (flow : Flow) (f : FlowOn d own.path flow) (belongs : Belongs) → belongs.opener ≡ A → (keys : Keys) (left : Left) → KeysOwn d keys
+      pub flow_so : (index : ℕ) (flow : Flow) (f : FlowOn d own.path flow) (belongs : Belongs) → belongs.opener ≡ A → (keys : Keys) (left : Left) → KeysOwn d keys
           → LeftGood left → Leaves own.path (judged_flow at packet seen index flow belongs keys left)
       flow_so index flow f belongs is keys left k h =
           let formed = told_formless packet (map Readable own.values) (stream_at own.from left.book) in
@@ -335,7 +338,7 @@ module _ (d : Drawn) (limit : Side → ℕ) (few : (s : Side) → limit s < 2 ^ 
           options_are : seen_options keys.checksums seen.segment.options ≡ map Readable own.values
           options_are = ap (λ (c : Bool). seen_options c seen.segment.options) k.checksums ∙ own.options
 
-    new_lane : (path : ℕ) (s : Side) → Laned path s empty_lane
+    pub new_lane : (path : ℕ) (s : Side) → Laned path s empty_lane
     new_lane path s = (
       1,
       (
@@ -351,7 +354,7 @@ module _ (d : Drawn) (limit : Side → ℕ) (few : (s : Side) → limit s < 2 ^ 
       ),
     )
 
-    pub keep : SegmentsKeep d IsGood BookGood LanesFine
+    abbrev pub keep : SegmentsKeep d IsGood BookGood LanesFine
     keep = record {
       own = λ seen g. g.fine.own;
       new_lanes = λ path. record { opener = new_lane path A; other = new_lane path B };

@@ -109,7 +109,7 @@ module _ (d : Drawn) (U T V W : Type 0) (state : SeenFlows) (packet : ℕ) (seen
       let same = length-set state.flows f.index next in (
         record {
           known = after_known f.index a;
-          belongs = each_set (λ f. is_some f.belongs ≡ true → 1 ≤ length (connections_after state f.index a)) state.flows f.index next
+          belongs = each_set (λ g. is_some g.belongs ≡ true → 1 ≤ length (connections_after state f.index a)) state.flows f.index next
               (λ i g at some. let was = sizes.belongs i g at some in omega (arith, was, least))
               (answer_belongs on.0 f.index it a (told d state packet seen own h.own on.0 it (counted_on d state packet seen own h.own on.0 f.flow on.1)) (h.named f.index f.flow there)
               (sizes.belongs f.index f.flow there));
