@@ -61,7 +61,7 @@ use Rattle.own_runs.proofs.TokenSegments.{Asked, IsBehind, IsCapable}
 use Rattle.own_runs.proofs.TokenState.{TokensHold}
 
 -- an item of a list that is long enough
-item_of : {X : Type 0} (xs : List X) (i : ℕ) → i < length xs → (x : X) × (slice_get xs i ≡ Some x)
+pub item_of : {X : Type 0} (xs : List X) (i : ℕ) → i < length xs → (x : X) × (slice_get xs i ≡ Some x)
 item_of [] i within = absurd (omega (arith, within))
 item_of (x ∷ xs) zero within = (x, refl)
 item_of (x ∷ xs) (suc i) within = item_of xs i (omega (arith, within))
@@ -329,7 +329,7 @@ module _ (d : Drawn) (limit : Side → ℕ) (few : (s : Side) → limit s < 2 ^ 
 
   -- its sender's key is known where it shows it, or where it was
   module _ (knows : own.from ≡ A → (is_some j.keys.a ≡ true) ⊎ ((own.path ≡ 0) × (list_any shows_both own.values ≡ true))) where
-    key_made : is_some (key_of own.from made.keys) ≡ true
+    pub key_made : is_some (key_of own.from made.keys) ≡ true
     key_made = by own.from refl
       where
         by : (s : Side) → own.from ≡ s → is_some (key_of s made.keys) ≡ true

@@ -1,4 +1,5 @@
 mod AckPositions
+mod AckTrace
 mod Acking
 mod Acknowledged
 mod Bearing
@@ -17,6 +18,7 @@ mod Granting
 mod Grants
 mod Handed
 mod Handing
+mod InTime
 mod Ipv4
 mod Kept
 mod JudgedHere

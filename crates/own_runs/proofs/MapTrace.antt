@@ -47,7 +47,7 @@ use Rattle.own_runs.proofs.Bearing.{Carries}
 use Rattle.own_runs.proofs.FineMoments.{IsBorne, IsMapped, Offered, content, file_len, lane_of, place_at, whole_offers}
 use Rattle.own_runs.proofs.FinePositions.{TellsNoFail}
 use Rattle.own_runs.proofs.Kept.{all_on, same_judged}
-use Rattle.own_runs.proofs.MapKept.{FinePacket, IsFine, stream_fine}
+use Rattle.own_runs.proofs.MapKept.{IsFine}
 use Rattle.own_runs.proofs.MapPositions.{Bears, OffersWell, Sit, StreamFine, contents, header, is_mapping}
 use Rattle.own_runs.proofs.Moments.{IsSpoken, WorldAlso, trace_spoken}
 use Rattle.own_runs.proofs.Numbered.{first_low, number_so}
@@ -61,7 +61,7 @@ use Rattle.own_runs.proofs.Values.{drawn}
 -- ---- positions modulo 2^32
 
 -- the place of a position on the lanes of the last moment
-abbrev where_in : Duo → ℕ → Side → ℕ → ℕ
+abbrev pub where_in : Duo → ℕ → Side → ℕ → ℕ
 where_in last path s p = place_at (lane_of last path s) (p % 2 ^ 32)
 
 stands_at : (p from j len : ℕ) → p % 2 ^ 32 ≡ from % 2 ^ 32 → from + len < 2 ^ 31 → j < len → (p + j) % 2 ^ 32 ≡ from + j
@@ -195,15 +195,12 @@ module _ (start : Start) (last : Duo) (path : ℕ) (plan : PathPlan) (s : Side) 
 -- ---- the capture
 
 module _ (start : Start) (last : Duo) (fit : NumbersFit start) where
-  few : (s : Side) → file_len start s < 2 ^ 31
+  pub few : (s : Side) → file_len start s < 2 ^ 31
   few A = let short = fit.short_a in omega (arith, short)
   few B = let short = fit.short_b in omega (arith, short)
 
   abbrev Good : Seen → Type 0
   Good seen = IsFine (drawn start) (file_len start) few (content start) (where_in last) seen
-
-  abbrev Fit : Captured → Type 0
-  Fit packet = FinePacket (drawn start) (file_len start) few (content start) (where_in last) packet
 
   module _ (x : Sent) (s : IsSpoken (Offered start last) start x) (short : length x.octets ≤ 65515) where
     abbrev position : ℕ
@@ -219,7 +216,7 @@ module _ (start : Start) (last : Duo) (fit : NumbersFit start) where
     written = segment (Offered start last) start x s short
 
     -- its payload, if it has one
-    borne : ((length payload ≡ 0) ⊎ (position + length payload < 2 ^ 31)) × Bears (λ q. content start x.from (place_at (lane_of last x.path x.from) q)) position payload
+    pub borne : ((length payload ≡ 0) ⊎ (position + length payload < 2 ^ 31)) × Bears (λ q. content start x.from (place_at (lane_of last x.path x.from) q)) position payload
     borne = by s.also.1
       where
         by : Carries (IsBorne start last x.path) x.from s.segment
@@ -227,7 +224,7 @@ module _ (start : Start) (last : Duo) (fit : NumbersFit start) where
         by (inl none) = let empty : length payload ≡ 0 = ap (λ (xs : List ℕ). length xs) none in (inl empty, λ j below. absurd (omega (arith, empty, below)))
         by (inr is) = (inr is.0, is.1)
 
-    good : Good (seen_of (Offered start last) start x s short)
+    pub good : Good (seen_of (Offered start last) start x s short)
     good = record {
       own = own;
       at = position;
@@ -257,98 +254,30 @@ module _ (start : Start) (last : Duo) (fit : NumbersFit start) where
         Wells : ℕ → ℕ → Side → List OptionValue → Type 0
         Wells = λ p path from values. All (OffersWell (first_number (own_key (drawn start) from)) (file_len start from) (content start from) (where_in last path from) p) values
 
-    packet_good : Fit (packet_for x)
-    packet_good = subst (λ (o : Option Seen). IfSome o Good) (sym (found (Offered start last) start x s short)) good
+    -- by its path, its sender, its position and its options
+    pub good_path : good.own.path ≡ x.path
+    unfolding good
+    good_path = path_is (Offered start last) start x s short
 
-  all_good : (trace : List Sent) → Every (IsSpoken (Offered start last) start) trace → All FitsCapture trace → All Fit (map packet_for trace)
-  all_good [] each room = All-nil Fit
-  all_good (x ∷ trace) each room =
-      All-cons Fit (packet_for x) (map packet_for trace) (packet_good x (each.each 0 x refl) (All-head FitsCapture x trace room).octets)
-      (all_good trace (record { each = λ i y at. each.each (suc i) y at }) (All-tail FitsCapture x trace room))
+    pub good_from : good.own.from ≡ x.from
+    unfolding good
+    good_from = from_is (Offered start last) start x s short
+
+    pub good_at : good.at ≡ s.segment.position
+    unfolding good
+    good_at = refl
+
+    pub good_values : good.own.values ≡ map (said_option (path_begins start x.path s.plan).profile.spelling x.from) s.segment.options
+    unfolding good
+    good_values = values_are (Offered start last) start x s short
 
 -- ---- a run
 
 -- a list whose items stand at the beginning of another one
-all_same : (xs ys : List ℕ) → ((i : ℕ) → i < length xs → (i < length ys) × (get_or xs i 0 ≡ get_or ys i 0)) → IsPrefix xs ys
+pub all_same : (xs ys : List ℕ) → ((i : ℕ) → i < length xs → (i < length ys) × (get_or xs i 0 ≡ get_or ys i 0)) → IsPrefix xs ys
 all_same [] ys each = record { rest = ys; whole_is = refl }
 all_same (x ∷ xs) [] each = absurd (let within = (each 0 (omega arith)).0 in omega (arith, within))
 all_same (x ∷ xs) (y ∷ ys) each =
     let more = all_same xs ys (λ i below. let it = each (suc i) (omega (arith, below)) in let within = it.0 in (omega (arith, within), it.1)) in
     let head : x ≡ y = (each 0 (omega arith)).1 in
     record { rest = more.rest; whole_is = ap (λ (t : List ℕ). y ∷ t) more.whole_is ∙ ap (λ (z : ℕ). z ∷ (xs ++ more.rest)) (sym head) }
-
-module _ (start : Start) (turns : List Turn) (plain : IsPlain start) (whole : IsWhole start) (fit : NumbersFit start)
-    (run : RunFits start turns)
-    (side : Side) (at : Option Side) (judged : JudgedValue) (read : judged_capture at true (capture_of start turns side) ≡ Ok judged) where
-  abbrev trace : List Sent
-  trace = trace_of turns (opened_world start)
-
-  room : All FitsCapture trace
-  room = traces_fit start turns plain.size fit run
-
-  abbrev offers : (last : Duo) × ((more later : List Turn) → more ++ later ≡ turns → WorldAlso (Offered start last) (world_run octets more (opened_world start)))
-  offers = whole_offers start turns plain whole fit
-
-  abbrev last : Duo
-  last = offers.0
-
-  spoken : Every (IsSpoken (Offered start last) start) trace
-  spoken = trace_spoken (Offered start last) start turns plain.size fit offers.1
-
-  good_packets : All (Fit start last fit) (map packet_for trace)
-  good_packets = all_good start last fit trace spoken room
-
-  same : judged_packets at true nothing_judged 1 (map packet_for trace) ≡ judged
-  same =
-      let few = fit.paths in
-      let all = traces_are side (length start.paths) trace (omega (arith, few)) (all_on (Offered start last) start trace spoken) room in
-      same_judged (judged_packets at true nothing_judged 1 (map packet_for trace)) judged
-      (sym (ap (λ (m : Result (List Captured) ℕ). m >>= λ packets. Ok (judged_packets at true nothing_judged 1 packets)) all) ∙ read)
-
-  module _ (connection : ℕ) (s : Side) (stream : StreamValue) (there : stream_in judged connection s ≡ Some stream) where
-    stands : stream_in (judged_packets at true nothing_judged 1 (map packet_for trace)) connection s ≡ Some stream
-    stands = ap (λ (j : JudgedValue). stream_in j connection s) same ∙ there
-
-    fine : StreamFine (file_len start s) (few start last fit s) (content start s) stream
-    fine = stream_fine (drawn start) (file_len start) (few start last fit) (content start) (where_in last) at (map packet_for trace) good_packets connection s stream stands
-
-    prefix : (octets : List ℕ) → IsSent stream.octet octets → IsPrefix octets (file_of start s)
-    prefix octets sent = all_same octets (file_of start s) (λ i below. by i (stream.octet i) (fine.octets i)
-        (subst (λ (k : ℕ). option_map (λ (o : Octet). o.octet) (stream.octet k) ≡ Some (get_or octets i 0)) (let same : 0 + i ≡ i = omega arith in same) (sent.held i below)))
-      where
-        some_is : {x y : ℕ} → (let one : Option ℕ = Some x in one) ≡ Some y → x ≡ y
-        some_is e = cc
-
-        by : (i : ℕ) (o : Option Octet) → IfSome o (λ o. (i < length (file_of start s)) × (o.octet ≡ get_or (file_of start s) i 0))
-            → option_map (λ (o : Octet). o.octet) o ≡ Some (get_or octets i 0) → (i < length (file_of start s)) × (get_or octets i 0 ≡ get_or (file_of start s) i 0)
-        by i None is e = cc
-        by i (Some o) is e = (is.0, sym (some_is e) ∙ is.1)
-
-    end_is : (fin : ToldPlace) → stream.fin ≡ Some fin → fin.place ≡ file_len start s
-    end_is fin is = subst (λ (o : Option ToldPlace). IfSome o (λ told. told.place ≡ file_len start s)) is fine.fin
-
-pub no_whole_run_breaks : (r : Rule) → is_mapping r ≡ true → NoWholeRunBreaks r
-no_whole_run_breaks r is start turns plain whole fit run side at judged read connection s stream there =
-    (fine start turns plain whole fit run side at judged read connection s stream there).untold r is
-
-pub streams_are : StreamsBeginTheFiles
-streams_are start turns plain whole fit run side at judged read connection s stream there = prefix start turns plain whole fit run side at judged read connection s stream there
-
-pub ends_are : DataFinsEndTheFiles
-ends_are start turns plain whole fit run side at judged read connection s stream there = end_is start turns plain whole fit run side at judged read connection s stream there
-
--- a part as long as all is all
-all_of_it : (octets file : List ℕ) → IsPrefix octets file → length octets ≡ length file → octets ≡ file
-all_of_it octets file begins same =
-    let whole = ap (λ (xs : List ℕ). length xs) begins.whole_is in
-    let both = length-append octets begins.rest in
-    sym (begins.whole_is ∙ ap (λ (rest : List ℕ). octets ++ rest) (nothing begins.rest (omega (arith, whole, both, same))) ∙ append-nil octets)
-  where
-    nothing : (xs : List ℕ) → length xs ≡ 0 → xs ≡ []
-    nothing [] none = refl
-    nothing (x ∷ xs) none = absurd (omega (arith, none))
-
-pub whole_are : WholeStreamsAreTheFiles
-whole_are start turns plain whole fit run side at judged read connection s stream there fin is octets sent same =
-    all_of_it octets (file_of start s) (prefix start turns plain whole fit run side at judged read connection s stream there octets sent)
-    (same ∙ end_is start turns plain whole fit run side at judged read connection s stream there fin is)

@@ -1,0 +1,48 @@
+-- What comes before a segment of a whole run: before an answer to a SYN that SYN, before payload and a DATA_FIN the answer of its path, and before or in
+-- A's also A's key.
+use Rattle.std.proofs.Common.{◌≡◌, ℕ, ◌⊎◌, ◌||◌, not, Bool, true, false, Option, Some, List, [], ◌∷◌}
+use Rattle.std.specs.List.{list_any}
+use Rattle.mptcp_options.specs.declared.capable.CapableKeys.TheVariants.{Both, WithData}
+use Rattle.path_segments.specs.Options.{PlainOption, mapping_ends_stream}
+use Rattle.path_segments.specs.Spelled.{PlainSegment}
+use Rattle.path_segments.specs.declared.segment.PathOption.TheVariants.{Capable, Dss}
+use Rattle.sides.specs.declared.side.Side.TheVariants.{A, B}
+use Rattle.sides.specs.declared.side.Side.{Side}
+use Rattle.own_runs.proofs.Learning.{shows_key}
+
+-- MP_CAPABLE with both keys, and with data
+abbrev pub shows_keys : PlainOption → Bool
+shows_keys (Capable flag_a flag_c (Both sender receiver)) = true
+shows_keys (Capable flag_a flag_c (WithData sender receiver len checksum)) = true
+shows_keys _ = false
+
+abbrev pub maps_key : PlainOption → Bool
+maps_key (Capable flag_a flag_c (WithData sender receiver len checksum)) = true
+maps_key _ = false
+
+-- the DATA_FIN
+abbrev pub tells_end : PlainOption → Bool
+tells_end (Dss next mapping) = mapping_ends_stream mapping
+tells_end _ = false
+
+abbrev pub has_octets : List ℕ → Bool
+has_octets [] = false
+has_octets (octet ∷ octets) = true
+
+-- payload, or the DATA_FIN
+abbrev pub is_bearing : PlainSegment → Bool
+is_bearing sg = has_octets sg.payload || list_any tells_end sg.options
+
+-- a SYN that acknowledges one without octets
+pub record IsSynAck (sg : PlainSegment) : Type 0 where
+  pub syn : sg.syn ≡ true
+  pub acknowledged : sg.acknowledged ≡ Some 1
+
+-- of a side's on a path, where so much was sent before it: A's SYNs, B's answers, A's key, and resets
+pub record InTime (U T : ℕ → Type 0) (K : Type 0) (X : ℕ → Side → Type 0) (path : ℕ) (s : Side) (sg : PlainSegment) : Type 0 where
+  pub answers : s ≡ B → IsSynAck sg → U path
+  pub bears : is_bearing sg ≡ true → (sg.syn ≡ false) × (sg.rst ≡ false) × T path × (X path s → ⊥)
+  pub key : is_bearing sg ≡ true → s ≡ A → K ⊎ ((path ≡ 0) × (list_any shows_keys sg.options ≡ true))
+  pub keys : list_any shows_keys sg.options ≡ true → (sg.syn ≡ false) × T path
+  pub first : list_any maps_key sg.options ≡ true → (path ≡ 0) × (s ≡ A)
+  pub shows : s ≡ B → path ≡ 0 → sg.syn ≡ true → list_any shows_key sg.options ≡ true
