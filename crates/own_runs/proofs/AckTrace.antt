@@ -11,7 +11,7 @@ use Rattle.std.proofs.lemmas.Bool.{cases_lt, false≢true, lt-ltb, ltb-true, or_
 use Rattle.std.proofs.lemmas.List.Elements.{All-cons, All-head, All-nil}
 use Rattle.capture_reader.specs.Seen.{Seen}
 use Rattle.judge_laws.proofs.Books.{grown_stays}
-use Rattle.judge_laws.proofs.Flows.{KeysGo, put_go, taken_keys}
+use Rattle.judge_laws.proofs.Flows.{KeysGo, keys_same, put_go, taken_keys}
 use Rattle.judge_laws.proofs.Steps.{books_go}
 use Rattle.judge_laws.proofs.Standing.{some_same}
 use Rattle.judge_laws.specs.GoesOn.{stream_in}
@@ -32,11 +32,13 @@ use Rattle.path_segments.specs.Options.{PlainOption, said_option}
 use Rattle.path_segments.specs.Spelled.{PlainSegment}
 use Rattle.path_segments.specs.declared.segment.PathOption.TheVariants.{Capable, Dss, Join}
 use Rattle.path_segments.specs.declared.spelling.Spelling.{Spelling}
-use Rattle.rule_book.specs.Judged.{empty_book, judged, judged_belonging, judged_in_flow, judged_known, judged_place}
+use Rattle.rule_book.specs.Judged.{grown, judged, judged_belonging, judged_flow, judged_in_flow, judged_known, judged_place, with_wrong_token}
 use Rattle.rule_book.specs.State.{BookValue, JudgedValue, LanesValue, stream_at}
 use Rattle.seen_connections.specs.Asked.{answered_by, asked_by, first_answer, first_asked}
-use Rattle.seen_connections.specs.Connections.{SeenFlows, taken}
+use Rattle.seen_connections.specs.Connections.{SeenFlows, key_of, taken}
 use Rattle.seen_connections.specs.declared.connections.Keys.{Keys}
+use Rattle.seen_connections.specs.declared.connections.Place.{Place}
+use Rattle.seen_connections.specs.declared.flow.Belongs.{Belongs}
 use Rattle.seen_connections.specs.declared.flow.Flow.{Flow}
 use Rattle.seen_connections.specs.declared.flow.Opening.TheVariants as opening
 use Rattle.seen_connections.specs.declared.flow.Opening.{Opening}
@@ -65,7 +67,7 @@ use Rattle.own_runs.proofs.MapTrace.{borne, few, good, good_at, good_from, good_
 use Rattle.own_runs.proofs.Moments.{IsSpoken}
 use Rattle.own_runs.proofs.Numbered.{number_so}
 use Rattle.own_runs.proofs.OneConnection.{OneHolds, taken_one}
-use Rattle.own_runs.proofs.OpenCounts.{AreCounted, judged_counted}
+use Rattle.own_runs.proofs.OpenCounts.{AreCounted, judged_counted, wrong_seen}
 use Rattle.own_runs.proofs.OpenFlows.{HasFlow, IsOpenOn, OpenBelongs, answers_flow, opens_belong, opens_flow, stays, stays_open, which_some}
 use Rattle.own_runs.proofs.Own.{Drawn, IsOwn, own_initial, own_key}
 use Rattle.own_runs.proofs.OwnFlows.{Each}
@@ -88,15 +90,39 @@ behind_for U T V W d seen own other path from h = record {
   shows = λ w. let o = h.shows w in (record { path = path ∙ o.0.path; from = from ∙ o.0.from; syn = o.0.syn; ack = o.0.ack; number = o.0.number; answers = o.0.answers }, o.1);
 }
 
--- what a payload or a DATA_FIN of a segment tells of a side's stream
-pub record ShowsAt (where_at : ℕ → Side → ℕ → ℕ) (first : Side → ℕ) (d : Drawn) (limit : Side → ℕ) (few : (s : Side) → limit s < 2 ^ 31) (content : Side → ℕ → ℕ) (t : Side) (q : ℕ) (seen : Seen)
-    (fine : IsFine d limit few content where_at seen) : Type 0 where
-  pub from : fine.own.from ≡ t
-  pub offset : ℕ
-  pub within : offset < length seen.segment.payload
-  pub sits : where_at fine.own.path t (fine.at + offset) ≡ q
-  pub covered : IsCovered (first t) fine.at (fine.at + offset) fine.own.values
-  pub some : 1 ≤ fine.at + offset
+-- the keys that are known behind a segment
+module _ (at : Option Side) (packet : ℕ) (seen : Seen) where
+  known_keys : (index : ℕ) (flow : Flow) (belongs : Belongs) (keys : Option Keys) (book : Option BookValue) (lanes : Option LanesValue) (state : JudgedValue)
+      → slice_get state.seen.connections belongs.connection ≡ keys → KeysGo state.seen.connections (judged_known at packet seen index flow belongs keys book lanes state).seen.connections
+  known_keys index flow belongs (Some keys) (Some book) (Some lanes) state there =
+      put_go belongs.connection keys (judged_flow at packet seen index flow belongs keys (record { book = book; lanes = lanes })).keys.a state.seen there
+  known_keys index flow belongs (Some keys) (Some book) None state there = keys_same state.seen.connections
+  known_keys index flow belongs (Some keys) None lanes state there = keys_same state.seen.connections
+  known_keys index flow belongs None book lanes state there = keys_same state.seen.connections
+
+  belonging_keys : (index : ℕ) (flow : Flow) (belongs : Option Belongs) (state : JudgedValue)
+      → KeysGo state.seen.connections (judged_belonging at packet seen index flow belongs state).seen.connections
+  belonging_keys index flow None state = keys_same state.seen.connections
+  belonging_keys index flow (Some belongs) state =
+      known_keys index flow belongs (slice_get state.seen.connections belongs.connection) (slice_get state.books belongs.connection) (slice_get state.lanes index) state refl
+
+  in_flow_keys : (index : ℕ) (flow : Option Flow) (state : JudgedValue) → KeysGo state.seen.connections (judged_in_flow at packet seen index flow state).seen.connections
+  in_flow_keys index None state = keys_same state.seen.connections
+  in_flow_keys index (Some flow) state = belonging_keys index flow flow.belongs state
+
+  place_keys : (place : Option Place) (state : JudgedValue) → KeysGo state.seen.connections (judged_place at packet seen place state).seen.connections
+  place_keys None state = keys_same state.seen.connections
+  place_keys (Some place) state =
+      let told = with_wrong_token place.wrong_token state in
+      subst (λ (x : SeenFlows). KeysGo x.connections (judged_place at packet seen (Some place) state).seen.connections) (wrong_seen place.wrong_token state)
+      (in_flow_keys place.flow (slice_get told.seen.flows place.flow) told)
+
+  judged_keys : (state : JudgedValue) → KeysGo state.seen.connections (judged at true state packet seen).seen.connections
+  judged_keys state c keys there =
+      let it = taken state.seen packet seen (seen.has_good_sum || not true) in
+      let one = taken_keys state.seen packet seen (seen.has_good_sum || not true) c keys there in
+      let other = place_keys it.place (grown it.now state) c one.0 one.1 in
+      (other.0, other.1, λ side key is. other.2 side key (one.2 side key is))
 
 module _ (start : Start) (last : Duo) (fit : NumbersFit start) where
   abbrev d : Drawn
@@ -251,7 +277,7 @@ module _ (start : Start) (last : Duo) (fit : NumbersFit start) where
         by (inr low) (inl none) = omega (arith, at_is, octets_are, low, none)
         by (inr low) (inr ends) = omega (arith, at_is, octets_are, ends)
 
-    pub good_seen : GoodSeen most MoreX Shown Ended seen
+    abbrev pub good_seen : GoodSeen most MoreX Shown Ended seen
     good_seen = record {
       fine = good start last fit x as_offered short;
       acks = subst (λ (n : ℕ). All (Acks n (good start last fit x as_offered short).own.from) (good start last fit x as_offered short).own.values) (sym path_so)
@@ -424,3 +450,50 @@ module _ (start : Start) (last : Duo) (fit : NumbersFit start) where
                   by : (k : ℕ) → m ≡ k → is_joined c ≡ true
                   by zero e = absurd (capable e)
                   by (suc k) e = ap (nat_lt 0) (it.0 ∙ e) ∙ lt-ltb 0 (suc k) (omega arith)
+
+      -- ---- A's key
+
+      both_said : (options : List PlainOption) → list_any shows_both (map (said_option c.spelling x.from) options) ≡ list_any shows_keys options
+      both_said [] = refl
+      both_said (o ∷ options) = ap (λ (b : Bool). b || list_any shows_both (map (said_option c.spelling x.from) options)) (by o) ∙ ap (λ (b : Bool). shows_keys o || b) (both_said options)
+        where
+          by : (o : PlainOption) → shows_both (said_option c.spelling x.from o) ≡ shows_keys o
+          by (Capable flag_a flag_c (Both sender receiver)) = refl
+          by (Capable flag_a flag_c (WithData sender receiver len checksum)) = refl
+          by (Capable flag_a flag_c (Sender sender)) = refl
+          by (Capable flag_a flag_c NoKey) = refl
+          by (Dss ack mapping) = refl
+          by _ = refl
+
+      shows_so : list_any shows_keys sg.options ≡ true → list_any shows_both (good start last fit x as_offered short).own.values ≡ true
+      shows_so shows = ap (list_any shows_both) (good_values start last fit x as_offered short) ∙ both_said sg.options ∙ shows
+
+      -- in an open flow
+      module _ (no_syn : sg.syn ≡ false) (opened : T x.path) where
+        open_one : IsOpenOn (good start last fit x as_offered short).own.path state.seen.flows
+        open_one = subst (λ (k : ℕ). IsOpenOn k state.seen.flows) (sym path_so) (h.opens x.path opened)
+
+        j : IsJudged (drawn start) (U 0) (T 0) V W state n seen (good start last fit x as_offered short).own is_behind h.tokens.seen h.tokens.one at h.counts h.each
+        j =
+            is_judged (drawn start) (U 0) (T 0) V W state n seen (good start last fit x as_offered short).own is_behind h.tokens.seen h.tokens.one at h.counts h.each (syn_so ∙ no_syn) open_one
+
+        knows : (x.from ≡ A → K ⊎ ((x.path ≡ 0) × (list_any shows_keys sg.options ≡ true))) → (good start last fit x as_offered short).own.from ≡ A
+            → (is_some j.keys.a ≡ true) ⊎ (((good start last fit x as_offered short).own.path ≡ 0) × (list_any shows_both (good start last fit x as_offered short).own.values ≡ true))
+        knows key of_a =
+            ⊎_elim
+            (λ k. let was = h.key k in inl (subst (λ (keys : Keys). is_some keys.a ≡ true) (some_same was.0 j.keys (sym was.1 ∙ j.has_keys)) was.2))
+            (λ it. inr (path_so ∙ it.0, shows_so it.1)) (key (sym from_so ∙ of_a))
+
+      key_next : K ⊎ KeyOf → (keys : Keys) × (slice_get next.seen.connections 0 ≡ Some keys) × (is_some keys.a ≡ true)
+      key_next (inl k) =
+          let was = h.key k in
+          let later = judged_keys at n seen state 0 was.0 was.1 in
+          let key = which_some was.0.a was.2 in
+          (later.0, later.1, ap is_some (later.2 A key.0 key.1))
+      key_next (inr it) =
+          let time = s.also.time.keys it.2 in
+          key_here (drawn start) (file_len start) (few start last fit) (content start) (where_in last) most (λ n t. MoreX n t → ⊥) Shown Ended (U 0) (T 0) V W state n seen good_seen
+          is_behind h.tokens.seen h.tokens.one at h.counts h.each ready (j time.0 time.1) (syn_so ∙ time.0)
+          (subst (λ (t : Side). is_some (key_of t _) ≡ true) (from_so ∙ it.1)
+          (key_made (drawn start) (file_len start) (few start last fit) (content start) (where_in last) most (λ n t. MoreX n t → ⊥) Shown Ended (U 0) (T 0) V W state n seen good_seen
+          is_behind h.tokens.seen h.tokens.one at h.counts h.each ready (j time.0 time.1) (syn_so ∙ time.0) (knows time.0 time.1 (λ of_a. inr (it.0, it.2)))))

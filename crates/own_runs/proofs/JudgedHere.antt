@@ -226,7 +226,7 @@ module _ (d : Drawn) (limit : Side → ℕ) (few : (s : Side) → limit s < 2 ^ 
     (is : IsBehind U T V W d seen g.fine.own) (h : TokensHold d U T state.seen) (one : OneHolds d state.seen) (at : Option Side) (counts : AreCounted state) (each : Each OpenBelongs state.seen.flows)
     (hold : AllHold d (IsGood d limit few content where_at most Straight Shown Ended) (BookGood d limit few content where_at most Straight Shown Ended)
     (LanesFine d limit few content where_at most Straight Shown Ended) state)
-    (j : IsJudged d U T V W state packet seen g.fine.own is h one at counts each) (no_syn : seen.segment.head.syn ≡ false) (straight : Straight g.fine.own.path g.fine.own.from) where
+    (j : IsJudged d U T V W state packet seen g.fine.own is h one at counts each) (no_syn : seen.segment.head.syn ≡ false) where
   abbrev own : IsOwn d seen
   own = g.fine.own
 
@@ -281,25 +281,25 @@ module _ (d : Drawn) (limit : Side → ℕ) (few : (s : Side) → limit s < 2 ^ 
   base_is : seen.segment.head.seq ≡ (own_base facts + g.fine.at) % 2 ^ 32
   base_is = let base = base_so d seen own j.flow j.on at packet j.index j.opened j.has_opened in let seq = g.fine.seq in omega (arith, base, seq)
 
-  position_is : position_of (own_base facts) (own_lane facts j.lanes) seen.segment.head.seq seen.payload_len ≡ Some g.fine.at
-  position_is =
+  position_is : Straight g.fine.own.path g.fine.own.from → position_of (own_base facts) (own_lane facts j.lanes) seen.segment.head.seq seen.payload_len ≡ Some g.fine.at
+  position_is straight =
       let top = lane.1.0.top in let low = lane.1.1 straight in
       position_so (own_base facts) (own_lane facts j.lanes) seen.segment.head.seq seen.payload_len g.fine.at base_is (omega (arith, top, low)) (g.low straight)
 
-  stream_told : stream_at own.from told.left.book ≡ acked.stream
-  stream_told =
+  stream_told : Straight g.fine.own.path g.fine.own.from → stream_at own.from told.left.book ≡ acked.stream
+  stream_told straight =
       ap (λ (b : Bool). stream_at own.from (if b then before else judged_from facts (position_of (own_base facts) (own_lane facts j.lanes) seen.segment.head.seq seen.payload_len) made.options made.keys before).book) no_syn
-      ∙ ap (λ (p : Option ℕ). stream_at own.from (judged_from facts p made.options made.keys before).book) position_is
+      ∙ ap (λ (p : Option ℕ). stream_at own.from (judged_from facts p made.options made.keys before).book) (position_is straight)
       ∙ own_stream own.from acked.stream (gap_counted facts before).book
 
   -- the stream of its sender behind it
-  pub stream_here : (stream : StreamValue) → stream_in (judged at true state packet seen) 0 own.from ≡ Some stream → stream ≡ acked.stream
-  stream_here stream there =
+  pub stream_here : Straight g.fine.own.path g.fine.own.from → (stream : StreamValue) → stream_in (judged at true state packet seen) 0 own.from ≡ Some stream → stream ≡ acked.stream
+  stream_here straight stream there =
       some_same stream acked.stream (sym there
       ∙ ap (λ (x : JudgedValue). stream_in x 0 own.from) j.is_put
       ∙ ap (option_map (stream_at own.from)) (set_there ready_books 0 _ j.book book_ready)
       ∙ ap (λ (t : Told). Some (stream_at own.from t.left.book)) told_so
-      ∙ ap (λ (s : StreamValue). Some s) stream_told)
+      ∙ ap (λ (s : StreamValue). Some s) (stream_told straight))
     where
       ready_books : List BookValue
       ready_books = (ready d U T V W state packet seen g.fine.own is h one at counts each).books
@@ -349,7 +349,7 @@ module _ (d : Drawn) (limit : Side → ℕ) (few : (s : Side) → limit s < 2 ^ 
     abbrev Firsts : OptionValue → Type 0
     Firsts v = maps_first v ≡ true → (own.path ≡ 0) × (own.from ≡ A)
 
-    module _ (firsts : All Firsts own.values) where
+    module _ (firsts : All Firsts own.values) (straight : Straight g.fine.own.path g.fine.own.from) where
       firsts_so : (values : List OptionValue) → All Firsts values → All (IsFirst facts) values
       firsts_so [] each = All-nil (IsFirst facts)
       firsts_so (v ∷ values) each =
@@ -378,7 +378,7 @@ module _ (d : Drawn) (limit : Side → ℕ) (few : (s : Side) → limit s < 2 ^ 
       pub seen_here : (p : ℕ) → IsCovered number g.fine.at p own.values → 1 ≤ p → g.fine.at ≤ p → p < (payload_at facts g.fine.at).to → (stream : StreamValue)
           → stream_in (judged at true state packet seen) 0 own.from ≡ Some stream → stream.seen (where_at own.path own.from p) ≡ true
       seen_here p covered some low high stream there =
-          subst (λ (s : StreamValue). s.seen (where_at own.path own.from p) ≡ true) (sym (stream_here stream there))
+          subst (λ (s : StreamValue). s.seen (where_at own.path own.from p) ≡ true) (sym (stream_here straight stream there))
           (judged_seen (limit own.from) (few own.from) (content own.from) number (where_at own.path own.from) (most own.path own.from) lane.0 facts g.fine.at made.options made.keys
           (stream_at (peer own.from) before.book) (stream_at own.from before.book) (own_lane facts j.lanes) p known wells fine
           (kept_any d is_mapping own.path facts ours (λ v. IsCover g.fine.at p (offer_of number v)) (cover_offers p) own.values first own.each keyed (firsts_so own.values firsts) covered) some low high)
@@ -386,7 +386,7 @@ module _ (d : Drawn) (limit : Side → ℕ) (few : (s : Side) → limit s < 2 ^ 
       -- a DATA_FIN that it tells stands
       pub fin_here : EndsIn number own.values → (stream : StreamValue) → stream_in (judged at true state packet seen) 0 own.from ≡ Some stream → is_some stream.fin ≡ true
       fin_here ends stream there =
-          subst (λ (s : StreamValue). is_some s.fin ≡ true) (sym (stream_here stream there))
+          subst (λ (s : StreamValue). is_some s.fin ≡ true) (sym (stream_here straight stream there))
           (judged_ended (limit own.from) (few own.from) (content own.from) number (where_at own.path own.from) (most own.path own.from) lane.0 facts g.fine.at made.options made.keys
           (stream_at (peer own.from) before.book) (stream_at own.from before.book) (own_lane facts j.lanes) known wells fine
           (kept_any d is_mapping own.path facts ours (λ v. EndsOffer (offer_of number v)) end_offers own.values first own.each keyed (firsts_so own.values firsts) ends))

@@ -160,7 +160,7 @@ grown_length {X} count one xs least most = by (nat_lt (length xs) count) refl
     by true more = let less = ltb-true (length xs) count more in let all = length-append xs (one ∷ []) in omega (arith, all, less, most)
     by false none = let low = ltb-false (length xs) count none in omega (arith, low, least)
 
-wrong_seen : (wrong : Option WrongToken) (state : JudgedValue) → (with_wrong_token wrong state).seen ≡ state.seen
+pub wrong_seen : (wrong : Option WrongToken) (state : JudgedValue) → (with_wrong_token wrong state).seen ≡ state.seen
 wrong_seen None state = refl
 wrong_seen (Some wrong) state = refl
 
