@@ -7,7 +7,7 @@ use Rattle.std.proofs.lemmas.Option.{slice_get_within}
 use Rattle.key_material.specs.JoinHmac.{join_b64_of}
 use Rattle.key_material.specs.KeyDigest.{token_of}
 use Rattle.path_segments.specs.Spelling.{subflow_number}
-use Rattle.std.proofs.lemmas.Bool.{cases_lt, false≢true, lt-ltb, ltb-true, or_parts}
+use Rattle.std.proofs.lemmas.Bool.{cases_lt, eqb-true, false≢true, lt-ltb, ltb-true, or_cases, or_left, or_right}
 use Rattle.std.proofs.lemmas.List.Elements.{All-cons, All-head, All-nil}
 use Rattle.capture_reader.specs.Seen.{Seen}
 use Rattle.judge_laws.proofs.Books.{grown_stays}
@@ -30,12 +30,13 @@ use Rattle.path_core.specs.OptionsOut.{capable_options}
 use Rattle.path_core.specs.Profile.{Profile}
 use Rattle.path_segments.specs.Options.{PlainOption, said_option}
 use Rattle.path_segments.specs.Spelled.{PlainSegment}
-use Rattle.path_segments.specs.declared.segment.PathOption.TheVariants.{Capable, Dss, Join}
+use Rattle.path_segments.specs.declared.segment.PathMapping.TheVariants.{Bytes, End, Infinite}
+use Rattle.path_segments.specs.declared.segment.PathOption.TheVariants.{Capable, Dss, Fail, Join}
 use Rattle.path_segments.specs.declared.spelling.Spelling.{Spelling}
 use Rattle.rule_book.specs.Judged.{grown, judged, judged_belonging, judged_flow, judged_in_flow, judged_known, judged_place, with_wrong_token}
 use Rattle.rule_book.specs.State.{BookValue, JudgedValue, LanesValue, stream_at}
 use Rattle.seen_connections.specs.Asked.{answered_by, asked_by, first_answer, first_asked}
-use Rattle.seen_connections.specs.Connections.{SeenFlows, key_of, taken}
+use Rattle.seen_connections.specs.Connections.{SeenFlows, taken}
 use Rattle.seen_connections.specs.declared.connections.Keys.{Keys}
 use Rattle.seen_connections.specs.declared.connections.Place.{Place}
 use Rattle.seen_connections.specs.declared.flow.Belongs.{Belongs}
@@ -56,9 +57,10 @@ use Rattle.path_segments.specs.Spelling.{data_number}
 use Rattle.world_laws.proofs.Numbers.TellSmall.{IsShort, IsStray}
 use Rattle.own_runs.proofs.AckPositions.{EndsIn, EndsOffer, IsCovered}
 use Rattle.own_runs.proofs.FinePositions.{NumberIs}
-use Rattle.own_runs.proofs.FineMoments.{Offered, content, file_len}
+use Rattle.own_runs.proofs.EndRuns.{TellsEnd}
+use Rattle.own_runs.proofs.FineMoments.{IsMapped, Offered, content, file_len}
 use Rattle.own_runs.proofs.InTime.{InTime, IsSynAck, has_octets, is_bearing, maps_key, shows_keys, tells_end}
-use Rattle.own_runs.proofs.JudgedHere.{IsJudged, fin_here, is_judged, item_of, key_here, key_made, seen_here}
+use Rattle.own_runs.proofs.JudgedHere.{IsJudged, fin_here, is_judged, item_of, key_here, key_of_a, seen_here}
 use Rattle.own_runs.proofs.KeptCovers.{maps_first, shows_both}
 use Rattle.own_runs.proofs.LateJoins.{ComesBehind, Says}
 use Rattle.own_runs.proofs.Learning.{IsAlone, IsAnswer, shows_key}
@@ -66,6 +68,7 @@ use Rattle.own_runs.proofs.MapKept.{AckSays, BookGood, IsFine, IsGood, LanesFine
 use Rattle.own_runs.proofs.MapTrace.{borne, few, good, good_at, good_from, good_path, good_values, where_in}
 use Rattle.own_runs.proofs.Moments.{IsSpoken}
 use Rattle.own_runs.proofs.Numbered.{number_so}
+use Rattle.own_runs.proofs.Offering.{AllFine, OptionFine}
 use Rattle.own_runs.proofs.OneConnection.{OneHolds, taken_one}
 use Rattle.own_runs.proofs.OpenCounts.{AreCounted, judged_counted, wrong_seen}
 use Rattle.own_runs.proofs.OpenFlows.{HasFlow, IsOpenOn, OpenBelongs, answers_flow, opens_belong, opens_flow, stays, stays_open, which_some}
@@ -74,6 +77,8 @@ use Rattle.own_runs.proofs.OwnFlows.{Each}
 use Rattle.own_runs.proofs.OwnPackets.{AllHold, NewBook, segment_so}
 use Rattle.own_runs.proofs.OwnTrace.{answer_are, asked_are, fits, heads_are, is_own, from_is, number, path_is, payload_same, seen_of, texts}
 use Rattle.own_runs.proofs.OwnUntold.{BookUntold, tell}
+use Rattle.own_runs.proofs.ShownAcks.{IsShown}
+use Rattle.own_runs.proofs.ShownSeen.{ShowsAt, ends_here, ends_seen, shows_seen, value_ends}
 use Rattle.own_runs.proofs.TokenPackets.{AllHold as TokensHeld, segment_so as tokens_so}
 use Rattle.own_runs.proofs.TokenSegments.{Asked, IsBehind, IsCapable, Opens, Shows, asks_only, behind}
 use Rattle.own_runs.proofs.TokenState.{TokensHold}
@@ -155,6 +160,42 @@ module _ (start : Start) (last : Duo) (fit : NumbersFit start) where
     pub shown : (s : Side) (q : ℕ) → Shown s q → is_some (slice_get state.books 0) ≡ true
     pub ended : (s : Side) → Ended s → is_some (slice_get state.books 0) ≡ true
     pub hold : AllGood most X Shown Ended state
+
+  -- by what holds of the books
+  shown_in : (most : ℕ → Side → ℕ) (X : ℕ → Side → Type 0) (Shown : Side → ℕ → Type 0) (Ended : Side → Type 0) (state : JudgedValue) → AllGood most X Shown Ended state
+      → (t : Side) (stream : StreamValue) → stream_in state 0 t ≡ Some stream → ((q : ℕ) → Shown t q → stream.seen q ≡ true) × (Ended t → is_some stream.fin ≡ true)
+  shown_in most X Shown Ended state hold t stream there = by (slice_get state.books 0) refl there
+    where
+      by : (o : Option BookValue) → slice_get state.books 0 ≡ o → option_map (stream_at t) o ≡ Some stream → ((q : ℕ) → Shown t q → stream.seen q ≡ true) × (Ended t → is_some stream.fin ≡ true)
+      by None e there = cc
+      by (Some book) e there =
+          let it = hold.books 0 book e t in
+          let same = some_same (stream_at t book) stream there in
+          (λ q shown. subst (λ (z : StreamValue). z.seen q ≡ true) same (it.seen q shown), λ ended. subst (λ (z : StreamValue). is_some z.fin ≡ true) same (it.fin ended))
+
+  -- of the books there is at most one
+  one_book : (state : JudgedValue) → AreCounted state → OneHolds (drawn start) state.seen → (i : ℕ) (book : BookValue) → slice_get state.books i ≡ Some book → i ≡ 0
+  one_book state counts one i book there =
+      let within = slice_get_within state.books i book there in
+      let same = counts.books in
+      let keys = item_of state.seen.connections i (omega (arith, within, same)) in
+      one.few i keys.0 keys.1
+
+  -- where more is wanted
+  pub raised : (U T : ℕ → Type 0) (K : Type 0) (X : ℕ → Side → Type 0) (most more : ℕ → Side → ℕ) (Shown : Side → ℕ → Type 0) (Ended : Side → Type 0) (state : JudgedValue)
+      → ((path : ℕ) (t : Side) → most path t ≤ more path t) → StandsAt U T K X most Shown Ended state → StandsAt U T K X more Shown Ended state
+  raised U T K X most more Shown Ended state up h = record {
+    tokens = h.tokens;
+    counts = h.counts;
+    each = h.each;
+    flows = h.flows;
+    opens = h.opens;
+    key = h.key;
+    shown = h.shown;
+    ended = h.ended;
+    hold = later_holds (drawn start) (file_len start) (few start last fit) (content start) (where_in last) most more (λ n t. X n t → ⊥) (λ n t. X n t → ⊥) Shown Shown Ended Ended
+        up (λ path t still. still) state (shown_in most X Shown Ended state h.hold) (one_book state h.counts h.tokens.one) h.hold;
+  }
 
   -- a Data ACK of a segment, and what is said of it
   abbrev pub AckSaid : (ℕ → Side → ℕ) → (Side → ℕ → Type 0) → (Side → Type 0) → ℕ → Side → PlainOption → Type 0
@@ -277,7 +318,7 @@ module _ (start : Start) (last : Duo) (fit : NumbersFit start) where
         by (inr low) (inl none) = omega (arith, at_is, octets_are, low, none)
         by (inr low) (inr ends) = omega (arith, at_is, octets_are, ends)
 
-    abbrev pub good_seen : GoodSeen most MoreX Shown Ended seen
+    abbrev good_seen : GoodSeen most MoreX Shown Ended seen
     good_seen = record {
       fine = good start last fit x as_offered short;
       acks = subst (λ (n : ℕ). All (Acks n (good start last fit x as_offered short).own.from) (good start last fit x as_offered short).own.values) (sym path_so)
@@ -349,28 +390,10 @@ module _ (start : Start) (last : Duo) (fit : NumbersFit start) where
           some_map (λ o. IsCapable o → (is_own (ComesBehind (U 0) (T 0)) start x as_coming short).path ≡ 0) (λ o. IsCapable o → (good start last fit x as_offered short).own.path ≡ 0) (Asked seen)
           (λ o f capable. path_so ∙ sym (path_is (ComesBehind (U 0) (T 0)) start x as_coming short) ∙ f capable) (asks_only (U 0) (T 0) start x as_coming short syn)
 
-      -- of the books there is at most one
-      one_book : (i : ℕ) (book : BookValue) → slice_get state.books i ≡ Some book → i ≡ 0
-      one_book i book there =
-          let within = slice_get_within state.books i book there in
-          let same = h.counts.books in
-          let keys = item_of state.seen.connections i (omega (arith, within, same)) in
-          h.tokens.one.few i keys.0 keys.1
-
-      shown_now : (t : Side) (stream : StreamValue) → stream_in state 0 t ≡ Some stream → ((q : ℕ) → Shown t q → stream.seen q ≡ true) × (Ended t → is_some stream.fin ≡ true)
-      shown_now t stream there = by (slice_get state.books 0) refl there
-        where
-          by : (o : Option BookValue) → slice_get state.books 0 ≡ o → option_map (stream_at t) o ≡ Some stream → ((q : ℕ) → Shown t q → stream.seen q ≡ true) × (Ended t → is_some stream.fin ≡ true)
-          by None e there = cc
-          by (Some book) e there =
-              let it = h.hold.books 0 book e t in
-              let same = some_same (stream_at t book) stream there in
-              (λ q shown. subst (λ (z : StreamValue). z.seen q ≡ true) same (it.seen q shown), λ ended. subst (λ (z : StreamValue). is_some z.fin ≡ true) same (it.fin ended))
-
       ready : AllGood most MoreX Shown Ended state
       ready =
           later_holds (drawn start) (file_len start) (few start last fit) (content start) (where_in last) most most (λ n t. X n t → ⊥) (λ n t. MoreX n t → ⊥) Shown Shown Ended Ended
-          (λ path t. omega arith) (λ path t still was. still (inl was)) state shown_now one_book h.hold
+          (λ path t. omega arith) (λ path t still was. still (inl was)) state (shown_in most X Shown Ended state h.hold) (one_book state h.counts h.tokens.one) h.hold
 
       now_one : OneHolds (drawn start) (taken state.seen n seen true).now
       now_one = taken_one (drawn start) (U 0) (T 0) V W state.seen n seen (good start last fit x as_offered short).own is_behind h.tokens.seen h.tokens.one only
@@ -494,6 +517,151 @@ module _ (start : Start) (last : Duo) (fit : NumbersFit start) where
           let time = s.also.time.keys it.2 in
           key_here (drawn start) (file_len start) (few start last fit) (content start) (where_in last) most (λ n t. MoreX n t → ⊥) Shown Ended (U 0) (T 0) V W state n seen good_seen
           is_behind h.tokens.seen h.tokens.one at h.counts h.each ready (j time.0 time.1) (syn_so ∙ time.0)
-          (subst (λ (t : Side). is_some (key_of t _) ≡ true) (from_so ∙ it.1)
-          (key_made (drawn start) (file_len start) (few start last fit) (content start) (where_in last) most (λ n t. MoreX n t → ⊥) Shown Ended (U 0) (T 0) V W state n seen good_seen
-          is_behind h.tokens.seen h.tokens.one at h.counts h.each ready (j time.0 time.1) (syn_so ∙ time.0) (knows time.0 time.1 (λ of_a. inr (it.0, it.2)))))
+          (key_of_a (drawn start) (file_len start) (few start last fit) (content start) (where_in last) most (λ n t. MoreX n t → ⊥) Shown Ended (U 0) (T 0) V W state n seen good_seen
+          is_behind h.tokens.seen h.tokens.one at h.counts h.each ready (j time.0 time.1) (syn_so ∙ time.0) (knows time.0 time.1 (λ of_a. inr (it.0, it.2))) (from_so ∙ it.1))
+
+      -- ---- what its payload shows, and the end that it tells
+
+      first_same : (o : PlainOption) → maps_first (said_option c.spelling x.from o) ≡ maps_key o
+      first_same (Capable flag_a flag_c (Both sender receiver)) = refl
+      first_same (Capable flag_a flag_c (WithData sender receiver len checksum)) = refl
+      first_same (Capable flag_a flag_c (Sender sender)) = refl
+      first_same (Capable flag_a flag_c NoKey) = refl
+      first_same (Dss ack mapping) = refl
+      first_same _ = refl
+
+      first_each : (F : Type 0) (options : List PlainOption) → (list_any maps_key options ≡ true → F) → All (λ (v : OptionValue). maps_first v ≡ true → F) (map (said_option c.spelling x.from) options)
+      first_each F [] f = All-nil (λ (v : OptionValue). maps_first v ≡ true → F)
+      first_each F (o ∷ options) f =
+          All-cons (λ (v : OptionValue). maps_first v ≡ true → F) (said_option c.spelling x.from o) (map (said_option c.spelling x.from) options)
+          (λ maps. f (or_left (maps_key o) (list_any maps_key options) (sym (first_same o) ∙ maps))) (first_each F options (λ later. f (or_right (maps_key o) (list_any maps_key options) later)))
+
+      firsts : All (λ (v : OptionValue). maps_first v ≡ true → ((good start last fit x as_offered short).own.path ≡ 0) × ((good start last fit x as_offered short).own.from ≡ A))
+          (good start last fit x as_offered short).own.values
+      firsts =
+          subst (All (λ (v : OptionValue). maps_first v ≡ true → ((good start last fit x as_offered short).own.path ≡ 0) × ((good start last fit x as_offered short).own.from ≡ A)))
+          (sym (good_values start last fit x as_offered short))
+          (first_each (((good start last fit x as_offered short).own.path ≡ 0) × ((good start last fit x as_offered short).own.from ≡ A)) sg.options
+          (λ maps. let it = s.also.time.first maps in (path_so ∙ it.0, from_so ∙ it.1)))
+
+      has_some : (octets : List ℕ) (offset : ℕ) → offset < length octets → has_octets octets ≡ true
+      has_some [] offset within = absurd (omega (arith, within))
+      has_some (octet ∷ octets) offset within = refl
+
+      one_tells : (o : PlainOption) → OptionFine (file_len start) (IsMapped start last x.path) x.from o → value_ends (said_option c.spelling x.from o) ≡ true → tells_end o ≡ true
+      one_tells (Dss ack (Some (Bytes place position len true checksum))) fine is = refl
+      one_tells (Dss ack (Some (Bytes place position len false checksum))) fine is = absurd (let some = fine.0 in let none = eqb-true len 0 is in omega (arith, some, none))
+      one_tells (Dss ack (Some (End place checksum))) fine is = refl
+      one_tells (Dss ack (Some (Infinite place position))) fine is = absurd fine
+      one_tells (Dss ack None) fine is = absurd (false≢true is)
+      one_tells (Capable flag_a flag_c keys) fine is = absurd (false≢true is)
+      one_tells (Fail place) fine is = absurd fine
+      one_tells _ fine is = absurd (false≢true is)
+
+      any_tells : (options : List PlainOption) → AllFine (file_len start) (IsMapped start last x.path) x.from options → list_any value_ends (map (said_option c.spelling x.from) options) ≡ true
+          → list_any tells_end options ≡ true
+      any_tells [] is_fine is = absurd (false≢true is)
+      any_tells (o ∷ options) is_fine is =
+          ⊎_elim (λ here. or_left (tells_end o) (list_any tells_end options) (one_tells o (is_fine.each 0 o refl) here))
+          (λ later. or_right (tells_end o) (list_any tells_end options) (any_tells options (record { each = λ i y at. is_fine.each (suc i) y at }) later))
+          (or_cases (value_ends (said_option c.spelling x.from o)) (list_any value_ends (map (said_option c.spelling x.from) options)) is)
+
+      -- where it bears one of these
+      module _ (bearing : is_bearing sg ≡ true) where
+        straight : MoreX (good start last fit x as_offered short).own.path (good start last fit x as_offered short).own.from → ⊥
+        straight (inl was) =
+            (s.also.time.bears bearing).3 (subst (λ (t : Side). X x.path t) from_so (subst (λ (n : ℕ). X n (good start last fit x as_offered short).own.from) path_so was))
+        straight (inr it) = false≢true (sym ((s.also.time.bears bearing).1) ∙ it.2)
+
+        no_syn : sg.syn ≡ false
+        no_syn = (s.also.time.bears bearing).0
+
+        opened : T x.path
+        opened = (s.also.time.bears bearing).2
+
+        bearing_knows : (good start last fit x as_offered short).own.from ≡ A
+            → (is_some (j no_syn opened).keys.a ≡ true) ⊎ (((good start last fit x as_offered short).own.path ≡ 0) × (list_any shows_both (good start last fit x as_offered short).own.values ≡ true))
+        bearing_knows = knows no_syn opened (s.also.time.key bearing)
+
+        len_is : (if seen.segment.head.rst then 0 else seen.payload_len) ≡ length seen.segment.payload
+        len_is = ap (λ (b : Bool). if b then 0 else seen.payload_len) (rst_so ∙ (s.also.time.bears bearing).1)
+
+        -- a place that it shows is seen behind it
+        place_seen : (t : Side) (q : ℕ) → ShowsAt start last fit t q seen (good start last fit x as_offered short) → (stream : StreamValue) → stream_in next 0 t ≡ Some stream → stream.seen q ≡ true
+        place_seen t q shows stream there =
+            subst (λ (p : ℕ). stream.seen p ≡ true) (ap (λ (u : Side). where_in last (good start last fit x as_offered short).own.path u ((good start last fit x as_offered short).at + shows.offset)) shows.from ∙ shows.sits)
+            (seen_here (drawn start) (file_len start) (few start last fit) (content start) (where_in last) most (λ n t. MoreX n t → ⊥) Shown Ended (U 0) (T 0) V W state n seen good_seen
+            is_behind h.tokens.seen h.tokens.one at h.counts h.each ready (j no_syn opened) (syn_so ∙ no_syn) bearing_knows firsts straight ((good start last fit x as_offered short).at + shows.offset)
+            ((good start last fit x as_offered short).maps (good start last fit x as_offered short).at refl shows.offset shows.within) shows.some (omega arith)
+            (let within = shows.within in let len = len_is in omega (arith, within, len)) stream
+            (subst (λ (u : Side). stream_in next 0 u ≡ Some stream) (sym shows.from) there))
+
+        -- an end that it tells stands
+        end_stands : (t : Side) → ((good start last fit x as_offered short).own.from ≡ t) × EndsIn (first_number (own_key (drawn start) t)) (good start last fit x as_offered short).own.values
+            → (stream : StreamValue) → stream_in next 0 t ≡ Some stream → is_some stream.fin ≡ true
+        end_stands t ends stream there =
+            fin_here (drawn start) (file_len start) (few start last fit) (content start) (where_in last) most (λ n t. MoreX n t → ⊥) Shown Ended (U 0) (T 0) V W state n seen good_seen
+            is_behind h.tokens.seen h.tokens.one at h.counts h.each ready (j no_syn opened) (syn_so ∙ no_syn) bearing_knows firsts straight
+            (subst (λ (u : Side). EndsIn (first_number (own_key (drawn start) u)) (good start last fit x as_offered short).own.values) (sym ends.0) ends.1) stream
+            (subst (λ (u : Side). stream_in next 0 u ≡ Some stream) (sym ends.0) there)
+
+      bears_place : (t : Side) (q : ℕ) → IsShown start last t q x → is_bearing sg ≡ true
+      bears_place t q shown =
+          let shows = shows_seen start last fit x as_offered short (good start last fit x as_offered short) t q shown in
+          or_left (has_octets sg.payload) (list_any tells_end sg.options)
+          (has_some sg.payload shows.offset (subst (λ (octets : List ℕ). shows.offset < length octets) (payload_same (Offered start last) start x as_offered short) shows.within))
+
+      bears_end : (t : Side) → TellsEnd start t x → is_bearing sg ≡ true
+      bears_end t ends =
+          or_right (has_octets sg.payload) (list_any tells_end sg.options) (any_tells sg.options s.also.offered.0 (ends_here start last x as_offered short t ends))
+
+      -- ---- all of it behind it
+
+      abbrev pub MoreShown : Side → ℕ → Type 0
+      MoreShown t q = Shown t q ⊎ IsShown start last t q x
+
+      abbrev pub MoreEnded : Side → Type 0
+      MoreEnded t = Ended t ⊎ TellsEnd start t x
+
+      book_stays : is_some (slice_get state.books 0) ≡ true → is_some (slice_get next.books 0) ≡ true
+      book_stays some =
+          let book = which_some (slice_get state.books 0) some in
+          let later = books_go at true state n seen 0 book.0 book.1 in
+          ap is_some later.1
+
+      book_bears : is_bearing sg ≡ true → is_some (slice_get state.books 0) ≡ true
+      book_bears bearing = let time = s.also.time.bears bearing in ap is_some (j time.0 time.2).has_book
+
+      streams_next : (t : Side) (stream : StreamValue) → stream_in next 0 t ≡ Some stream → ((q : ℕ) → MoreShown t q → stream.seen q ≡ true) × (MoreEnded t → is_some stream.fin ≡ true)
+      streams_next t stream there =
+          let was = shown_in most MoreX Shown Ended next hold_next t stream there in (
+            λ q. ⊎_elim (was.0 q) (λ shown. place_seen (bears_place t q shown) t q (shows_seen start last fit x as_offered short (good start last fit x as_offered short) t q shown) stream there),
+            ⊎_elim was.1 (λ ends. end_stands (bears_end t ends) t (ends_seen start last fit x as_offered short (good start last fit x as_offered short) t ends) stream there),
+          )
+
+      pub stands_next : StandsAt (λ m. U m ⊎ SynOf m) (λ m. T m ⊎ AnswerOf m) (K ⊎ KeyOf) MoreX most MoreShown MoreEnded next
+      stands_next = record {
+        tokens = record {
+          seen = record {
+            own = tokens_next.seen.own;
+            named = tokens_next.seen.named;
+            known = tokens_next.seen.known;
+            going = tokens_next.seen.going;
+            first = tokens_next.seen.first;
+            began = λ it. tokens_next.seen.began it;
+            any = λ it. tokens_next.seen.any
+                (⊎_elim (λ was. inl was) (λ answer. inr (answer.0, answer.1, record { syn = answer.2.syn; acknowledged = answer.2.acknowledged; key = s.also.time.shows answer.1 answer.0 answer.2.syn })) it);
+          };
+          one = tokens_next.one;
+          books = tokens_next.books;
+        };
+        counts = counted.0;
+        each = each_next;
+        flows = flows_next;
+        opens = opens_next;
+        key = key_next;
+        shown = λ t q. ⊎_elim (λ was. book_stays (h.shown t q was)) (λ shown. book_stays (book_bears (bears_place t q shown)));
+        ended = λ t. ⊎_elim (λ was. book_stays (h.ended t was)) (λ ends. book_stays (book_bears (bears_end t ends)));
+        hold = later_holds (drawn start) (file_len start) (few start last fit) (content start) (where_in last) most most (λ n t. MoreX n t → ⊥) (λ n t. MoreX n t → ⊥) Shown MoreShown Ended MoreEnded
+            (λ path t. omega arith) (λ path t still. still) next streams_next (one_book next counted.0 tokens_next.one) hold_next;
+      }

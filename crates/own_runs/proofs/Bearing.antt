@@ -1,6 +1,7 @@
--- What payload a segment bears: that of a record at the record's position, or none.
-use Rattle.std.proofs.Common.{◌≡◌, refl, ℕ, ◌⊎◌, inl, inr, ◌-◌, Bool, true, false, if◌then◌else◌, Option, Some, None, List, [], ◌∷◌}
+-- What payload a segment bears: that of a record, or none.
+use Rattle.std.proofs.Common.{◌≡◌, refl, ℕ, ◌⊎◌, inl, ◌-◌, Bool, true, false, if◌then◌else◌, Option, Some, None, List, [], ◌∷◌}
 use Rattle.std.specs.Option.{IfSome}
+use Rattle.mptcp_options.specs.declared.capable.CapableKeys.TheVariants.{WithData}
 use Rattle.path_agenda.specs.Words.{first_of}
 use Rattle.path_agenda.specs.declared.duty.Duty.{Duty}
 use Rattle.path_agenda.specs.declared.duty.SendDuty.{SendDuty}
@@ -13,12 +14,15 @@ use Rattle.path_core.specs.Emission.{ack_resent, answer_said, first_record, firs
 use Rattle.path_core.specs.End.{PathEnd}
 use Rattle.path_core.specs.Fallback.{breaks_by_ack}
 use Rattle.path_core.specs.Looking.{broken_by, duty_sends, first_sends, heard_sends, segment_sent, unsent_sends}
-use Rattle.path_core.specs.OptionsOut.{ack_said, carried_said, noted_said, record_or_ack, syn_ack_said}
+use Rattle.path_core.specs.OptionsOut.{ack_said, carried_said, noted_said, record_or_ack, record_said, syn_ack_said}
 use Rattle.path_core.specs.Profile.{Profile}
 use Rattle.path_core.specs.State.{PathState, end_at}
 use Rattle.path_core.specs.Treating.{item_of}
 use Rattle.path_core.specs.Values.{Carried}
+use Rattle.path_segments.specs.Options.{PlainOption}
 use Rattle.path_segments.specs.Spelled.{PlainSegment}
+use Rattle.path_segments.specs.declared.segment.PathMapping.TheVariants.{Bytes}
+use Rattle.path_segments.specs.declared.segment.PathOption.TheVariants.{Capable, Dss}
 use Rattle.sides.specs.declared.side.Side.{Side}
 use Rattle.stream_lanes.specs.Words.{Every}
 use Rattle.subflow_send.specs.Records.{Record}
@@ -27,18 +31,24 @@ use Rattle.subflow_tcp.specs.State.{has_records}
 use Rattle.world_laws.proofs.Lanes.Records.{every_at, every_find}
 use Rattle.own_runs.proofs.Speaking.{ToSend}
 
--- of the payload at a position
-module _ (P : Side → ℕ → List ℕ → Type 0) where
+-- an option that maps octets
+abbrev pub maps_octets : PlainOption → Bool
+maps_octets (Dss next (Some (Bytes place position len fin checksum))) = true
+maps_octets (Capable flag_a flag_c (WithData sender receiver len checksum)) = true
+maps_octets _ = false
+
+-- of a segment with payload
+module _ (P : Side → PlainSegment → Type 0) where
   abbrev pub Carries : Side → PlainSegment → Type 0
-  Carries s sg = (sg.payload ≡ []) ⊎ P s sg.position sg.payload
+  Carries s sg = (sg.payload ≡ []) ⊎ P s sg
 
-  abbrev pub RecordsCarry : Side → PathEnd → Type 0
-  RecordsCarry s e = Every (λ (r : Record). P s r.pos r.piece) e.tcp.send.records
+  abbrev pub RecordsCarry : Profile → Side → PathEnd → Type 0
+  RecordsCarry c s e = Every (λ (r : Record). Carries s (record_said c s r e)) e.tcp.send.records
 
-  module _ (c : Profile) (s : Side) (e : PathEnd) (h : RecordsCarry s e) where
-    record_carries : (o : Option Record) → IfSome o (λ r. P s r.pos r.piece) → Carries s (record_or_ack c s o e)
+  module _ (c : Profile) (s : Side) (e : PathEnd) (h : RecordsCarry c s e) where
+    record_carries : (o : Option Record) → IfSome o (λ r. Carries s (record_said c s r e)) → Carries s (record_or_ack c s o e)
     record_carries None is = inl refl
-    record_carries (Some r) is = inr is
+    record_carries (Some r) is = is
 
     unsent_carries : Carries s (record_or_ack c s (first_unsent e) e)
     unsent_carries = record_carries (first_unsent e) (every_find is_unsent e.tcp.send.records h)
@@ -80,7 +90,7 @@ module _ (P : Side → ℕ → List ℕ → Type 0) where
 
   -- ---- by what is to be done
 
-  module _ (p : PathState Carried) (h : (s : Side) → RecordsCarry s (end_at s p)) where
+  module _ (p : PathState Carried) (h : (s : Side) → RecordsCarry p.profile s (end_at s p)) where
     abbrev pub SendsCarry : ToSend → Type 0
     SendsCarry t = Carries t.from (segment_sent p t)
 

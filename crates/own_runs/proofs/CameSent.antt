@@ -1,5 +1,5 @@
 -- What came to a book was sent before: its lane passed it, and what a lane passed is in the trace.
-use Rattle.std.proofs.Common.{◌≡◌, refl, sym, ap, ◌∙◌, subst, ℕ, suc, ◌+◌, ◌-◌, ◌<◌, ◌%◌, inl, inr, Bool, true, false, if◌then◌else◌, Option, Some, None, List, [], ◌∷◌, ◌++◌, length, length-append, take, drop, map, replicate, arith}
+use Rattle.std.proofs.Common.{◌≡◌, refl, sym, ap, ◌∙◌, subst, ℕ, suc, ◌+◌, ◌-◌, ◌<◌, ◌%◌, inl, inr, ⊎_elim, Bool, true, false, if◌then◌else◌, Option, Some, None, List, [], ◌∷◌, ◌++◌, length, length-append, take, drop, map, replicate, arith}
 use Rattle.std.specs.List.{slice_get}
 use Rattle.std.proofs.lemmas.List.{drop-drop, drop_at, length-map, length-replicate, length-set}
 use Rattle.std.proofs.lemmas.Option.{slice_get_within}
@@ -31,7 +31,7 @@ use Rattle.world_laws.proofs.Promises.Made.{run_fresh}
 use Rattle.world_laws.proofs.Rounds.SerialIsLawful.{as_many}
 use Rattle.world_laws.proofs.Worlds.Casts.{walking}
 use Rattle.world_laws.specs.Actors.{ActorCrew}
-use Rattle.world_laws.specs.Openings.{PathPlan, Start, opened_world, paths_from}
+use Rattle.world_laws.specs.Openings.{PathPlan, Start, opened_world, path_begins, paths_from}
 use Rattle.world_laws.specs.Promises.{IsPlain, NumbersFit}
 use Rattle.world_laws.specs.Worlds.{Turn, WorldState, after_turn, all_over, begins, greatest, world_run}
 use Rattle.world_laws.specs.declared.member.Member.TheVariants.{Path}
@@ -67,10 +67,11 @@ made_payload : (spelling : Spelling) (s : Side) (segment : PlainSegment) → pay
 unfolding segment_text spelled
 made_payload spelling s segment = payload_is (sum_of spelling s segment) (spelled spelling s segment) (padded_len (unpadded_options spelling s segment))
 
-carries : (start : Start) (n : ℕ) (s : Side) (position place : ℕ) (x : Sent) → Covers start n s position place x → CarriesPlace s (file_of start s) place x
+pub carries : (start : Start) (n : ℕ) (s : Side) (position place : ℕ) (x : Sent) → Covers start n s position place x → CarriesPlace s (file_of start s) place x
 carries start n s position place x c =
-    let same : payload_in x.octets ≡ c.segment.payload = ap payload_in c.octets ∙ made_payload c.spelling s c.segment in
-    let long : length (payload_in x.octets) ≡ length c.segment.payload = ap (λ (xs : List ℕ). length xs) same in
+    let sg : PlainSegment = c.said.segment in
+    let same : payload_in x.octets ≡ sg.payload = ap payload_in c.said.octets ∙ made_payload (path_begins start x.path c.said.plan).profile.spelling x.from sg in
+    let long : length (payload_in x.octets) ≡ length sg.payload = ap (λ (xs : List ℕ). length xs) same in
     let within = c.has.above in
     record {
       from = c.from;
@@ -187,12 +188,13 @@ module _ (start : Start) (plain : IsPlain start) (fit : NumbersFit start) (turns
   passed_of A = (always_passed links.alters links.checked (length start.paths) start.buffer start.buffer k.events).ab
   passed_of B = (always_passed links.alters links.checked (length start.paths) start.buffer start.buffer k.events).ba
 
+  -- what came of a stream
+  pub came_of : (s : Side) → reassembly_of (peer s) (books_in w.books) ≡ (way s d).arrived
+  came_of A = ap (λ (v : WorldState Carried). (books_in v.books).reassembly_b) k.shows.is ∙ sym (ap (λ (e : Duo). e.ab.arrived) k.shows.duo_is)
+  came_of B = ap (λ (v : WorldState Carried). (books_in v.books).reassembly_a) k.shows.is ∙ sym (ap (λ (e : Duo). e.ba.arrived) k.shows.duo_is)
+
   book : (s : Side) → reassembly_of (peer s) (books_in (world_run octets turns (opened_world start)).books) ≡ (way s d).arrived
-  book s = ap (λ (v : WorldState (List ℕ)). reassembly_of (peer s) (books_in v.books)) (run_fresh start turns plain.size fit) ∙ by s
-    where
-      by : (s : Side) → reassembly_of (peer s) (books_in w.books) ≡ (way s d).arrived
-      by A = ap (λ (v : WorldState Carried). (books_in v.books).reassembly_b) k.shows.is ∙ sym (ap (λ (e : Duo). e.ab.arrived) k.shows.duo_is)
-      by B = ap (λ (v : WorldState Carried). (books_in v.books).reassembly_a) k.shows.is ∙ sym (ap (λ (e : Duo). e.ba.arrived) k.shows.duo_is)
+  book s = ap (λ (v : WorldState (List ℕ)). reassembly_of (peer s) (books_in v.books)) (run_fresh start turns plain.size fit) ∙ came_of s
 
   was_passed : (s : Side) (place : ℕ) → HasCome place (way s d).arrived → WasPassed (way s d).lanes place
   was_passed s place (inl before) = (passed_of s).before place before
@@ -206,8 +208,9 @@ module _ (start : Start) (plain : IsPlain start) (fit : NumbersFit start) (turns
       let side = k.sent h.path actor.0 actor.1 actor.2 actor.3 s h.lane h.there in
       let edge = side.edge in let below = h.below in
       let has = side.told h.position h.cell (omega (arith, edge, below)) h.cell_there in
-      let path = has.holds.path in
-      let cover : Covers start h.path s h.position place has.item = subst (λ (place : ℕ). Covers start h.path s h.position place has.item) h.place_is has.holds in
+      let held : Covers start h.path s h.position h.cell.place has.item = ⊎_elim (λ c. c) absurd has.holds in
+      let path = held.path in
+      let cover : Covers start h.path s h.position place has.item = subst (λ (place : ℕ). Covers start h.path s h.position place has.item) h.place_is held in
       record {
         at = has.at;
         item = has.item;

@@ -1,19 +1,21 @@
 -- What each segment of a trace maps and bears, where its script alters nothing and takes no options away: each mapping gives its positions the
 -- places that they have at the end of the run, and each payload the octets of these places.
-use Rattle.std.proofs.Common.{◌≡◌, refl, sym, ap, ◌∙◌, subst, ℕ, suc, ◌+◌, ◌-◌, ◌≤◌, ◌<◌, ◌^◌, Bool, true, false, if◌then◌else◌, Option, Some, None, List, [], ◌++◌, length, length-append, take, drop, arith}
+use Rattle.std.proofs.Common.{◌≡◌, refl, sym, ap, ◌∙◌, subst, ℕ, suc, ◌+◌, ◌-◌, ◌≤◌, ◌<◌, ◌^◌, Bool, true, false, if◌then◌else◌, Option, Some, None, is_some, ◌⊎◌, inl, inr, List, [], ◌∷◌, ◌++◌, length, length-append, take, drop, arith}
 use Rattle.std.specs.Option.{IfSome}
-use Rattle.std.specs.List.{slice_get}
-use Rattle.std.proofs.lemmas.Bool.{both_ways, false≢true}
+use Rattle.std.specs.List.{list_any, slice_get}
+use Rattle.std.proofs.lemmas.Bool.{and_parts, both_ways, false≢true}
 use Rattle.actor_desk.specs.Books.{books_in}
 use Rattle.actor_desk.specs.Desk.{SixBooks}
 use Rattle.actor_desk.specs.Words.{pick}
 use Rattle.dss_checksum.specs.Checksum.{dss_checksum}
 use Rattle.judge_rules.specs.Numbers.{first_number}
 use Rattle.octet_text.specs.Prefix.{IsPrefix}
-use Rattle.path_core.specs.DssOut.{bare_mapping, checksum_in, checksum_told, place_numbered}
+use Rattle.path_core.specs.Choices.{is_side_a}
+use Rattle.path_core.specs.DssOut.{bare_mapping, checksum_in, checksum_told, first_piece_options, infinite_or, is_first_piece, mapped_options, piece_mapping, piece_options, place_numbered, plain_options}
 use Rattle.path_core.specs.End.{PathEnd}
 use Rattle.path_core.specs.Looking.{first_sends, segment_sent}
 use Rattle.path_core.specs.Octets.{octets}
+use Rattle.path_core.specs.OptionsOut.{record_options, record_said}
 use Rattle.path_core.specs.Profile.{Profile}
 use Rattle.path_core.specs.Said.{said_by}
 use Rattle.path_core.specs.Shown.{shown_path}
@@ -23,6 +25,8 @@ use Rattle.path_segments.specs.Options.{relative_number}
 use Rattle.path_segments.specs.Spelled.{PlainSegment}
 use Rattle.path_segments.specs.declared.segment.PathMapping.TheVariants.{Bytes, End, Infinite}
 use Rattle.path_segments.specs.declared.segment.PathMapping.{PathMapping}
+use Rattle.path_segments.specs.declared.segment.PathOption.TheVariants.{Dss}
+use Rattle.path_store.specs.declared.infinite_mapping.InfiniteMapping.{InfiniteMapping}
 use Rattle.send_book.specs.State.{Sending}
 use Rattle.sides.specs.declared.side.Side.TheVariants.{A, B}
 use Rattle.sides.specs.declared.side.Side.{Side}
@@ -55,7 +59,8 @@ use Rattle.world_laws.specs.Openings.{Start, path_begins, opened_world}
 use Rattle.world_laws.specs.Promises.{NumbersFit, IsPlain}
 use Rattle.world_laws.specs.Worlds.{WorldState, Turn, world_run}
 use Rattle.world_laws.specs.declared.member.Member.TheVariants.{App, Path}
-use Rattle.own_runs.proofs.Bearing.{Carries, RecordsCarry, first_carries}
+use Rattle.own_runs.proofs.Bearing.{Carries, RecordsCarry, first_carries, maps_octets}
+use Rattle.own_runs.proofs.KeyedPieces.{EndKeyed, HasKey, KindNeeds, Needs, always_keyed}
 use Rattle.own_runs.proofs.MapPlaces.{bears, first_at, octet_in, place_on, sits, stretch, written_within}
 use Rattle.own_runs.proofs.MapPositions.{Bears, Sit, contents, header}
 use Rattle.own_runs.proofs.Moments.{MemberAlso, PathAlso, WorldAlso, end_shown, first_same}
@@ -103,9 +108,13 @@ module _ (start : Start) (last : Duo) (path : ℕ) where
   abbrev pub IsBorne : Side → ℕ → List ℕ → Type 0
   IsBorne s position payload = BorneOn (content start s) (lane_of last path s) position payload
 
+  -- a payload that one of the segment's options maps
+  abbrev pub BearsMapped : Side → PlainSegment → Type 0
+  BearsMapped s sg = IsBorne s sg.position sg.payload × (list_any maps_octets sg.options ≡ true)
+
   -- what a segment maps and bears
   abbrev pub Offers : Side → PlainSegment → Type 0
-  Offers s sg = AllFine (file_len start) IsMapped s sg.options × Carries IsBorne s sg
+  Offers s sg = AllFine (file_len start) IsMapped s sg.options × Carries BearsMapped s sg
 
 -- ---- a path at a moment
 
@@ -185,7 +194,7 @@ module _ (start : Start) (turns : List Turn) (plain : IsPlain start) (whole : Is
     module _ (s : Side) (e : PathEnd) (out back : Lane) (view : View) (shown : EndShows c s e out back) (hold : LaneHolds view n out) (tells : EndTells c s e)
         (unaltered : out.alters ≡ false) (begins : IsPrefix view.written (pick s start.file_a start.file_b)) (ends : (k : ℕ) → view.end ≡ Some k → k ≡ file_len start s)
         (identity : e.modes.identity ≡ false) (later : Lane) (later_there : lane_of last n s ≡ Some later) (longer : Longer out later)
-        (first_is : BeginsFirst s e out) where
+        (first_is : BeginsFirst s e out) (keyed : is_side_a s ≡ true → EndKeyed e) where
       abbrev first : ℕ
       first = first_number (own_key (drawn start) s)
 
@@ -263,12 +272,39 @@ module _ (start : Start) (turns : List Turn) (plain : IsPlain start) (whole : Is
       octets_so Fin r is = none_bears r.pos r.piece is.0
       octets_so Data r is = bears view n out later hold longer (pick s start.file_a start.file_b) begins unaltered r.pos r.piece is.octets
 
-      bears_so : RecordsCarry (IsBorne start last n) s e
+      -- which one of its options maps
+      piece_maps : (r : Record) → (is_side_a s ≡ true → HasKey e) → list_any maps_octets (piece_options c s r e) ≡ true
+      piece_maps r has =
+          subst (λ (b : Bool). list_any maps_octets (if b then plain_options r.pos e else infinite_or e.modes.own_infinite (mapped_options c s r e) e) ≡ true) (sym identity)
+          (subst (λ (o : Option InfiniteMapping). list_any maps_octets (infinite_or o (mapped_options c s r e) e) ≡ true) (sym own_none) (by (is_first_piece s r e) refl))
+        where
+          first_maps : (o : Option ℕ) → is_some o ≡ true → list_any maps_octets (first_piece_options c o r e) ≡ true
+          first_maps None some = absurd (false≢true some)
+          first_maps (Some key) some = refl
+
+          by : (b : Bool) → is_first_piece s r e ≡ b
+              → list_any maps_octets (if b then first_piece_options c e.modes.peer_key r e else Dss (Some e.receiving.next) (Some (piece_mapping c s r)) ∷ []) ≡ true
+          by true is = first_maps e.modes.peer_key (has (and_parts (is_side_a s) _ is).0)
+          by false is = refl
+
+      bears_so : RecordsCarry (BearsMapped start last n) c s e
       bears_so = record {
         each = λ i r there_one.
-            subst (λ (o : Option Lane). BorneOn (content start s) o r.pos r.piece) (sym later_there)
-            (let reaches = (tells.sender.records.each i r there_one).reaches in omega (arith, reaches), octets_so r.kind r (shown.sender.pieces.each i r there_one));
+            by r (shown.sender.pieces.each i r there_one)
+            (subst (λ (o : Option Lane). BorneOn (content start s) o r.pos r.piece) (sym later_there)
+            (let reaches = (tells.sender.records.each i r there_one).reaches in omega (arith, reaches), octets_so r.kind r (shown.sender.pieces.each i r there_one)))
+            (λ own. (keyed own).each i r there_one);
       }
+        where
+          of_kind : (kind : RecordKind) (r : Record) → KindShows c s out.alters out.sent out.datas out.fins kind r → IsBorne start last n s r.pos r.piece → (is_side_a s ≡ true → KindNeeds (HasKey e) kind)
+              → (r.piece ≡ []) ⊎ (IsBorne start last n s r.pos r.piece × (list_any maps_octets (record_options kind c s r e) ≡ true))
+          of_kind Syn r is borne has = inl is
+          of_kind Fin r is borne has = inl is.0
+          of_kind Data r is borne has = inr (borne, piece_maps r has)
+
+          by : (r : Record) → KindShows c s out.alters out.sent out.datas out.fins r.kind r → IsBorne start last n s r.pos r.piece → (is_side_a s ≡ true → Needs (HasKey e) r)
+              → Carries (BearsMapped start last n) s (record_said c s r e)
+          by r is borne has = of_kind r.kind r is borne has
 
       unfailed : (o : Option ℕ) → IfSome o (λ _. out.alters ≡ true) → o ≡ None
       unfailed None may = refl
@@ -281,7 +317,7 @@ module _ (start : Start) (turns : List Turn) (plain : IsPlain start) (whole : Is
           by None is = tt
           by (Some k) is = ends k is
 
-      end_so : EndFine (file_len start) (IsMapped start last n) c s e × RecordsCarry (IsBorne start last n) s e
+      end_so : EndFine (file_len start) (IsMapped start last n) c s e × RecordsCarry (BearsMapped start last n) c s e
       end_so = (
         record {
           identity = identity;
@@ -303,17 +339,18 @@ module _ (start : Start) (turns : List Turn) (plain : IsPlain start) (whole : Is
         by true whole is = let same : length b.written ≡ k = cc in sym same ∙ ap length (whole refl)
         by false whole is = cc
 
-    fine : (s : Side) → EndFine (file_len start) (IsMapped start last n) c s (end_at s p) × RecordsCarry (IsBorne start last n) s (end_at s p)
+    fine : (s : Side) → EndFine (file_len start) (IsMapped start last n) c s (end_at s p) × RecordsCarry (BearsMapped start last n) c s (end_at s p)
     fine A =
         let hold = holds.ab.lanes.each n n there.ab (omega arith) there.ab_there in
         let later = grows.ab n there.ab there.ab_there in
         end_so A p.a there.ab there.ba _ there.shows.a hold told.a hold.link.alters_is writes_a.prefix (closed_so start.file_a six.send_a writes_a.whole) (upright A)
         later.0 later.1 later.2 (λ own unclear place len has. first_at _ n six.control_b.fall.joined p there.ab there.ba refl hold steady there.stands unclear place len has)
+        (λ own. always_keyed start plain whole turns (suc (suc n)) (walking x) here)
     fine B =
         let hold = holds.ba.lanes.each n n there.ba (omega arith) there.ba_there in
         let later = grows.ba n there.ba there.ba_there in
         end_so B p.b there.ba there.ab _ there.shows.b hold told.b hold.link.alters_is writes_b.prefix (closed_so start.file_b six.send_b writes_b.whole) (upright B)
-        later.0 later.1 later.2 (λ own unclear place len has. absurd (false≢true own))
+        later.0 later.1 later.2 (λ own unclear place len has. absurd (false≢true own)) (λ own. absurd (false≢true own))
 
     offers : PathOffers start last p
     offers = subst (λ (k : ℕ). IfSome (first_sends p.agenda p) (λ t. Offers start last k t.from (segment_sent p t))) (sym there.numbered) (by (first_sends p.agenda p) maps carries)
@@ -323,11 +360,13 @@ module _ (start : Start) (turns : List Turn) (plain : IsPlain start) (whole : Is
             first_fine_sent (file_len start) (IsMapped start last n) p
             (λ s. subst (λ (d : Profile). EndFine (file_len start) (IsMapped start last n) d s (end_at s p)) (sym there.shows.profile) (fine s).0) p.agenda
 
-        carries : IfSome (first_sends p.agenda p) (λ t. Carries (IsBorne start last n) t.from (segment_sent p t))
-        carries = first_carries (IsBorne start last n) p (λ s. (fine s).1) p.agenda
+        carries : IfSome (first_sends p.agenda p) (λ t. Carries (BearsMapped start last n) t.from (segment_sent p t))
+        carries =
+            first_carries (BearsMapped start last n) p
+            (λ s. subst (λ (d : Profile). RecordsCarry (BearsMapped start last n) d s (end_at s p)) (sym there.shows.profile) (fine s).1) p.agenda
 
         by : (o : Option ToSend) → IfSome o (λ t. AllFine (file_len start) (IsMapped start last n) t.from (segment_sent p t).options)
-            → IfSome o (λ t. Carries (IsBorne start last n) t.from (segment_sent p t)) → IfSome o (λ t. Offers start last n t.from (segment_sent p t))
+            → IfSome o (λ t. Carries (BearsMapped start last n) t.from (segment_sent p t)) → IfSome o (λ t. Offers start last n t.from (segment_sent p t))
         by None one other = tt
         by (Some t) one other = (one, other)
 

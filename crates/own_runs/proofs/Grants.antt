@@ -19,7 +19,8 @@ use Rattle.world_laws.specs.declared.outcome.Outcome.TheVariants.{Delivered}
 use Rattle.world_laws.specs.Fresh.{shown_crew, shown_world}
 use Rattle.world_laws.specs.Granted.{grants_byte, times_granted}
 use Rattle.world_laws.specs.Laws.{WritesTheFiles}
-use Rattle.world_laws.specs.Outcomes.{outcome_by}
+use Rattle.world_laws.specs.Outcomes.{outcome_by, outcome_of}
+use Rattle.world_laws.specs.Promises.{IsPlain, NumbersFit}
 use Rattle.world_laws.proofs.Lanes.Beginning.{each_opening_shows}
 use Rattle.world_laws.proofs.Lanes.EveryTurn.{each_turn_shows}
 use Rattle.world_laws.proofs.Promises.OverOctets.{same_told}
@@ -206,11 +207,10 @@ module _ (links : Links) (start : Start) (w : WorldState Carried) (d : Duo) (n :
       (subst (λ (b : Sending). b.closed ≡ true → b.written ≡ start.file_b) (sym (same_books links start d w n.shows B)) wrote.b.whole) place below in
       n.noted B found.0 place found.1
 
-pub delivered_were_granted : DeliveredFilesWereGranted
-delivered_were_granted start turns plain fit delivered s place below =
-    let can = plainly start plain in let n = all_noted start can (plainly_free start plain) turns in
-    subst (λ (x : WorldState (List ℕ)). WasGranted s place x.crew) (sym is)
-    (shown_granted s place v (all_granted can.links start v n.0 n.1 s (told s) (writes_the_files values start turns) place below))
+-- each reader of a delivered run was told the end
+pub ends_told : (start : Start) (turns : List Turn) → IsPlain start → NumbersFit start → outcome_of (world_run octets turns (opened_world start)).crew ≡ Delivered
+    → (s : Side) → was_told_end s (world_run values turns (opened_world start)) ≡ true
+ends_told start turns plain fit delivered s = there s (by s)
   where
     v : WorldState Carried
     v = world_run values turns (opened_world start)
@@ -218,14 +218,20 @@ delivered_were_granted start turns plain fit delivered s place below =
     w : WorldState (List ℕ)
     w = world_run octets turns (opened_world start)
 
-    is : w ≡ shown_world v
-    is = run_fresh start turns plain.size fit
-
     both : (was_told_end A w ≡ true) × (was_told_end B w ≡ true)
     both = and_parts (was_told_end A w) (was_told_end B w) (delivered_told _ _ _ _ delivered)
 
-    there : (r : Side) → was_told_end r w ≡ true → was_told_end r v ≡ true
-    there r told = sym (same_told r v) ∙ ap (was_told_end r) (sym is) ∙ told
+    by : (s : Side) → was_told_end s w ≡ true
+    by A = both.0
+    by B = both.1
 
-    told : (s : Side) → was_told_end (pick s B A) v ≡ true
-    told = elim [ A ↦ there B both.1 | B ↦ there A both.0 ]
+    there : (r : Side) → was_told_end r w ≡ true → was_told_end r v ≡ true
+    there r told = sym (same_told r v) ∙ ap (was_told_end r) (sym (run_fresh start turns plain.size fit)) ∙ told
+
+pub delivered_were_granted : DeliveredFilesWereGranted
+delivered_were_granted start turns plain fit delivered s place below =
+    let can = plainly start plain in
+    let v = world_run values turns (opened_world start) in
+    let n = all_noted start can (plainly_free start plain) turns in
+    subst (λ (x : WorldState (List ℕ)). WasGranted s place x.crew) (sym (run_fresh start turns plain.size fit))
+    (shown_granted s place v (all_granted can.links start v n.0 n.1 s (ends_told start turns plain fit delivered (pick s B A)) (writes_the_files values start turns) place below))

@@ -1,22 +1,19 @@
 -- What was granted to a path was handed to its link in a segment of the trace, or goes out by the path's next step. So what a receiver passed was
 -- sent before.
-use Rattle.std.proofs.Common.{◌≡◌, refl, sym, ap, ◌∙◌, subst, ℕ, suc, ◌+◌, ◌≤◌, ◌<◌, ◌⊎◌, inl, inr, ⊎_elim, true, Option, Some, None, option_map, List, ◌++◌, length, take, drop, arith}
+use Rattle.std.proofs.Common.{◌≡◌, refl, sym, ap, ◌∙◌, subst, ℕ, suc, ◌+◌, ◌≤◌, ◌<◌, ◌⊎◌, inl, inr, ⊎_elim, false, true, Option, Some, None, List, ◌++◌, length, take, drop, arith}
 use Rattle.std.specs.Prelude.{is_some}
 use Rattle.std.specs.List.{slice_get}
 use Rattle.std.specs.Option.{IfSome, option_to_list}
 use Rattle.link_trace.specs.declared.sent.Sent.{Sent}
 use Rattle.path_core.proofs.SegmentsTold.{each_segment_is_told}
 use Rattle.path_core.specs.Emission.{first_unsent}
-use Rattle.path_core.specs.End.{PathEnd}
-use Rattle.path_core.specs.Looking.{HandsOrTellsNone, departing_as, first_sends, unsent_sends}
-use Rattle.path_core.specs.Octets.{made}
-use Rattle.path_core.specs.OptionsOut.{record_or_ack}
+use Rattle.path_core.specs.Looking.{HandsOrTellsNone, departing_as, first_sends, segment_sent, unsent_sends}
+use Rattle.path_core.specs.OptionsOut.{record_or_ack, record_said}
 use Rattle.path_core.specs.Shown.{shown_path}
 use Rattle.path_core.specs.State.{PathState, end_at, path_of}
 use Rattle.path_core.specs.Turns.{IsSettled}
 use Rattle.path_core.specs.Values.{Carried, values}
 use Rattle.path_segments.specs.Spelled.{PlainSegment}
-use Rattle.path_segments.specs.declared.spelling.Spelling.{Spelling}
 use Rattle.run_trace.specs.Trace.{sent_as}
 use Rattle.sides.specs.Side.{peer}
 use Rattle.sides.specs.declared.side.Side.TheVariants.{A, B}
@@ -39,7 +36,8 @@ use Rattle.world_laws.specs.Worlds.{WorldState}
 use Rattle.world_laws.specs.declared.member.Member.TheVariants.{Path}
 use Rattle.own_runs.specs.Runs.{file_of}
 use Rattle.own_runs.proofs.Granted.{way}
-use Rattle.own_runs.proofs.Moments.{end_shown, first_same}
+use Rattle.own_runs.proofs.Moments.{IsSpoken, Nothing, PathSpeaks, first_same}
+use Rattle.own_runs.proofs.NextSent.{Own, only_spoken, sent_of, spoken_next}
 use Rattle.own_runs.proofs.Pending.{SendsNext}
 use Rattle.own_runs.proofs.Speaking.{ToSend}
 
@@ -54,12 +52,15 @@ pub record HasPart (file : List ℕ) (place : ℕ) (piece : List ℕ) : Type 0 w
 pub record Covers (start : Start) (n : ℕ) (s : Side) (position place : ℕ) (x : Sent) : Type 0 where
   pub path : x.path ≡ n
   pub from : x.from ≡ s
-  pub spelling : Spelling
-  pub segment : PlainSegment
-  pub octets : x.octets ≡ made spelling s segment
-  pub low : segment.position ≤ suc position
-  pub high : suc position < segment.position + length segment.payload
-  pub has : HasPart (file_of start s) place segment.payload
+  pub said : IsSpoken Nothing start x
+  pub plain : said.segment.rst ≡ false
+  pub low : said.segment.position ≤ suc position
+  pub high : suc position < said.segment.position + length said.segment.payload
+  pub has : HasPart (file_of start s) place said.segment.payload
+
+-- The same as one side of a sum: two of these are compared without being taken apart into all that a segment says.
+abbrev pub Covered : Start → ℕ → Side → ℕ → ℕ → Sent → Type 0
+Covered start n s position place x = Covers start n s position place x ⊎ ⊥
 
 -- ---- a path, and the lane of one of its sides, at a moment
 
@@ -153,7 +154,7 @@ pub record Waits (start : Start) (s : Side) (p : PathState Carried) (lane : Lane
 -- each octet before a position is in the trace, the receiver passed none behind it, and what is behind it goes out next
 pub record SideSent (start : Start) (trace : List Sent) (n : ℕ) (s : Side) (p : PathState Carried) (lane : Lane) : Type 0 where
   pub upto : ℕ
-  pub told : (position : ℕ) (cell : Cell) → position < upto → slice_get lane.sent position ≡ Some cell → Has (Covers start n s position cell.place) trace
+  pub told : (position : ℕ) (cell : Cell) → position < upto → slice_get lane.sent position ≡ Some cell → Has (Covered start n s position cell.place) trace
   pub edge : lane.edge ≤ upto
   pub rest : (upto ≡ length lane.sent) ⊎ Waits start s p lane upto
 
@@ -189,7 +190,7 @@ module _ (start : Start) (trace more : List Sent) (n : ℕ) (s : Side) (lane lat
 
   -- a path that has nothing to send
   pub full_sent : (p q : PathState Carried) → IsAt n s q later → (upto : ℕ)
-      → ((position : ℕ) (cell : Cell) → position < upto → slice_get lane.sent position ≡ Some cell → Has (Covers start n s position cell.place) trace) → upto ≡ length lane.sent
+      → ((position : ℕ) (cell : Cell) → position < upto → slice_get lane.sent position ≡ Some cell → Has (Covered start n s position cell.place) trace) → upto ≡ length lane.sent
       → SideSent start (trace ++ more) n s q later
   full_sent p q at upto told full = record {
     upto = upto;
@@ -200,46 +201,49 @@ module _ (start : Start) (trace more : List Sent) (n : ℕ) (s : Side) (lane lat
 
 -- ---- a path sends what waits
 
--- what is handed over, octets for values
-abbrev pub sent_of : PathState (List ℕ) → Option ToSend → Option Sent
-sent_of q o = option_map (sent_as q) (option_map (departing_as q) o)
-
 last_has : (trace : List Sent) (P : Sent → Type 0) (o : Option Sent) → is_some o ≡ true → IfSome o P → Has P (trace ++ option_to_list o)
 last_has trace P None some is = cc
 last_has trace P (Some x) some is = has_last trace x is
 
+-- what it says is known of
+pub record ToldBy (start : Start) (p : PathState Carried) : Type 0 where
+  pub speaks : PathSpeaks start p
+
 module _ (start : Start) (n : ℕ) (s : Side) (p : PathState Carried) (numbered : path_of p ≡ n) (upto : ℕ) (piece : List ℕ) (next : SendsNext s (suc upto) piece p) where
-  r : Record
-  r = next.record_of
-
-  abbrev e : PathEnd
-  e = end_at s (shown_path p)
-
-  unsent : first_unsent (end_at s (shown_path p)) ≡ Some next.record_of
-  unsent = ap first_unsent (sym (end_shown s p)) ∙ next.unsent
-
-  covers : (position place : ℕ) → upto ≤ position → position < upto + length piece → HasPart (file_of start s) place piece
-      → IfSome (sent_of (shown_path p) (unsent_sends s (Some next.record_of))) (Covers start n s position place)
-  covers position place low high has = record {
+  -- it is that of the record
+  covers_by : ToldBy start p → (position place : ℕ) → upto ≤ position → position < upto + length piece → HasPart (file_of start s) place piece
+      → (t : ToSend) → unsent_sends s (Some next.record_of) ≡ Some t → t.from ≡ s → segment_sent p t ≡ record_or_ack p.profile s (first_unsent (end_at s p)) (end_at s p)
+      → Covered start n s position place (sent_as (shown_path p) (departing_as (shown_path p) t))
+  covers_by told position place low high has t is from same = inl (record {
     path = numbered;
-    from = refl;
-    spelling = p.profile.spelling;
-    segment = record_or_ack p.profile s (Some next.record_of) (end_at s (shown_path p));
-    octets = ap (λ (o : Option Record). made p.profile.spelling s (record_or_ack p.profile s o (end_at s (shown_path p)))) unsent;
-    low = let at = next.position_is in omega (arith, at, low);
-    high = let at = next.position_is in let whole = ap (λ (xs : List ℕ). length xs) next.piece_is in omega (arith, at, high, whole);
-    has = subst (HasPart (file_of start s) place) (sym next.piece_is) has;
-  }
+    from = from;
+    said = only_spoken (Own start p t (next.sends ∙ is) told.speaks) start _ said;
+    plain = ap (λ (sg : PlainSegment). sg.rst) (sym segment_is);
+    low = subst (λ (sg : PlainSegment). sg.position ≤ suc position) segment_is (let at = next.position_is in omega (arith, at, low));
+    high = subst (λ (sg : PlainSegment). suc position < sg.position + length sg.payload) segment_is
+        (let at = next.position_is in let whole = ap (λ (xs : List ℕ). length xs) next.piece_is in omega (arith, at, high, whole));
+    has = subst (λ (sg : PlainSegment). HasPart (file_of start s) place sg.payload) segment_is (subst (HasPart (file_of start s) place) (sym next.piece_is) has);
+  })
+    where
+      said : IsSpoken (Own start p t (next.sends ∙ is) told.speaks) start (sent_as (shown_path p) (departing_as (shown_path p) t))
+      said = spoken_next start p t (next.sends ∙ is) told.speaks
+
+      segment_is : record_said p.profile s next.record_of (end_at s p) ≡ said.segment
+      segment_is = sym (said.also ∙ same ∙ ap (λ (o : Option Record). record_or_ack p.profile s o (end_at s p)) next.unsent)
+
+  covers : ToldBy start p → (position place : ℕ) → upto ≤ position → position < upto + length piece → HasPart (file_of start s) place piece
+      → IfSome (sent_of (shown_path p) (unsent_sends s (Some next.record_of))) (Covered start n s position place)
+  covers told position place low high has = covers_by told position place low high has _ refl refl refl
 
   -- and it is the next one
   is_next : sent_of (shown_path p) (first_sends p.agenda (shown_path p)) ≡ sent_of (shown_path p) (unsent_sends s (Some next.record_of))
   is_next = ap (sent_of (shown_path p)) (first_same p.agenda p ∙ next.sends)
 
-  pub handed : (trace : List Sent) (o : Option Sent) → o ≡ sent_of (shown_path p) (first_sends p.agenda (shown_path p)) → (position place : ℕ) → upto ≤ position → position < upto + length piece
-      → HasPart (file_of start s) place piece → Has (Covers start n s position place) (trace ++ option_to_list o)
-  handed trace o is position place low high has =
-      last_has trace (Covers start n s position place) o (ap is_some (is ∙ is_next))
-      (subst (λ (o : Option Sent). IfSome o (Covers start n s position place)) (sym (is ∙ is_next)) (covers position place low high has))
+  pub handed : ToldBy start p → (trace : List Sent) (o : Option Sent) → o ≡ sent_of (shown_path p) (first_sends p.agenda (shown_path p)) → (position place : ℕ) → upto ≤ position → position < upto + length piece
+      → HasPart (file_of start s) place piece → Has (Covered start n s position place) (trace ++ option_to_list o)
+  handed told trace o is position place low high has =
+      last_has trace (Covered start n s position place) o (ap is_some (is ∙ is_next))
+      (subst (λ (o : Option Sent). IfSome o (Covered start n s position place)) (sym (is ∙ is_next)) (covers told position place low high has))
 
   -- its step asks for no bytes
   pub asks_told : HandsOrTellsNone values p (unsent_sends s (Some next.record_of))

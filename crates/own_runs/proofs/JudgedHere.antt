@@ -329,7 +329,7 @@ module _ (d : Drawn) (limit : Side → ℕ) (few : (s : Side) → limit s < 2 ^ 
 
   -- its sender's key is known where it shows it, or where it was
   module _ (knows : own.from ≡ A → (is_some j.keys.a ≡ true) ⊎ ((own.path ≡ 0) × (list_any shows_both own.values ≡ true))) where
-    pub key_made : is_some (key_of own.from made.keys) ≡ true
+    key_made : is_some (key_of own.from made.keys) ≡ true
     key_made = by own.from refl
       where
         by : (s : Side) → own.from ≡ s → is_some (key_of s made.keys) ≡ true
@@ -337,6 +337,9 @@ module _ (d : Drawn) (limit : Side → ℕ) (few : (s : Side) → limit s < 2 ^ 
         by A of_a =
             ⊎_elim (λ was. key_stays d is_mapping own.path facts ours own.values first was)
             (λ shows. key_shown d is_mapping own.path facts ours own.values first own.each keyed (j.capable shows.0) of_a shows.1) (knows of_a)
+
+    pub key_of_a : own.from ≡ A → is_some made.keys.a ≡ true
+    key_of_a of_a = subst (λ (s : Side). is_some (key_of s made.keys) ≡ true) of_a key_made
 
     known : first_of own.from made.keys ≡ Some number
     known = by (key_of own.from made.keys) key_made (key_is d is_mapping own.from made.keys (options_so d is_mapping own.path facts ours own.values first own.each keyed).keys)

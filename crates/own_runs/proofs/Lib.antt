@@ -7,6 +7,9 @@ mod Begun
 mod CameSent
 mod Carrying
 mod Counted
+mod EndMarks
+mod EndPaths
+mod EndRuns
 mod FateWords
 mod FineMoments
 mod FinePositions
@@ -27,6 +30,7 @@ mod KeptOptions
 mod KeyDuties
 mod KeyHears
 mod KeyRuns
+mod KeyedPieces
 mod KnownKeys
 mod LateJoins
 mod Learning
@@ -38,6 +42,7 @@ mod MomentFacts
 mod Moments
 mod NextGrows
 mod NextRuns
+mod NextSent
 mod NextTrace
 mod Nonces
 mod Numbered
@@ -59,6 +64,7 @@ mod PayloadsPlaced
 mod Pending
 mod Placing
 mod Reached
+mod ReadEnds
 mod ReadingBack
 mod RecordsKept
 mod Sayings
@@ -67,6 +73,7 @@ mod SentGrows
 mod ShortOctets
 mod ShortPieces
 mod ShownAcks
+mod ShownSeen
 mod Speaking
 mod Syns
 mod Telling
@@ -80,4 +87,5 @@ mod Traces
 mod Values
 mod Wanted
 mod WasSent
+mod WholeSays
 mod Words

@@ -1,7 +1,7 @@
 -- A segment of a connection of ours that never falls back breaks no rule on mappings and what they map: each position of a subflow has one
 -- place, and each place one octet. Nor does it acknowledge what wasn't shown. Where a reset of a dead end stands far behind all others, with number 0 (RFC 9293, section 3.10.7.1), later
 -- numbers may be read as positions that are 2^32 too high: all is said modulo 2^32.
-use Rattle.std.proofs.Common.{◌≡◌, refl, sym, ap, ◌∙◌, subst, ℕ, ◌+◌, ◌%◌, ◌<◌, ◌≤◌, ◌^◌, inl, inr, ⊎_elim, Bool, true, false, if◌then◌else◌, Option, Some, None, is_some, List, [], ◌∷◌, map, max, arith}
+use Rattle.std.proofs.Common.{◌≡◌, refl, sym, ap, ◌∙◌, subst, ℕ, ◌+◌, ◌%◌, ◌<◌, ◌≤◌, ◌^◌, inl, inr, ⊎_elim, Bool, true, false, if◌then◌else◌, Option, Some, None, is_some, List, [], ◌∷◌, length, map, max, arith}
 use Rattle.std.proofs.lemmas.Bool.{false≢true}
 use Rattle.std.specs.Prelude.{All, IfSome}
 use Rattle.std.specs.List.{slice_get}
@@ -33,7 +33,7 @@ use Rattle.judge_laws.specs.GoesOn.{GoesOn, stream_in}
 use Rattle.judge_laws.proofs.Folds.{TellingKeeps, options_so as fields_so}
 use Rattle.judge_laws.proofs.Going.{options_go}
 use Rattle.judge_laws.proofs.Positions.{at_goes}
-use Rattle.own_runs.proofs.AckPositions.{behind_all, seen_so}
+use Rattle.own_runs.proofs.AckPositions.{IsCovered, behind_all, seen_so}
 use Rattle.own_runs.proofs.FinePositions.{NumberIs, TellsNoFail, position_so}
 use Rattle.judge_laws.proofs.Standing.{some_same}
 use Rattle.own_runs.proofs.MapPositions.{AckIs, Bears, LaneFine, OffersWell, StreamFine, Waits, at_so, is_mapping}
@@ -67,6 +67,8 @@ module _ (d : Drawn) (limit : Side → ℕ) (few : (s : Side) → limit s < 2 ^ 
     pub bears : (p : ℕ) → p % 2 ^ 32 ≡ at % 2 ^ 32 → Bears (λ q. content own.from (where_at own.path own.from q)) p seen.segment.payload
     pub offers : (p : ℕ) → p % 2 ^ 32 ≡ at % 2 ^ 32 → All (Well own.path own.from p) own.values
     pub calm : All TellsNoFail own.values
+    -- an option maps each of its octets
+    pub maps : (p : ℕ) → p % 2 ^ 32 ≡ at % 2 ^ 32 → (j : ℕ) → j < length seen.segment.payload → IsCovered (first_at own.from) p (p + j) own.values
 
   -- by what each side wants of the other's stream on each path, on which paths all of its segments stand low, what was shown of its stream, and
   -- whether its DATA_FIN was

@@ -1,9 +1,10 @@
 -- In the capture of a run whose script alters nothing and takes no options away each position has one place, each place the octet of its side's
 -- file, and each checksum is right.
-use Rattle.std.proofs.Common.{◌≡◌, refl, sym, ap, ◌∙◌, subst, ℕ, zero, suc, ◌⊎◌, ◌+◌, ◌-◌, ◌%◌, ◌^◌, ◌<◌, ◌≤◌, true, false, Option, Some, None, option_map, Ok, Result, inl, inr, List, [], ◌∷◌, ◌++◌, length, length-append, append-nil, map, arith}
+use Rattle.std.proofs.Common.{◌≡◌, refl, sym, ap, ◌∙◌, subst, ℕ, zero, suc, ◌⊎◌, ◌+◌, ◌-◌, ◌%◌, ◌^◌, ◌<◌, ◌≤◌, true, false, Option, Some, None, option_map, Ok, Result, inl, inr, ⊎_elim, List, [], ◌∷◌, ◌++◌, length, length-append, append-nil, map, arith}
 use Rattle.std.specs.Prelude.{All, IfSome, get_or}
 use Rattle.std.specs.Int.{from_bool}
-use Rattle.std.proofs.lemmas.Bool.{false≢true}
+use Rattle.std.specs.List.{list_any}
+use Rattle.std.proofs.lemmas.Bool.{false≢true, or_cases}
 use Rattle.std.proofs.lemmas.List.Elements.{All-cons, All-head, All-nil, All-tail}
 use Rattle.capture_reader.specs.Captured.{Captured}
 use Rattle.capture_reader.specs.Seen.{Seen}
@@ -12,6 +13,7 @@ use Rattle.capture_verdict.specs.Judging.{judged_capture, judged_packets}
 use Rattle.capture_verdict.specs.Sent.{IsSent}
 use Rattle.dss_checksum.specs.Checksum.{dss_checksum}
 use Rattle.judge_laws.specs.GoesOn.{stream_in}
+use Rattle.judge_rules.specs.Mappings.{offer_of}
 use Rattle.judge_rules.specs.Numbers.{first_number}
 use Rattle.judge_rules.specs.declared.acks.ToldPlace.{ToldPlace}
 use Rattle.judge_rules.specs.declared.finding.Rule.{Rule}
@@ -43,8 +45,9 @@ use Rattle.own_runs.specs.Runs.{DataFinsEndTheFiles, NoWholeRunBreaks, StreamsBe
 use Rattle.own_runs.specs.Fitting.{RunFits}
 use Rattle.own_runs.specs.Traces.{FitsCapture, packet_for}
 use Rattle.own_runs.proofs.Fitting.{traces_fit}
-use Rattle.own_runs.proofs.Bearing.{Carries}
-use Rattle.own_runs.proofs.FineMoments.{IsBorne, IsMapped, Offered, content, file_len, lane_of, place_at, whole_offers}
+use Rattle.own_runs.proofs.AckPositions.{IsCover, IsCovered}
+use Rattle.own_runs.proofs.Bearing.{Carries, maps_octets}
+use Rattle.own_runs.proofs.FineMoments.{BearsMapped, IsMapped, Offered, content, file_len, lane_of, place_at, whole_offers}
 use Rattle.own_runs.proofs.FinePositions.{TellsNoFail}
 use Rattle.own_runs.proofs.Kept.{all_on, same_judged}
 use Rattle.own_runs.proofs.MapKept.{IsFine}
@@ -180,6 +183,27 @@ module _ (start : Start) (last : Duo) (path : ℕ) (plan : PathPlan) (s : Side) 
         by (inl none) = absurd (omega (arith, none, whole, below))
         by (inr short) = omega (arith, same, short, whole, below)
 
+  -- an option that maps octets maps those of its segment
+  module _ (key at octets p j : ℕ) (within : j < octets) where
+    cover_so : (o : PlainOption) → PlacedIn key at octets o → maps_octets o ≡ true → IsCover p (p + j) (offer_of first (said_option spelling s o))
+    cover_so (Dss next (Some (Bytes place from len false checksum))) placed is = let whole = placed.1 in (omega arith, omega (arith, whole, within))
+    cover_so (Dss next (Some (Bytes place from len true checksum))) placed is = absurd (false≢true (sym placed.2))
+    cover_so (Dss next (Some (End place checksum))) placed is = absurd (false≢true is)
+    cover_so (Dss next (Some (Infinite place from))) placed is = absurd (false≢true is)
+    cover_so (Dss next None) placed is = absurd (false≢true is)
+    cover_so (Capable flag_a flag_c (WithData sender receiver len checksum)) placed is = let whole = placed.1 in (omega arith, omega (arith, whole, within))
+    cover_so (Capable flag_a flag_c NoKey) placed is = absurd (false≢true is)
+    cover_so (Capable flag_a flag_c (Sender sender)) placed is = absurd (false≢true is)
+    cover_so (Capable flag_a flag_c (Both sender receiver)) placed is = absurd (false≢true is)
+    cover_so (Fail place) placed is = absurd (false≢true is)
+    cover_so _ placed is = absurd (false≢true is)
+
+    covered_so : (options : List PlainOption) → Every (PlacedIn key at octets) options → list_any maps_octets options ≡ true → IsCovered first p (p + j) (map (said_option spelling s) options)
+    covered_so [] placed is = absurd (false≢true is)
+    covered_so (o ∷ options) placed is =
+        ⊎_elim (λ here. inl (cover_so o (placed.each 0 o refl) here)) (λ later. inr (covered_so options (record { each = λ i y at_y. placed.each (suc i) y at_y }) later))
+        (or_cases (maps_octets o) (list_any maps_octets options) is)
+
   calm_so : (o : PlainOption) → OptionFine (file_len start) (IsMapped start last path) s o → TellsNoFail (said_option spelling s o)
   calm_so (Fail place) is = is
   calm_so (Capable flag_a flag_c keys) is = tt
@@ -219,10 +243,10 @@ module _ (start : Start) (last : Duo) (fit : NumbersFit start) where
     pub borne : ((length payload ≡ 0) ⊎ (position + length payload < 2 ^ 31)) × Bears (λ q. content start x.from (place_at (lane_of last x.path x.from) q)) position payload
     borne = by s.also.1
       where
-        by : Carries (IsBorne start last x.path) x.from s.segment
+        by : Carries (BearsMapped start last x.path) x.from s.segment
             → ((length payload ≡ 0) ⊎ (position + length payload < 2 ^ 31)) × Bears (λ q. content start x.from (place_at (lane_of last x.path x.from) q)) position payload
         by (inl none) = let empty : length payload ≡ 0 = ap (λ (xs : List ℕ). length xs) none in (inl empty, λ j below. absurd (omega (arith, empty, below)))
-        by (inr is) = (inr is.0, is.1)
+        by (inr is) = (inr is.0.0, is.0.1)
 
     pub good : Good (seen_of (Offered start last) start x s short)
     good = record {
@@ -240,6 +264,9 @@ module _ (start : Start) (last : Duo) (fit : NumbersFit start) where
           (wells_so start last x.path s.plan x.from key position (length payload) p same borne.0 s.segment.options s.spoken.placed.options s.also.0)));
       calm = subst (λ (values : List OptionValue). All TellsNoFail values) (sym (values_are (Offered start last) start x s short))
           (calmly start last x.path s.plan x.from s.segment.options s.also.0);
+      maps = λ p same j within. subst (λ (from : Side). IsCovered (first_number (own_key (drawn start) from)) p (p + j) own.values) (sym (from_is (Offered start last) start x s short))
+          (subst (λ (values : List OptionValue). IsCovered (first_number (own_key (drawn start) x.from)) p (p + j) values) (sym (values_are (Offered start last) start x s short))
+          (mapped p j (subst (λ (octets : List ℕ). j < length octets) (payload_same (Offered start last) start x s short) within) s.also.1));
     }
       where
         key : ℕ
@@ -250,6 +277,11 @@ module _ (start : Start) (last : Duo) (fit : NumbersFit start) where
 
         Holds : ℕ → ℕ → Side → Type 0
         Holds = λ p path from. Bears (λ q. content start from (where_in last path from q)) p written.payload
+
+        mapped : (p j : ℕ) → j < length payload → Carries (BearsMapped start last x.path) x.from s.segment
+            → IsCovered (first_number (own_key (drawn start) x.from)) p (p + j) (map (said_option (path_begins start x.path s.plan).profile.spelling x.from) s.segment.options)
+        mapped p j within (inl none) = absurd (let empty : length payload ≡ 0 = ap (λ (xs : List ℕ). length xs) none in omega (arith, empty, within))
+        mapped p j within (inr is) = covered_so start last x.path s.plan x.from key position (length payload) p j within s.segment.options s.spoken.placed.options is.1
 
         Wells : ℕ → ℕ → Side → List OptionValue → Type 0
         Wells = λ p path from values. All (OffersWell (first_number (own_key (drawn start) from)) (file_len start from) (content start from) (where_in last path from) p) values

@@ -20,7 +20,7 @@ use Rattle.path_core.specs.Handover.{sent_on}
 use Rattle.path_core.specs.Judged.{taken_as}
 use Rattle.path_core.specs.MpJoin.{join_begun, never_joined, opened_by, keys_begun, is_joined}
 use Rattle.path_core.specs.State.{PathState, end_at, goes_on, with_end, at_tick}
-use Rattle.path_core.specs.Steps.{takes, next_round}
+use Rattle.path_core.specs.Steps.{answers, next_round, settled, takes}
 use Rattle.path_core.specs.Treating.{answered_heard, answered_item, item_of, item_passed}
 use Rattle.path_core.specs.Values.{Carried, values}
 use Rattle.path_core.specs.declared.events.Event.{Event}
@@ -46,7 +46,7 @@ use Rattle.subflow_tcp.specs.declared.segments.Occasion.{Occasion}
 use Rattle.subflow_tcp.specs.declared.verdicts.Meaning.{Meaning}
 use Rattle.world_laws.proofs.Lanes.Records.{unsent_sent_kept, first_sent_kept, fin_sent_kept, expired_kept, uncovered_kept}
 use Rattle.world_laws.proofs.Writes.Paths.{writes_no_more, passes_no_more}
-use Rattle.world_laws.proofs.Writes.Steps.{Lasts, both_ends, unwritten, takes_lasts, begins_lasts}
+use Rattle.world_laws.proofs.Writes.Steps.{Lasts, both_ends, settled_lasts, unwritten, takes_lasts, begins_lasts}
 use Rattle.world_laws.specs.Writes.{writes, side_of, Only, OnlyAt, EndWrites, EndView}
 use Rattle.subflow_tcp.specs.Opening.{after_begin}
 use Rattle.path_agenda.specs.declared.keys.KeyPair.{KeyPair}
@@ -240,9 +240,14 @@ module _ (P : Record → Type 0) (any : (r : Record) (x : Sending) → P r → P
   granted_kept s None r p fits = on s _ _ p (λ z. z)
   granted_kept s (Some grant) r p fits = on s _ _ p (λ z. Every-push _ z (fits grant refl))
 
-  data_kept : (s : Side) (o : Option Record) (r : Reply) (p : PathState Carried) → GrantFits r p → Kept p (answered_data values s o r p)
-  data_kept s (Some next) r p fits = sent s _ _ _ p (sending_keeps Occasion.Unsent p.clock (end_at s p).tcp)
-  data_kept s None r p fits = granted_kept s (grant_in r) r p (fits s)
+  -- what the duty may be granted is so
+  abbrev pub DutyFits : Duty → Reply → PathState Carried → Type 0
+  DutyFits (Duty.Step (StepDuty.Data s)) r p = first_unsent (end_at s p) ≡ None → (grant : Grant) → grant_in r ≡ Some grant → P (pushed s grant p)
+  DutyFits _ r p = Unit {0}
+
+  data_kept : (s : Side) (o : Option Record) (r : Reply) (p : PathState Carried) → first_unsent (end_at s p) ≡ o → DutyFits (Duty.Step (StepDuty.Data s)) r p → Kept p (answered_data values s o r p)
+  data_kept s (Some next) r p is fits = sent s _ _ _ p (sending_keeps Occasion.Unsent p.clock (end_at s p).tcp)
+  data_kept s None r p is fits = granted_kept s (grant_in r) r p (fits is)
 
   thing_kept : (s : Side) (item : Heard) (r : Reply) (p : PathState Carried) → Kept p (answered_heard values s item r p)
   thing_kept s (Heard.DataAck next window) r p = on s _ _ p (λ z. z)
@@ -265,9 +270,9 @@ module _ (P : Record → Type 0) (any : (r : Record) (x : Sending) → P r → P
   ask_kept (AskDuty.LeaveNoted s) r p = on s _ _ p (died_keeps (end_at s p))
   ask_kept d r p = only (Duty.Ask d) p _ refl refl (writes_no_more values (Duty.Ask d) r p)
 
-  step_kept : (d : StepDuty) (r : Reply) (p : PathState Carried) → GrantFits r p → Kept p (answered values (Duty.Step d) r p)
+  step_kept : (d : StepDuty) (r : Reply) (p : PathState Carried) → DutyFits (Duty.Step d) r p → Kept p (answered values (Duty.Step d) r p)
   step_kept (StepDuty.Look s) r p fits = only (Duty.Step (StepDuty.Look s)) p _ refl refl (writes_no_more values (Duty.Step (StepDuty.Look s)) r p)
-  step_kept (StepDuty.Data s) r p fits = data_kept s (first_unsent (end_at s p)) r p fits
+  step_kept (StepDuty.Data s) r p fits = data_kept s (first_unsent (end_at s p)) r p refl fits
   step_kept StepDuty.Events r p fits = event_kept (next_event p) r p
   step_kept (StepDuty.Heard s index) r p fits = item_kept s (item_of index (end_at s p)) r p
   step_kept (StepDuty.PlainAck s) r p fits = either (breaks_by_ack p.profile (end_at s p)) p _ _ (break_kept s 6 r p) (on s _ _ p (λ z. z))
@@ -285,7 +290,7 @@ module _ (P : Record → Type 0) (any : (r : Record) (x : Sending) → P r → P
   send_kept (SendDuty.ResetNoted s) r p = sent s _ _ _ p (died_keeps (end_at s p))
   send_kept d r p = only (Duty.Send d) p _ refl refl (writes_no_more values (Duty.Send d) r p)
 
-  answered_kept : (d : Duty) (r : Reply) (p : PathState Carried) → GrantFits r p → Kept p (answered values d r p)
+  answered_kept : (d : Duty) (r : Reply) (p : PathState Carried) → DutyFits d r p → Kept p (answered values d r p)
   answered_kept (Duty.Ask d) r p fits = ask_kept d r p
   answered_kept (Duty.Step d) r p fits = step_kept d r p fits
   answered_kept (Duty.Send d) r p fits = send_kept d r p
@@ -340,7 +345,46 @@ module _ (P : Record → Type 0) (any : (r : Record) (x : Sending) → P r → P
   }
 
   pub takes_kept : (r : Reply) (p : PathState Carried) → GrantFits r p → Kept p (takes values r p)
-  takes_kept r p fits = takes_lasts Kept lasts values r p (λ d. answered_kept d r p fits)
+  takes_kept r p fits = takes_lasts Kept lasts values r p (λ d. answered_kept d r p (all d))
+    where
+      all : (d : Duty) → DutyFits d r p
+      all (Duty.Step (StepDuty.Data s)) = λ none. fits s
+      all (Duty.Step StepDuty.Events) = tt
+      all (Duty.Step (StepDuty.Look s)) = tt
+      all _ = tt
+
+  -- the records of A, where what A is granted is so
+  pub takes_a : (r : Reply) (p : PathState Carried) → ((ds : List Duty) → p.agenda ≡ Duty.Step (StepDuty.Data A) ∷ ds → DutyFits (Duty.Step (StepDuty.Data A)) r p)
+      → EndKeeps p.a (takes values r p).a
+  takes_a r p fits = by p.agenda refl
+    where
+      rest : (q : PathState Carried) → EndKeeps p.a q.a → EndKeeps p.a (settled q.agenda q).a
+      rest q k h = (settled_lasts Kept lasts q.agenda q).a (k h)
+
+      other : (d : Duty) → DutyFits d r p → EndKeeps p.a (settled (answered values d r p).agenda (answered values d r p)).a
+      other d fit = rest (answered values d r p) (answered_kept d r p fit).a
+
+      granted : (o : Option Grant) → EndKeeps p.a (answered_grant B o r p).a
+      granted None h = h
+      granted (Some grant) h = h
+
+      data_b : (o : Option Record) → EndKeeps p.a (answered_data values B o r p).a
+      data_b None h = granted (grant_in r) h
+      data_b (Some unsent) h = h
+
+      by : (ds : List Duty) → p.agenda ≡ ds → EndKeeps p.a (settled (answers values ds r p).agenda (answers values ds r p)).a
+      by [] same = rest p (λ h. h)
+      by (Duty.Step (StepDuty.Data A) ∷ ds) same = other (Duty.Step (StepDuty.Data A)) (fits ds same)
+      by (Duty.Step (StepDuty.Data B) ∷ ds) same = rest (answered values (Duty.Step (StepDuty.Data B)) r p) (data_b (first_unsent p.b))
+      by (Duty.Step StepDuty.Events ∷ ds) same = other (Duty.Step StepDuty.Events) tt
+      by (Duty.Step (StepDuty.Look s) ∷ ds) same = other (Duty.Step (StepDuty.Look s)) tt
+      by (Duty.Step (StepDuty.Heard s index) ∷ ds) same = other (Duty.Step (StepDuty.Heard s index)) tt
+      by (Duty.Step (StepDuty.PlainAck s) ∷ ds) same = other (Duty.Step (StepDuty.PlainAck s)) tt
+      by (Duty.Step (StepDuty.Unmapped s) ∷ ds) same = other (Duty.Step (StepDuty.Unmapped s)) tt
+      by (Duty.Ask d ∷ ds) same = other (Duty.Ask d) tt
+      by (Duty.Send d ∷ ds) same = other (Duty.Send d) tt
+      by (Duty.Silent d ∷ ds) same = other (Duty.Silent d) tt
+      by (Duty.End ∷ ds) same = other Duty.End tt
 
   pub next_kept : (p : PathState Carried) → Kept p (next_round p)
   next_kept p = let k = begins_lasts Kept lasts (record p { clock = p.until; until = p.until + 100 }) in record { a = k.a; b = k.b }

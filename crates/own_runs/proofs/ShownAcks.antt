@@ -1,27 +1,39 @@
 -- At each moment of a run, by its last lanes: what the next segments map and bear, and that each octet of a file that their Data ACKs cover was in a
--- segment before them, at a position that has its place on these lanes.
-use Rattle.std.proofs.Common.{◌≡◌, refl, sym, ap, ◌∙◌, subst, ℕ, suc, ◌-◌, Option, Some, None, List, [], ◌∷◌, ◌++◌, append_assoc, append-nil, arith}
+-- segment before them, at a position that has its place on these lanes, and that the DATA_FIN was told before they cover its place.
+use Rattle.std.proofs.Common.{◌≡◌, refl, sym, ap, ◌∙◌, subst, ℕ, suc, ◌-◌, ◌<◌, Option, Some, None, is_some, true, List, [], ◌∷◌, ◌++◌, length, append_assoc, append-nil, arith}
 use Rattle.std.specs.List.{slice_get}
 use Rattle.std.specs.Option.{IfSome}
 use Rattle.link_trace.specs.declared.sent.Sent.{Sent}
 use Rattle.path_core.specs.Looking.{first_sends, segment_sent}
 use Rattle.path_core.specs.Octets.{octets}
+use Rattle.path_core.specs.Values.{Carried, values}
 use Rattle.path_core.specs.State.{PathState, path_of}
 use Rattle.path_segments.specs.Spelled.{PlainSegment}
+use Rattle.reassembly_book.specs.State.{Arriving}
 use Rattle.run_trace.specs.Trace.{trace_of}
+use Rattle.sides.specs.Side.{peer}
 use Rattle.sides.specs.declared.side.Side.TheVariants.{A, B}
 use Rattle.sides.specs.declared.side.Side.{Side}
 use Rattle.stream_lanes.proofs.Lists.{in_more}
+use Rattle.stream_lanes.proofs.Duos.{any_held}
+use Rattle.stream_lanes.proofs.Views.{is_end}
 use Rattle.stream_lanes.specs.Duo.{Duo, after_events}
+use Rattle.stream_lanes.specs.Holding.{Holds}
 use Rattle.stream_lanes.specs.Lane.{Cell, Lane}
+use Rattle.stream_lanes.specs.Words.{Has}
 use Rattle.world_laws.proofs.Lanes.OfAWorld.{first_duo, plainly}
 use Rattle.world_laws.specs.Actors.{Actor}
 use Rattle.world_laws.specs.NeverFalls.{IsWhole}
 use Rattle.world_laws.specs.Openings.{Start, opened_world}
-use Rattle.world_laws.specs.Promises.{IsPlain, NumbersFit}
+use Rattle.world_laws.specs.Outcomes.{outcome_of}
+use Rattle.world_laws.specs.Promises.{IsPlain, NumbersFit, was_told_end}
+use Rattle.world_laws.specs.declared.outcome.Outcome.TheVariants.{Delivered}
+use Rattle.own_runs.specs.Runs.{file_of}
 use Rattle.world_laws.specs.Worlds.{Turn, WorldState, world_run}
 use Rattle.world_laws.specs.declared.member.Member.TheVariants.{App, Path}
-use Rattle.own_runs.proofs.CameSent.{IsOnLane}
+use Rattle.own_runs.proofs.CameSent.{IsOnLane, came_of, d, has_map, links, passed_of, w, was_sent}
+use Rattle.own_runs.proofs.Grants.{ends_told}
+use Rattle.own_runs.proofs.EndRuns.{TellsEnd, end_told}
 use Rattle.own_runs.proofs.FineMoments.{Offered, lane_of, offered_at, place_at}
 use Rattle.own_runs.proofs.Granted.{way}
 use Rattle.own_runs.proofs.Handed.{Covers}
@@ -30,8 +42,9 @@ use Rattle.own_runs.proofs.Moments.{MemberAlso, PathAlso, WorldAlso}
 use Rattle.own_runs.proofs.Reached.{AllGo, reaches, steps}
 use Rattle.own_runs.proofs.SentGrows.{Grows, LanesGrow, events_grow}
 use Rattle.own_runs.proofs.Speaking.{ToSend}
-use Rattle.own_runs.proofs.ToldAcks.{AckedBefore, AtEnd, also_acked, known_at_end}
-use Rattle.own_runs.proofs.WasSent.{Known, next_known, opened_known}
+use Rattle.own_runs.proofs.ToldAcks.{AckedBefore, AtEnd, also_acked, closed_whole, known_at_end}
+use Rattle.own_runs.proofs.ReadEnds.{BothKnow, always_know}
+use Rattle.own_runs.proofs.WasSent.{Known, always_known, next_known, opened_known}
 
 -- a segment has the octet of this place at a position that has it on the last lanes
 pub record IsShown (start : Start) (last : Duo) (s : Side) (place : ℕ) (x : Sent) : Type 0 where
@@ -62,9 +75,13 @@ shown_last start d last grows s place x h =
           ∙ sits_on m.0 h.position place h.cell cell h.place_is;
     }
 
+-- behind the last octet of the file, where the DATA_FIN was told
+abbrev pub EndTold : Start → List Sent → Side → ℕ → Type 0
+EndTold start before s place = AtEnd start s place × Has (TellsEnd start s) before
+
 -- what holds of the segments that are sent next
 abbrev pub OfferedAndAcked : Start → Duo → List Sent → ℕ → Side → PlainSegment → Type 0
-OfferedAndAcked start last before path s sg = Offered start last path s sg × AckedBefore (IsShown start last) (AtEnd start) before path s sg
+OfferedAndAcked start last before path s sg = Offered start last path s sg × AckedBefore (IsShown start last) (EndTold start before) before path s sg
 
 both_path : {C : Type 0} (Q R : ℕ → Side → PlainSegment → Type 0) (p : PathState C) → PathAlso Q p → PathAlso R p → PathAlso (λ n s sg. Q n s sg × R n s sg) p
 both_path Q R p x y = by (first_sends p.agenda p) x y
@@ -118,6 +135,60 @@ whole_acks start turns plain whole fit =
     moment : (last : Duo) (more : List Turn) → (k : Known start plain fit more) × Grows (after_events k.events (first_duo (plainly start plain).links start)) last
         → WorldAlso (OfferedAndAcked start last (trace_of more (opened_world start))) (world_run octets more (opened_world start))
     moment last more r =
-        both_worlds (Offered start last) (AckedBefore (IsShown start last) (AtEnd start) (trace_of more (opened_world start))) (world_run octets more (opened_world start))
+        both_worlds (Offered start last) (AckedBefore (IsShown start last) (EndTold start (trace_of more (opened_world start))) (trace_of more (opened_world start))) (world_run octets more (opened_world start))
         (offered_at start plain whole fit last more (record { events = r.0.events; shows = r.0.shows }, r.1))
-        (also_acked start plain fit more r.0 (IsShown start last) (λ s place x h. shown_last start _ last r.1 s place x h) (AtEnd start) (known_at_end start plain fit more r.0))
+        (also_acked start plain fit more r.0 (IsShown start last) (λ s place x h. shown_last start _ last r.1 s place x h) (EndTold start (trace_of more (opened_world start)))
+        (λ s place is. (known_at_end start plain fit more r.0 s place is, told_by more r.0 s place is)))
+      where
+        told_by : (more : List Turn) (k : Known start plain fit more) (s : Side) (place : ℕ) → (way s (d start plain fit more k)).arrived.known_end ≡ Some place
+            → Has (TellsEnd start s) (trace_of more (opened_world start))
+        told_by more k A place is = end_told start plain whole fit more B (ap (λ (b : Arriving). is_some b.known_end) (came_of start plain fit more k A) ∙ ap is_some is)
+        told_by more k B place is = end_told start plain whole fit more A (ap (λ (b : Arriving). is_some b.known_end) (came_of start plain fit more k B) ∙ ap is_some is)
+
+-- ---- a delivered run
+
+-- a reader that was told the end read all of the file
+module _ (start : Start) (plain : IsPlain start) (fit : NumbersFit start) (turns : List Turn) (k : Known start plain fit turns) where
+  abbrev now : Duo
+  now = d start plain fit turns k
+
+  holds : Holds now
+  holds = any_held (links start plain fit turns k).alters (links start plain fit turns k).checked (length start.paths) start.buffer start.buffer k.events
+
+  told_end : (s : Side) → was_told_end (peer s) (w start plain fit turns k) ≡ true → (way s now).reader.told ≡ true
+  told_end A told = ap (λ (x : Duo). x.ab.reader.told) k.shows.duo_is ∙ k.shows.reads_b.told_is ∙ ap (λ (v : WorldState Carried). was_told_end B v) (sym k.shows.is) ∙ told
+  told_end B told = ap (λ (x : Duo). x.ba.reader.told) k.shows.duo_is ∙ k.shows.reads_a.told_is ∙ ap (λ (v : WorldState Carried). was_told_end A v) (sym k.shows.is) ∙ told
+
+  read_all : (s : Side) → was_told_end (peer s) (w start plain fit turns k) ≡ true → (place : ℕ) → place < length (file_of start s) → place < (way s now).arrived.read
+  read_all A told place below =
+      let end = is_end now.ab.send now.ab.arrived.read (holds.ab.reader.told (told_end A told)) in
+      let same = ap length (closed_whole start plain fit turns k A end.0) in
+      omega (arith, below, end.1, same)
+  read_all B told place below =
+      let end = is_end now.ba.send now.ba.arrived.read (holds.ba.reader.told (told_end B told)) in
+      let same = ap length (closed_whole start plain fit turns k B end.0) in
+      omega (arith, below, end.1, same)
+
+-- each octet of its files was in a segment
+pub delivered_shown : (start : Start) (turns : List Turn) (plain : IsPlain start) (whole : IsWhole start) (fit : NumbersFit start)
+    → outcome_of (world_run octets turns (opened_world start)).crew ≡ Delivered → (s : Side) (place : ℕ) → place < length (file_of start s)
+    → Has (IsShown start (whole_acks start turns plain whole fit).0 s place) (trace_of turns (opened_world start))
+unfolding whole_acks
+delivered_shown start turns plain whole fit delivered s place below =
+    let all = known_reaches start plain fit turns in
+    let r = all.1 turns [] (append-nil turns) in
+    let told = ends_told start turns plain fit delivered (peer s) in
+    has_map (trace_of turns (opened_world start)) (shown_last start (d start plain fit turns r.0) all.0 r.1 s place)
+    (was_sent start plain fit turns r.0 s place ((passed_of start plain fit turns r.0 s).before place (read_all start plain fit turns r.0 s told place below)))
+
+-- and the end of each was told
+pub delivered_ends : (start : Start) (turns : List Turn) → IsPlain start → IsWhole start → NumbersFit start → outcome_of (world_run octets turns (opened_world start)).crew ≡ Delivered
+    → (s : Side) → Has (TellsEnd start s) (trace_of turns (opened_world start))
+delivered_ends start turns plain whole fit delivered s = by s (always_known start plain fit turns) (ends_told start turns plain fit delivered (peer s))
+  where
+    knows : (k : Known start plain fit turns) → BothKnow (d start plain fit turns k)
+    knows k = always_know (links start plain fit turns k).alters (links start plain fit turns k).checked (length start.paths) start.buffer start.buffer k.events
+
+    by : (s : Side) (k : Known start plain fit turns) → was_told_end (peer s) (world_run values turns (opened_world start)) ≡ true → Has (TellsEnd start s) (trace_of turns (opened_world start))
+    by A k told = end_told start plain whole fit turns B (ap (λ (b : Arriving). is_some b.known_end) (came_of start plain fit turns k A) ∙ (knows k).ab (told_end start plain fit turns k A told))
+    by B k told = end_told start plain whole fit turns A (ap (λ (b : Arriving). is_some b.known_end) (came_of start plain fit turns k B) ∙ (knows k).ba (told_end start plain fit turns k B told))

@@ -108,15 +108,15 @@ module _ (start : Start) (plain : IsPlain start) (fit : NumbersFit start) (turns
   send_is B = ap (λ (e : Duo). e.ba.send) k.shows.duo_is ∙ sym (ap (λ (v : WorldState Carried). (books_in v.books).send_b) k.shows.is)
 
   -- where a stream is closed its file was written
-  whole : (s : Side) → (way s (d start plain fit turns k)).send.closed ≡ true → (way s (d start plain fit turns k)).send.written ≡ file_of start s
-  whole A = subst (λ (b : Sending). b.closed ≡ true → b.written ≡ start.file_a) (sym (send_is A)) (writes_the_files values start turns).a.whole
-  whole B = subst (λ (b : Sending). b.closed ≡ true → b.written ≡ start.file_b) (sym (send_is B)) (writes_the_files values start turns).b.whole
+  pub closed_whole : (s : Side) → (way s (d start plain fit turns k)).send.closed ≡ true → (way s (d start plain fit turns k)).send.written ≡ file_of start s
+  closed_whole A = subst (λ (b : Sending). b.closed ≡ true → b.written ≡ start.file_a) (sym (send_is A)) (writes_the_files values start turns).a.whole
+  closed_whole B = subst (λ (b : Sending). b.closed ≡ true → b.written ≡ start.file_b) (sym (send_is B)) (writes_the_files values start turns).b.whole
 
   -- a known end is that of the file
   pub known_at_end : (s : Side) (place : ℕ) → (way s (d start plain fit turns k)).arrived.known_end ≡ Some place → AtEnd start s place
-  known_at_end A place is = closed_end start.file_a (way A (d start plain fit turns k)).send (whole A) place
+  known_at_end A place is = closed_end start.file_a (way A (d start plain fit turns k)).send (closed_whole A) place
       (known_so (way A (d start plain fit turns k)).arrived.known_end (λ e. end_of (way A (d start plain fit turns k)).send ≡ Some e) place holds.ab.arrived.end is)
-  known_at_end B place is = closed_end start.file_b (way B (d start plain fit turns k)).send (whole B) place
+  known_at_end B place is = closed_end start.file_b (way B (d start plain fit turns k)).send (closed_whole B) place
       (known_so (way B (d start plain fit turns k)).arrived.known_end (λ e. end_of (way B (d start plain fit turns k)).send ≡ Some e) place holds.ba.arrived.end is)
 
 module _ (start : Start) (plain : IsPlain start) (fit : NumbersFit start) (turns : List Turn) (k : Known start plain fit turns)
@@ -208,11 +208,13 @@ module _ (start : Start) (plain : IsPlain start) (fit : NumbersFit start) (turns
 -- ---- where a segment stands in a trace
 
 -- the turn that sent it, and what was sent before
-record SentIn (turns : List Turn) (v : WorldState (List ℕ)) (i : ℕ) (x : Sent) : Type 0 where
-  before : List Turn
-  turn : Turn
-  front : trace_of before v ≡ take i (trace_of turns v)
-  sends : slice_get (sent_at turn (world_run octets before v)) 0 ≡ Some x
+pub record SentIn (turns : List Turn) (v : WorldState (List ℕ)) (i : ℕ) (x : Sent) : Type 0 where
+  pub before : List Turn
+  pub turn : Turn
+  pub later : List Turn
+  pub whole : before ++ later ≡ turns
+  pub front : trace_of before v ≡ take i (trace_of turns v)
+  pub sends : slice_get (sent_at turn (world_run octets before v)) 0 ≡ Some x
 
 one_at_most : (turn : Turn) (v : WorldState (List ℕ)) → length (sent_at turn v) ≤ 1
 one_at_most (Turn.Step i) v = by (sent_next i v)
@@ -222,7 +224,7 @@ one_at_most (Turn.Step i) v = by (sent_next i v)
     by (Some x) = omega arith
 one_at_most Turn.Round v = omega arith
 
-sent_in : (turns : List Turn) (v : WorldState (List ℕ)) (i : ℕ) (x : Sent) → slice_get (trace_of turns v) i ≡ Some x → SentIn turns v i x
+pub sent_in : (turns : List Turn) (v : WorldState (List ℕ)) (i : ℕ) (x : Sent) → slice_get (trace_of turns v) i ≡ Some x → SentIn turns v i x
 sent_in [] v i x is = cc
 sent_in (turn ∷ turns) v i x is = by (in_append now rest i x is) (λ j there. sent_in turns (after_turn octets turn v) j x there)
   where
@@ -240,6 +242,8 @@ sent_in (turn ∷ turns) v i x is = by (in_append now rest i x is) (λ j there. 
         record {
           before = [];
           turn = turn;
+          later = turn ∷ turns;
+          whole = refl;
           front = ap (λ (n : ℕ). take n (trace_of (turn ∷ turns) v)) none;
           sends = ap (slice_get now) none ∙ here;
         }
@@ -249,6 +253,8 @@ sent_in (turn ∷ turns) v i x is = by (in_append now rest i x is) (λ j there. 
         record {
           before = turn ∷ m.before;
           turn = m.turn;
+          later = m.later;
+          whole = ap (λ (ts : List Turn). turn ∷ ts) m.whole;
           front = ap (λ (t : List Sent). now ++ t) m.front ∙ sym (take-append-add now rest (i - length now))
               ∙ ap (λ (n : ℕ). take n (now ++ rest)) (let same : length now + (i - length now) ≡ i = omega (arith, low) in same);
           sends = m.sends;

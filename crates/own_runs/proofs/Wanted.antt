@@ -27,9 +27,9 @@ filled_more (None ∷ xs) ys = omega arith
 filled_more (Some x ∷ xs) [] = omega arith
 filled_more (Some x ∷ xs) (y ∷ ys) = let rest = filled_more xs ys in omega (arith, rest)
 
-record Onward (b c : Arriving) : Type 0 where
-  more : received b ≤ received c
-  stays : (e : ℕ) → b.known_end ≡ Some e → c.known_end ≡ Some e
+pub record Onward (b c : Arriving) : Type 0 where
+  pub more : received b ≤ received c
+  pub stays : (e : ℕ) → b.known_end ≡ Some e → c.known_end ≡ Some e
 
 same_onward : (b : Arriving) → Onward b b
 same_onward b = record { more = omega arith; stays = λ e is. is }
@@ -54,12 +54,12 @@ wanted_onward b c h = by b.known_end c.known_end (h.stays)
             let so = eq-eqb e (received c) end in
             subst (λ (k : Bool). received b + 1 ≤ received c + (if k then 1 else 0)) (sym so) (omega (arith, more))
 
-placed_onward : (at : ℕ) (bytes : List ℕ) (b : Arriving) → Onward b (after_call b (Place at bytes))
+pub placed_onward : (at : ℕ) (bytes : List ℕ) (b : Arriving) → Onward b (after_call b (Place at bytes))
 placed_onward at bytes b =
     either_onward (is_taken at bytes b) b (record b { places = places_after at bytes b }) b
     (record { more = let grown = filled_more b.places (drop b.read (by_place at bytes)) in omega (arith, grown); stays = λ e is. is }) (same_onward b)
 
-fin_onward : (at : ℕ) (b : Arriving) → Onward b (after_call b (Fin at))
+pub fin_onward : (at : ℕ) (b : Arriving) → Onward b (after_call b (Fin at))
 fin_onward at b = by b.known_end refl
   where
     ended : Arriving
@@ -79,7 +79,7 @@ fin_onward at b = by b.known_end refl
         same false differs = same_onward b
         same true equal = record { more = omega arith; stays = λ e known. ap (λ (n : ℕ). Some n) (sym (eqb-true f at equal)) ∙ (sym is ∙ known) }
 
-read_onward : (max : ℕ) (b : Arriving) → Onward b (after_reading max b)
+pub read_onward : (max : ℕ) (b : Arriving) → Onward b (after_reading max b)
 read_onward max b = record {
   more = let left = filled_left (min max (length (filled b.places))) b.places (omega arith) in omega (arith, left);
   stays = λ e is. is;

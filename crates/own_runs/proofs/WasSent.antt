@@ -79,7 +79,9 @@ use Rattle.world_laws.specs.declared.member.Member.TheVariants.{App, Path}
 use Rattle.own_runs.specs.Runs.{file_of}
 use Rattle.own_runs.proofs.Begun.{always_begun}
 use Rattle.own_runs.proofs.Granted.{GivesTo, Silently, call_so, silent_events, way}
-use Rattle.own_runs.proofs.Handed.{Covers, HasPart, IsAt, SideSent, Waits, asks_told, full_sent, handed, is_at, lane_there, sent_of, stay_sent}
+use Rattle.own_runs.proofs.Handed.{Covered, HasPart, IsAt, SideSent, ToldBy, Waits, asks_told, full_sent, handed, is_at, lane_there, stay_sent}
+use Rattle.own_runs.proofs.Moments.{MemberSpeaks, valued}
+use Rattle.own_runs.proofs.NextSent.{sent_of}
 use Rattle.own_runs.proofs.Pending.{SendsNext, duty_asks, gives, granted_next, granted_other}
 
 -- ---- what a turn makes of a lane
@@ -207,7 +209,7 @@ data_next p s n most standby is = by p.agenda refl is
 
 module _ (start : Start) (trace more : List Sent) (n : ℕ) (s : Side) (p : PathState Carried) (lane later : Lane) (old : IsAt n s p lane) (fits : PathFits p) (b : Sending) (tile : Tile b) (prefix : IsPrefix b.written (file_of start s))
     (most : ℕ) (standby : Bool) (asks : asks_of values p ≡ Some (Ask.Send s (SendCall.Grant n most standby)))
-    (edge : later.edge ≡ lane.edge) (upto : ℕ) (told : (position : ℕ) (cell : Cell) → position < upto → slice_get lane.sent position ≡ Some cell → Has (Covers start n s position cell.place) trace) (full : upto ≡ length lane.sent) where
+    (edge : later.edge ≡ lane.edge) (upto : ℕ) (told : (position : ℕ) (cell : Cell) → position < upto → slice_get lane.sent position ≡ Some cell → Has (Covered start n s position cell.place) trace) (full : upto ≡ length lane.sent) where
   abbrev q : Reply → PathState Carried
   q reply = takes values reply p
 
@@ -303,6 +305,10 @@ waits_none start s p lane upto over waits = by p.agenda over waits.next.sends
 member_same : {x y : PathState Carried} → (let one : Actor Carried = Path x in one) ≡ Path y → x ≡ y
 member_same e = cc
 
+-- its paths speak
+pub record SpeaksAt (start : Start) (w : WorldState Carried) : Type 0 where
+  pub each : (i : ℕ) (c : ActorCrew Carried) → slice_get w.crew i ≡ Some c → (p : PathState Carried) → c.member ≡ Path p → ToldBy start p
+
 module _ (start : Start) (d e : Duo) (w : WorldState Carried) (m : Moment start d w) (trace : List Sent) (h : AllSent start trace d w) where
   -- a path that is as it was, and is granted nothing
   same_path : (turn : Turn) (t : TurnShows (asked_in turn w) d e) (more : List Sent) (n : ℕ) (c : ActorCrew Carried) → slice_get w.crew (suc (suc n)) ≡ Some c → (p : PathState Carried) → c.member ≡ Path p
@@ -347,7 +353,7 @@ module _ (start : Start) (d e : Duo) (w : WorldState Carried) (m : Moment start 
           began n found.0 found.1 (over_at w.crew (suc (suc n)) found.0 over found.1) (greatest 0 w.crew) p (ap (λ (y : ActorCrew Carried). y.member) found.2 ∙ member) s later later_there
           (new.at n c there p member s later later_there)
 
-  module _ (i : ℕ) (t : TurnShows (asked_in (Turn.Step i) w) d e) where
+  module _ (i : ℕ) (speaks : SpeaksAt start w) (t : TurnShows (asked_in (Turn.Step i) w) d e) where
     abbrev more : List Sent
     more = option_to_list (sent_next i (shown_world w))
 
@@ -373,6 +379,9 @@ module _ (start : Start) (d e : Duo) (w : WorldState Carried) (m : Moment start 
         old_at : IsAt n s p0 lane.0
         old_at = m.at n c there_n p0 member s lane.0 lane.1
 
+        says : ToldBy start p0
+        says = speaks.each i c there p0 member
+
         own_asks : asks_of values p0 ≡ Some x
         own_asks = ap (member_asks values) (sym member) ∙ asks
 
@@ -388,7 +397,7 @@ module _ (start : Start) (d e : Duo) (w : WorldState Carried) (m : Moment start 
               ⊎_elim
               (λ before. Has-more more (old.told position cell before was))
               (λ behind. let long = ap (λ (cells : List Cell). length cells) same in let all = waits.all in
-              handed start n s p0 old_at.numbered old.upto waits.piece waits.next trace (sent_next i (shown_world w)) next_is position cell.place behind (omega (arith, below, long, all))
+              handed start n s p0 old_at.numbered old.upto waits.piece waits.next says trace (sent_next i (shown_world w)) next_is position cell.place behind (omega (arith, below, long, all))
               (has_part position cell behind (omega (arith, below, long, all)) was))
               (cases_lt position old.upto);
           edge = at.within;
@@ -466,9 +475,9 @@ module _ (start : Start) (d e : Duo) (w : WorldState Carried) (m : Moment start 
             same_path (Turn.Step i) t more n x x_there p member s later later_there (λ most standby is. none_is (sym (ap asked_by none) ∙ is)) (new.at n x x_there p member s later later_there)
         by (Some c) there new = asking c there (member_asks values c.member) refl new
 
-  pub turn_sent : (turn : Turn) → TurnShows (asked_in turn w) d e → Moment start e (after_turn values turn w) → AllSent start (trace ++ sent_at turn (shown_world w)) e (after_turn values turn w)
-  turn_sent (Turn.Step i) t new = step_sent i t new
-  turn_sent Turn.Round t new = round_sent t new
+  pub turn_sent : SpeaksAt start w → (turn : Turn) → TurnShows (asked_in turn w) d e → Moment start e (after_turn values turn w) → AllSent start (trace ++ sent_at turn (shown_world w)) e (after_turn values turn w)
+  turn_sent speaks (Turn.Step i) t new = step_sent i speaks t new
+  turn_sent speaks Turn.Round t new = round_sent t new
 
 -- ---- a run
 
@@ -522,6 +531,9 @@ module _ (start : Start) (plain : IsPlain start) (fit : NumbersFit start) where
       tile A = (records_fit _ d.ab holds.ab).tile
       tile B = (records_fit _ d.ba holds.ba).tile
 
+  speaks_at : (turns : List Turn) → SpeaksAt start (world turns)
+  speaks_at turns = record { each = λ i c there p member. record { speaks = subst (MemberSpeaks start) member (valued start turns plain.size fit i c there) } }
+
   -- what shows at a moment, with all that was sent
   pub record Known (turns : List Turn) : Type 0 where
     pub events : List Event
@@ -543,7 +555,7 @@ module _ (start : Start) (plain : IsPlain start) (fit : NumbersFit start) where
       let at_last : WorldShows can.links start e (world (before ++ turn ∷ [])) = subst (λ (v : WorldState Carried). WorldShows can.links start e v) (sym run) later in
       let new : Moment start e (after_turn values turn w) = subst (λ (v : WorldState Carried). Moment start e v) run (moment (before ++ turn ∷ []) (k.events ++ turn_events x.turn_shows) at_last) in
       let shows : TurnShows (asked_in turn w) d e = subst (λ (y : Duo). TurnShows (asked_in turn w) d y) (turn_is x.turn_shows ∙ sym appended) x.turn_shows in
-      let sent = turn_sent start d e w (moment before k.events k.shows) (trace_of before (opened_world start)) k.sent turn shows new in
+      let sent = turn_sent start d e w (moment before k.events k.shows) (trace_of before (opened_world start)) k.sent (speaks_at before) turn shows new in
       let fresh : sent_at turn (world_run octets before (opened_world start)) ≡ sent_at turn (shown_world w) = ap (λ (v : WorldState (List ℕ)). sent_at turn v) (run_fresh start before plain.size fit) in
       let trace : trace_of (before ++ turn ∷ []) (opened_world start) ≡ trace_of before (opened_world start) ++ sent_at turn (shown_world w) =
       trace_append before (turn ∷ []) (opened_world start)

@@ -7,3 +7,4 @@ pub mod Runs
 pub mod Segments
 pub mod Sending
 pub mod Traces
+pub mod WholeSegments

@@ -6,6 +6,7 @@ ghost use Rattle.own_runs.specs.Packets.{CapturesAreTheirPackets};
 ghost use Rattle.own_runs.specs.Runs.{DataFinsEndTheFiles, NoRunBreaks, NoWholeRunBreaks, StreamsBeginTheFiles, WholeStreamsAreTheFiles};
 ghost use Rattle.own_runs.specs.Segments.{SegmentsAreFound, WrittenSegmentsAreFound};
 ghost use Rattle.own_runs.specs.Traces.{TracesAreTheirPackets, TracesAreTheirSegments};
+ghost use Rattle.own_runs.specs.WholeSegments.{DeliveredRunsTellTheEnds, EachSaysWhatItBears};
 
 /// A law: what is written of a section's blocks is read as a capture of their packets, in order, each a raw IPv4 packet with all its octets.
 /// It holds of blocks that fit their fields, where each packet is of an interface that was named before it in its section.
@@ -82,6 +83,16 @@ pub fn captures_show_the_files()
 pub fn what_came_was_sent()
     ensures octets { WhatCameWasSent }
     ensures acks { EachAckIsCarried }
+{}
+
+/// A law: where the script alters no payload and takes no options away, each segment maps what it bears: its payload is empty, or an option
+/// maps all of it, by a DSS (RFC 8684, section 3.3.1) or, for the first octets, by the MP_CAPABLE (section 3.1). And a Data ACK covers the place
+/// of the DATA_FIN only behind a segment that told it (`bears`, sections 3.3.2 and 3.3.3), and octets as in `what_came_was_sent`. Once such a run
+/// is delivered a segment of each side told the DATA_FIN (`ends`). Both hold after every list of turns where the numbers of the start fit and the
+/// run fits a capture.
+pub fn whole_runs_say_what_they_bear()
+    ensures bears { EachSaysWhatItBears }
+    ensures ends { DeliveredRunsTellTheEnds }
 {}
 
 /// A law: the Data ACKs that a side sends on a path never fall (RFC 8684, section 3.3.2): of two of its segments there no Data ACK of the second is
