@@ -59,7 +59,7 @@ use Rattle.own_runs.proofs.AckPositions.{EndsIn, EndsOffer, IsCovered}
 use Rattle.own_runs.proofs.FinePositions.{NumberIs}
 use Rattle.own_runs.proofs.EndRuns.{TellsEnd}
 use Rattle.own_runs.proofs.FineMoments.{IsMapped, Offered, content, file_len}
-use Rattle.own_runs.proofs.InTime.{InTime, IsSynAck, has_octets, is_bearing, maps_key, shows_keys, tells_end}
+use Rattle.own_runs.proofs.InTime.{AnswersPath, InTime, IsSynAck, OpensPath, ResetsPath, TellsKey, has_octets, is_bearing, maps_key, shows_keys, tells_end}
 use Rattle.own_runs.proofs.JudgedHere.{IsJudged, fin_here, is_judged, item_of, key_here, key_of_a, seen_here}
 use Rattle.own_runs.proofs.KeptCovers.{maps_first, shows_both}
 use Rattle.own_runs.proofs.LateJoins.{ComesBehind, Says}
@@ -197,6 +197,24 @@ module _ (start : Start) (last : Duo) (fit : NumbersFit start) where
         up (λ path t still. still) state (shown_in most X Shown Ended state h.hold) (one_book state h.counts h.tokens.one) h.hold;
   }
 
+  -- where less is said
+  pub narrowed : (U T : ℕ → Type 0) (K : Type 0) (X : ℕ → Side → Type 0) (most : ℕ → Side → ℕ) (Shown Later : Side → ℕ → Type 0) (Ended Over : Side → Type 0) (state : JudgedValue)
+      → ((t : Side) (q : ℕ) → Later t q → Shown t q) → ((t : Side) → Over t → Ended t) → StandsAt U T K X most Shown Ended state → StandsAt U T K X most Later Over state
+  narrowed U T K X most Shown Later Ended Over state shows ends h = record {
+    tokens = h.tokens;
+    counts = h.counts;
+    each = h.each;
+    flows = h.flows;
+    opens = h.opens;
+    key = h.key;
+    shown = λ t q later. h.shown t q (shows t q later);
+    ended = λ t over. h.ended t (ends t over);
+    hold = later_holds (drawn start) (file_len start) (few start last fit) (content start) (where_in last) most most (λ n t. X n t → ⊥) (λ n t. X n t → ⊥) Shown Later Ended Over
+        (λ path t. omega arith) (λ path t still. still) state
+        (λ t stream there. let was = shown_in most X Shown Ended state h.hold t stream there in (λ q later. was.0 q (shows t q later), λ over. was.1 (ends t over)))
+        (one_book state h.counts h.tokens.one) h.hold;
+  }
+
   -- a Data ACK of a segment, and what is said of it
   abbrev pub AckSaid : (ℕ → Side → ℕ) → (Side → ℕ → Type 0) → (Side → Type 0) → ℕ → Side → PlainOption → Type 0
   AckSaid most Shown Ended path s (Dss (Some next) mapping) =
@@ -225,16 +243,16 @@ module _ (start : Start) (last : Duo) (fit : NumbersFit start) where
 
     -- what it adds
     abbrev pub SynOf : ℕ → Type 0
-    SynOf n = (x.path ≡ n) × (x.from ≡ A) × IsAlone s.segment
+    SynOf = OpensPath x s.segment
 
     abbrev pub AnswerOf : ℕ → Type 0
-    AnswerOf n = (x.path ≡ n) × (x.from ≡ B) × IsSynAck s.segment
+    AnswerOf = AnswersPath x s.segment
 
     abbrev pub KeyOf : Type 0
-    KeyOf = (x.path ≡ 0) × (x.from ≡ A) × (list_any shows_keys s.segment.options ≡ true)
+    KeyOf = TellsKey x s.segment
 
     abbrev pub MoreX : ℕ → Side → Type 0
-    MoreX n t = X n t ⊎ ((x.path ≡ n) × (x.from ≡ t) × (s.segment.rst ≡ true))
+    MoreX n t = X n t ⊎ ResetsPath x s.segment n t
 
     abbrev pub as_offered : IsSpoken (Offered start last) start x
     as_offered = record { plan = s.plan; there = s.there; segment = s.segment; end = s.end; octets = s.octets; spoken = s.spoken; also = s.also.offered }

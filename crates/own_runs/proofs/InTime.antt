@@ -2,13 +2,14 @@
 -- A's also A's key.
 use Rattle.std.proofs.Common.{◌≡◌, ℕ, ◌⊎◌, ◌||◌, not, Bool, true, false, Option, Some, List, [], ◌∷◌}
 use Rattle.std.specs.List.{list_any}
+use Rattle.link_trace.specs.declared.sent.Sent.{Sent}
 use Rattle.mptcp_options.specs.declared.capable.CapableKeys.TheVariants.{Both, WithData}
 use Rattle.path_segments.specs.Options.{PlainOption, mapping_ends_stream}
 use Rattle.path_segments.specs.Spelled.{PlainSegment}
 use Rattle.path_segments.specs.declared.segment.PathOption.TheVariants.{Capable, Dss}
 use Rattle.sides.specs.declared.side.Side.TheVariants.{A, B}
 use Rattle.sides.specs.declared.side.Side.{Side}
-use Rattle.own_runs.proofs.Learning.{shows_key}
+use Rattle.own_runs.proofs.Learning.{IsAlone, shows_key}
 
 -- MP_CAPABLE with both keys, and with data
 abbrev pub shows_keys : PlainOption → Bool
@@ -37,6 +38,19 @@ is_bearing sg = has_octets sg.payload || list_any tells_end sg.options
 pub record IsSynAck (sg : PlainSegment) : Type 0 where
   pub syn : sg.syn ≡ true
   pub acknowledged : sg.acknowledged ≡ Some 1
+
+-- what a segment of a trace is: A's SYN of a path, B's answer to it, A's key, and a reset
+abbrev pub OpensPath : Sent → PlainSegment → ℕ → Type 0
+OpensPath x sg n = (x.path ≡ n) × (x.from ≡ A) × IsAlone sg
+
+abbrev pub AnswersPath : Sent → PlainSegment → ℕ → Type 0
+AnswersPath x sg n = (x.path ≡ n) × (x.from ≡ B) × IsSynAck sg
+
+abbrev pub TellsKey : Sent → PlainSegment → Type 0
+TellsKey x sg = (x.path ≡ 0) × (x.from ≡ A) × (list_any shows_keys sg.options ≡ true)
+
+abbrev pub ResetsPath : Sent → PlainSegment → ℕ → Side → Type 0
+ResetsPath x sg n s = (x.path ≡ n) × (x.from ≡ s) × (sg.rst ≡ true)
 
 -- of a side's on a path, where so much was sent before it: A's SYNs, B's answers, A's key, and resets
 pub record InTime (U T : ℕ → Type 0) (K : Type 0) (X : ℕ → Side → Type 0) (path : ℕ) (s : Side) (sg : PlainSegment) : Type 0 where

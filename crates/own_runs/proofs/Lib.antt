@@ -1,4 +1,5 @@
 mod AckPositions
+mod AckRuns
 mod AckTrace
 mod Acking
 mod Acknowledged
