@@ -1,15 +1,24 @@
 -- What comes before a segment of a whole run: before an answer to a SYN that SYN, before payload and a DATA_FIN the answer of its path, and before or in
 -- A's also A's key.
-use Rattle.std.proofs.Common.{◌≡◌, ℕ, ◌⊎◌, ◌||◌, not, Bool, true, false, Option, Some, List, [], ◌∷◌}
-use Rattle.std.specs.List.{list_any}
+use Rattle.std.proofs.Common.{◌≡◌, ℕ, ◌⊎◌, ◌||◌, not, Bool, true, false, Option, Some, None, option_map, List, [], ◌∷◌, ◌++◌}
+use Rattle.std.specs.List.{list_any, slice_get}
 use Rattle.link_trace.specs.declared.sent.Sent.{Sent}
 use Rattle.mptcp_options.specs.declared.capable.CapableKeys.TheVariants.{Both, WithData}
+use Rattle.path_core.specs.Looking.{first_sends, segment_sent}
+use Rattle.path_core.specs.Octets.{octets}
+use Rattle.path_core.specs.State.{PathState, path_of}
 use Rattle.path_segments.specs.Options.{PlainOption, mapping_ends_stream}
 use Rattle.path_segments.specs.Spelled.{PlainSegment}
 use Rattle.path_segments.specs.declared.segment.PathOption.TheVariants.{Capable, Dss}
 use Rattle.sides.specs.declared.side.Side.TheVariants.{A, B}
 use Rattle.sides.specs.declared.side.Side.{Side}
+use Rattle.world_laws.specs.Actors.{Actor, ActorCrew}
+use Rattle.world_laws.specs.Openings.{Start, opened_world}
+use Rattle.world_laws.specs.Worlds.{Turn, WorldState, world_run}
+use Rattle.world_laws.specs.declared.member.Member.TheVariants.{App, Path}
+use Rattle.own_runs.proofs.LateJoins.{ComesBehind}
 use Rattle.own_runs.proofs.Learning.{IsAlone, shows_key}
+use Rattle.own_runs.proofs.Speaking.{ToSend}
 
 -- MP_CAPABLE with both keys, and with data
 abbrev pub shows_keys : PlainOption → Bool
@@ -28,7 +37,7 @@ tells_end _ = false
 
 abbrev pub has_octets : List ℕ → Bool
 has_octets [] = false
-has_octets (octet ∷ octets) = true
+has_octets (octet ∷ more) = true
 
 -- payload, or the DATA_FIN
 abbrev pub is_bearing : PlainSegment → Bool
@@ -60,3 +69,58 @@ pub record InTime (U T : ℕ → Type 0) (K : Type 0) (X : ℕ → Side → Type
   pub keys : list_any shows_keys sg.options ≡ true → (sg.syn ≡ false) × T path
   pub first : list_any maps_key sg.options ≡ true → (path ≡ 0) × (s ≡ A)
   pub shows : s ≡ B → path ≡ 0 → sg.syn ≡ true → list_any shows_key sg.options ≡ true
+
+-- ---- what the turns before a moment sent
+
+pub record Sending : Type 0 where
+  pub path : ℕ
+  pub from : Side
+  pub segment : PlainSegment
+
+abbrev pub sending_as : {C : Type 0} → PathState C → ToSend → Sending
+sending_as p t = record { path = path_of p; from = t.from; segment = segment_sent p t }
+
+abbrev pub path_sending : {C : Type 0} → PathState C → Option Sending
+path_sending p = option_map (sending_as p) (first_sends p.agenda p)
+
+abbrev pub member_sending : {C : Type 0} → Actor C → Option Sending
+member_sending (App a) = None
+member_sending (Path p) = path_sending p
+
+abbrev pub crew_sending : {C : Type 0} → Option (ActorCrew C) → Option Sending
+crew_sending None = None
+crew_sending (Some c) = member_sending c.member
+
+abbrev pub turn_sending : {C : Type 0} → Turn → WorldState C → Option Sending
+turn_sending (Turn.Step i) w = crew_sending (slice_get w.crew i)
+turn_sending Turn.Round w = None
+
+-- one of the turns sent such a segment
+pub record WasSaid (start : Start) (P : Sending → Type 0) (before : List Turn) : Type 0 where
+  pub more : List Turn
+  pub turn : Turn
+  pub later : List Turn
+  pub is : more ++ turn ∷ later ≡ before
+  pub said : Sending
+  pub sends : turn_sending turn (world_run octets more (opened_world start)) ≡ Some said
+  pub holds : P said
+
+abbrev pub OpensAt : ℕ → Sending → Type 0
+OpensAt n y = (y.path ≡ n) × (y.from ≡ A) × IsAlone y.segment
+
+abbrev pub AnswersAt : ℕ → Sending → Type 0
+AnswersAt n y = (y.path ≡ n) × (y.from ≡ B) × IsSynAck y.segment
+
+abbrev pub KeyAt : Sending → Type 0
+KeyAt y = (y.path ≡ 0) × (y.from ≡ A) × (list_any shows_keys y.segment.options ≡ true)
+
+abbrev pub ResetsAt : ℕ → Side → Sending → Type 0
+ResetsAt n s y = (y.path ≡ n) × (y.from ≡ s) × (y.segment.rst ≡ true)
+
+-- a segment that is sent next comes in time
+abbrev pub TimeAt : Start → List Turn → ℕ → Side → PlainSegment → Type 0
+TimeAt start before path s sg =
+    InTime (λ n. WasSaid start (OpensAt n) before) (λ n. WasSaid start (AnswersAt n) before) (WasSaid start KeyAt before) (λ n t. WasSaid start (ResetsAt n t) before) path s sg
+
+abbrev pub ComesAt : Start → List Turn → ℕ → Side → PlainSegment → Type 0
+ComesAt start before path s sg = ComesBehind (WasSaid start (OpensAt 0) before) (WasSaid start (AnswersAt 0) before) path s sg

@@ -1,3 +1,4 @@
+mod AckMoments
 mod AckPositions
 mod AckRuns
 mod AckTrace
@@ -7,6 +8,7 @@ mod Bearing
 mod Begun
 mod CameSent
 mod Carrying
+mod ComesTimes
 mod Counted
 mod EndMarks
 mod EndPaths

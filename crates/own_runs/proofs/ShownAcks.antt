@@ -91,7 +91,7 @@ both_path Q R p x y = by (first_sends p.agenda p) x y
     by None x y = tt
     by (Some t) x y = (x, y)
 
-both_worlds : {C : Type 0} (Q R : ℕ → Side → PlainSegment → Type 0) (w : WorldState C) → WorldAlso Q w → WorldAlso R w → WorldAlso (λ n s sg. Q n s sg × R n s sg) w
+pub both_worlds : {C : Type 0} (Q R : ℕ → Side → PlainSegment → Type 0) (w : WorldState C) → WorldAlso Q w → WorldAlso R w → WorldAlso (λ n s sg. Q n s sg × R n s sg) w
 both_worlds {C} Q R w x y i c at = by c.member (x i c at) (y i c at)
   where
     by : (m : Actor C) → MemberAlso Q m → MemberAlso R m → MemberAlso (λ n s sg. Q n s sg × R n s sg) m

@@ -481,7 +481,7 @@ module _ (start : Start) (d e : Duo) (w : WorldState Carried) (m : Moment start 
 
 -- ---- a run
 
-trace_append : (xs ys : List Turn) (w : WorldState (List ℕ)) → trace_of (xs ++ ys) w ≡ trace_of xs w ++ trace_of ys (world_run octets xs w)
+pub trace_append : (xs ys : List Turn) (w : WorldState (List ℕ)) → trace_of (xs ++ ys) w ≡ trace_of xs w ++ trace_of ys (world_run octets xs w)
 trace_append [] ys w = refl
 trace_append (x ∷ xs) ys w =
     ap (λ (t : List Sent). sent_at x w ++ t) (trace_append xs ys (after_turn octets x w))
