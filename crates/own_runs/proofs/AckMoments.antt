@@ -25,8 +25,9 @@ use Rattle.world_laws.specs.declared.member.Member.TheVariants.{App, Path}
 use Rattle.own_runs.proofs.AckRuns.{AllTimed, EndedIn, ShownIn, WholeTimed}
 use Rattle.own_runs.proofs.AckTrace.{AckSaid, IsKnown}
 use Rattle.own_runs.proofs.Acking.{OptionAcks}
+use Rattle.own_runs.proofs.ComesTimes.{comes_at}
 use Rattle.own_runs.proofs.EndRuns.{TellsEnd}
-use Rattle.own_runs.proofs.InTime.{AnswersAt, AnswersPath, ComesAt, InTime, KeyAt, OpensAt, OpensPath, ResetsAt, ResetsPath, Sending, TellsKey, TimeAt, WasSaid, crew_sending, member_sending, path_sending, sending_as, turn_sending}
+use Rattle.own_runs.proofs.InTime.{AnswersAt, AnswersPath, ComesAt, InTime, KeyAt, OpensAt, OpensPath, ResetsAt, ResetsPath, Sending, TellsKey, TimeAt, WasSaid, crew_sending, member_sending, path_sending, sending_as, turn_sending, was_last, was_more, was_split}
 use Rattle.own_runs.proofs.LateJoins.{ComesBehind}
 use Rattle.own_runs.proofs.Moments.{IsSpoken, MemberAlso, MemberSpeaks, PathAlso, PathSpeaks, WorldAlso, WorldSpeaks, path_sends, world_speaks}
 use Rattle.own_runs.proofs.NextTrace.{AcksBy, also_next, octets_append, wants_at, wants_up}
@@ -84,62 +85,6 @@ module _ (R : ℕ → Side → PlainSegment → Type 0) (start : Start) where
       by None at = inl (refl, refl)
       by (Some c) at = member c.member (speaks i c at) (also i c at)
 
--- ---- what was sent before one turn more
-
-turns_split : (more later before : List Turn) (t turn : Turn) → more ++ t ∷ later ≡ before ++ turn ∷ [] → ((more ≡ before) × (t ≡ turn)) ⊎ ((less : List Turn) × (more ++ t ∷ less ≡ before))
-turns_split [] later [] t turn is = inl (refl, head is)
-  where
-    head : {a b : Turn} {xs ys : List Turn} → (let one : List Turn = a ∷ xs in one) ≡ b ∷ ys → a ≡ b
-    head e = cc
-turns_split [] later (b ∷ before) t turn is = inr (before, ap (λ (x : Turn). x ∷ before) (head is))
-  where
-    head : {a b : Turn} {xs ys : List Turn} → (let one : List Turn = a ∷ xs in one) ≡ b ∷ ys → a ≡ b
-    head e = cc
-turns_split (m ∷ more) later [] t turn is = absurd (none more (tail is))
-  where
-    tail : {a b : Turn} {xs ys : List Turn} → (let one : List Turn = a ∷ xs in one) ≡ b ∷ ys → xs ≡ ys
-    tail e = cc
-
-    none : (more : List Turn) → more ++ t ∷ later ≡ [] → ⊥
-    none [] e = cc
-    none (m ∷ more) e = cc
-turns_split (m ∷ more) later (b ∷ before) t turn is =
-    ⊎_elim (λ last. inl (both (head is) last.0, last.1)) (λ it. inr (it.0, both (head is) it.1)) (turns_split more later before t turn (tail is))
-  where
-    head : {a b : Turn} {xs ys : List Turn} → (let one : List Turn = a ∷ xs in one) ≡ b ∷ ys → a ≡ b
-    head e = cc
-
-    tail : {a b : Turn} {xs ys : List Turn} → (let one : List Turn = a ∷ xs in one) ≡ b ∷ ys → xs ≡ ys
-    tail e = cc
-
-    both : {a b : Turn} {xs ys : List Turn} → a ≡ b → xs ≡ ys → (let one : List Turn = a ∷ xs in one) ≡ b ∷ ys
-    both {a} {b} {xs} {ys} x y = ap (λ (z : Turn). z ∷ xs) x ∙ ap (λ (zs : List Turn). b ∷ zs) y
-
-module _ (start : Start) (P : Sending → Type 0) (before : List Turn) (turn : Turn) where
-  abbrev here : Option Sending
-  here = turn_sending turn (world_run octets before (opened_world start))
-
-  was_split : WasSaid start P (before ++ turn ∷ []) → WasSaid start P before ⊎ ((y : Sending) × (here ≡ Some y) × P y)
-  was_split h =
-      ⊎_elim
-      (λ last. inr (h.said, ap (λ (t : Turn). turn_sending t (world_run octets before (opened_world start))) (sym last.1)
-      ∙ ap (λ (ts : List Turn). turn_sending h.turn (world_run octets ts (opened_world start))) (sym last.0) ∙ h.sends, h.holds))
-      (λ it. inl (record { more = h.more; turn = h.turn; later = it.0; is = it.1; said = h.said; sends = h.sends; holds = h.holds })) (turns_split h.more h.later before h.turn turn h.is)
-
-  was_more : WasSaid start P before → WasSaid start P (before ++ turn ∷ [])
-  was_more h = record {
-    more = h.more;
-    turn = h.turn;
-    later = h.later ++ turn ∷ [];
-    is = sym (append_assoc h.more (h.turn ∷ h.later) (turn ∷ [])) ∙ ap (λ (ts : List Turn). ts ++ turn ∷ []) h.is;
-    said = h.said;
-    sends = h.sends;
-    holds = h.holds;
-  }
-
-  was_last : (y : Sending) → here ≡ Some y → P y → WasSaid start P (before ++ turn ∷ [])
-  was_last y sends holds = record { more = before; turn = turn; later = []; is = refl; said = y; sends = sends; holds = holds }
-
 -- ---- what was sent before, told in other words
 
 time_map : (U T V W : ℕ → Type 0) (K L : Type 0) (X Y : ℕ → Side → Type 0) → ((n : ℕ) → U n → V n) → ((n : ℕ) → T n → W n) → (K → L) → ((n : ℕ) (t : Side) → Y n t → X n t)
@@ -159,7 +104,7 @@ comes_map U T V W u t path s sg h = record { acks = h.acks; joins = λ of_a syn 
 -- ---- a run
 
 module _ (start : Start) (turns : List Turn) (plain : IsPlain start) (whole : IsWhole start) (fit : NumbersFit start)
-    (time : (more later : List Turn) → more ++ later ≡ turns → WorldAlso (λ path s sg. TimeAt start more path s sg × ComesAt start more path s sg) (world_run octets more (opened_world start))) where
+    (time : (more later : List Turn) → more ++ later ≡ turns → WorldAlso (TimeAt start more) (world_run octets more (opened_world start))) where
   abbrev pub acks_of : (last : Duo) × ((more later : List Turn) → more ++ later ≡ turns
       → WorldAlso (OfferedAndAcked start last (trace_of more (opened_world start))) (world_run octets more (opened_world start)))
   acks_of = whole_acks start turns plain whole fit
@@ -179,7 +124,7 @@ module _ (start : Start) (turns : List Turn) (plain : IsPlain start) (whole : Is
       both_worlds (λ path s sg. OfferedAndAcked start acks_of.0 (sent before) path s sg × AcksBy (wants_at start before) path s sg)
       (λ path s sg. TimeAt start before path s sg × ComesAt start before path s sg) (world before)
       (both_worlds (OfferedAndAcked start acks_of.0 (sent before)) (AcksBy (wants_at start before)) (world before) (acks_of.1 before later is) (also_next start before plain.size fit))
-      (time before later is)
+      (both_worlds (TimeAt start before) (ComesAt start before) (world before) (time before later is) (comes_at start plain.size fit before))
 
   one_said : (most : ℕ → Side → ℕ) (before : List Sent) (path : ℕ) (s : Side) (o : PlainOption) → AckShows (IsShown start acks_of.0) (EndTold start before) before s o → OptionAcks (most path s) o
       → AckSaid start acks_of.0 fit most (ShownIn start acks_of.0 fit before) (EndedIn start acks_of.0 fit before) path s o
@@ -320,8 +265,7 @@ module _ (start : Start) (turns : List Turn) (plain : IsPlain start) (whole : Is
 
 -- at each moment of a whole run the segments that are sent next come in time
 abbrev pub WholeComes : Type 0
-WholeComes = (start : Start) (turns : List Turn) → IsPlain start → IsWhole start → NumbersFit start
-    → WorldAlso (λ path s sg. TimeAt start turns path s sg × ComesAt start turns path s sg) (world_run octets turns (opened_world start))
+WholeComes = (start : Start) (turns : List Turn) → IsPlain start → IsWhole start → NumbersFit start → WorldAlso (TimeAt start turns) (world_run octets turns (opened_world start))
 
 pub whole_timed : WholeComes → WholeTimed
 whole_timed comes start turns plain whole fit run =

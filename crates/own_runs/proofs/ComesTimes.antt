@@ -21,11 +21,10 @@ use Rattle.world_laws.specs.Openings.{Start, opened_world}
 use Rattle.world_laws.specs.Promises.{HasRoom, NumbersFit}
 use Rattle.world_laws.specs.Worlds.{Turn, WorldState, after_turn, world_run}
 use Rattle.world_laws.specs.declared.member.Member.TheVariants.{App, Path}
-use Rattle.own_runs.proofs.InTime.{AnswersAt, ComesAt, OpensAt, Sending, WasSaid, crew_sending, member_sending, path_sending, sending_as, turn_sending}
+use Rattle.own_runs.proofs.InTime.{AnswersAt, ComesAt, OpensAt, Sending, WasSaid, crew_sending, member_sending, path_sending, sending_as, turn_sending, was_last, was_more}
 use Rattle.own_runs.proofs.KeyRuns.{ActorSays, MemberLearns, MemberSays, SaysNext, TurnSays, opened_learns, turn_learns}
 use Rattle.own_runs.proofs.LateJoins.{ComesBehind, Learns, map_at, more_learns, segment_so, shown_same, zero_so}
 use Rattle.own_runs.proofs.Learning.{IsAlone, IsAnswer}
-use Rattle.own_runs.proofs.AckMoments.{was_last, was_more}
 use Rattle.own_runs.proofs.Moments.{CrewKnown, MemberAlso, MemberKnown, MemberSpeaks, PathAlso, PathSpeaks, WorldAlso, crew_known, end_shown, first_same, valued}
 use Rattle.own_runs.proofs.NextTrace.{run_append}
 use Rattle.own_runs.proofs.Speaking.{ToSend}

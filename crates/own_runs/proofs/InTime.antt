@@ -1,6 +1,6 @@
 -- What comes before a segment of a whole run: before an answer to a SYN that SYN, before payload and a DATA_FIN the answer of its path, and before or in
 -- A's also A's key.
-use Rattle.std.proofs.Common.{◌≡◌, ℕ, ◌⊎◌, ◌||◌, not, Bool, true, false, Option, Some, None, option_map, List, [], ◌∷◌, ◌++◌}
+use Rattle.std.proofs.Common.{◌≡◌, refl, sym, ap, ◌∙◌, ℕ, inl, inr, ⊎_elim, append_assoc, ◌⊎◌, ◌||◌, not, Bool, true, false, Option, Some, None, option_map, List, [], ◌∷◌, ◌++◌}
 use Rattle.std.specs.List.{list_any, slice_get}
 use Rattle.link_trace.specs.declared.sent.Sent.{Sent}
 use Rattle.mptcp_options.specs.declared.capable.CapableKeys.TheVariants.{Both, WithData}
@@ -124,3 +124,59 @@ TimeAt start before path s sg =
 
 abbrev pub ComesAt : Start → List Turn → ℕ → Side → PlainSegment → Type 0
 ComesAt start before path s sg = ComesBehind (WasSaid start (OpensAt 0) before) (WasSaid start (AnswersAt 0) before) path s sg
+
+-- ---- what was sent before one turn more
+
+turns_split : (more later before : List Turn) (t turn : Turn) → more ++ t ∷ later ≡ before ++ turn ∷ [] → ((more ≡ before) × (t ≡ turn)) ⊎ ((less : List Turn) × (more ++ t ∷ less ≡ before))
+turns_split [] later [] t turn is = inl (refl, head is)
+  where
+    head : {a b : Turn} {xs ys : List Turn} → (let one : List Turn = a ∷ xs in one) ≡ b ∷ ys → a ≡ b
+    head e = cc
+turns_split [] later (b ∷ before) t turn is = inr (before, ap (λ (x : Turn). x ∷ before) (head is))
+  where
+    head : {a b : Turn} {xs ys : List Turn} → (let one : List Turn = a ∷ xs in one) ≡ b ∷ ys → a ≡ b
+    head e = cc
+turns_split (m ∷ more) later [] t turn is = absurd (none more (tail is))
+  where
+    tail : {a b : Turn} {xs ys : List Turn} → (let one : List Turn = a ∷ xs in one) ≡ b ∷ ys → xs ≡ ys
+    tail e = cc
+
+    none : (more : List Turn) → more ++ t ∷ later ≡ [] → ⊥
+    none [] e = cc
+    none (m ∷ more) e = cc
+turns_split (m ∷ more) later (b ∷ before) t turn is =
+    ⊎_elim (λ last. inl (both (head is) last.0, last.1)) (λ it. inr (it.0, both (head is) it.1)) (turns_split more later before t turn (tail is))
+  where
+    head : {a b : Turn} {xs ys : List Turn} → (let one : List Turn = a ∷ xs in one) ≡ b ∷ ys → a ≡ b
+    head e = cc
+
+    tail : {a b : Turn} {xs ys : List Turn} → (let one : List Turn = a ∷ xs in one) ≡ b ∷ ys → xs ≡ ys
+    tail e = cc
+
+    both : {a b : Turn} {xs ys : List Turn} → a ≡ b → xs ≡ ys → (let one : List Turn = a ∷ xs in one) ≡ b ∷ ys
+    both {a} {b} {xs} {ys} x y = ap (λ (z : Turn). z ∷ xs) x ∙ ap (λ (zs : List Turn). b ∷ zs) y
+
+module _ (start : Start) (P : Sending → Type 0) (before : List Turn) (turn : Turn) where
+  abbrev here : Option Sending
+  here = turn_sending turn (world_run octets before (opened_world start))
+
+  pub was_split : WasSaid start P (before ++ turn ∷ []) → WasSaid start P before ⊎ ((y : Sending) × (here ≡ Some y) × P y)
+  was_split h =
+      ⊎_elim
+      (λ last. inr (h.said, ap (λ (t : Turn). turn_sending t (world_run octets before (opened_world start))) (sym last.1)
+      ∙ ap (λ (ts : List Turn). turn_sending h.turn (world_run octets ts (opened_world start))) (sym last.0) ∙ h.sends, h.holds))
+      (λ it. inl (record { more = h.more; turn = h.turn; later = it.0; is = it.1; said = h.said; sends = h.sends; holds = h.holds })) (turns_split h.more h.later before h.turn turn h.is)
+
+  pub was_more : WasSaid start P before → WasSaid start P (before ++ turn ∷ [])
+  was_more h = record {
+    more = h.more;
+    turn = h.turn;
+    later = h.later ++ turn ∷ [];
+    is = sym (append_assoc h.more (h.turn ∷ h.later) (turn ∷ [])) ∙ ap (λ (ts : List Turn). ts ++ turn ∷ []) h.is;
+    said = h.said;
+    sends = h.sends;
+    holds = h.holds;
+  }
+
+  pub was_last : (y : Sending) → here ≡ Some y → P y → WasSaid start P (before ++ turn ∷ [])
+  was_last y sends holds = record { more = before; turn = turn; later = []; is = refl; said = y; sends = sends; holds = holds }
