@@ -81,6 +81,7 @@ mod Speaking
 mod Syns
 mod Telling
 mod Ticks
+mod TimeRuns
 mod TokenFlows
 mod TokenPackets
 mod TokenSegments

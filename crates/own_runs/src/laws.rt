@@ -1,5 +1,5 @@
 //! What is read in a capture of ours, as clauses of functions that do nothing.
-ghost use Rattle.judge_rules.specs.declared.finding.Rule.TheVariants.{AddressHmac, DataFin, DssSum, Fail, FastCloseKey, Form, Infinite, JoinHmac, Keys, Mapping, PlaceContent, Token, Within};
+ghost use Rattle.judge_rules.specs.declared.finding.Rule.TheVariants.{AddressHmac, DataAck, DataFin, DssSum, Fail, FastCloseKey, Form, Infinite, JoinHmac, Keys, Mapping, PlaceContent, Token, Within};
 ghost use Rattle.own_runs.specs.Arrivals.{EachAckIsCarried, EachAckRises, WhatCameWasSent};
 ghost use Rattle.own_runs.specs.Fitting.{TracesFit};
 ghost use Rattle.own_runs.specs.Packets.{CapturesAreTheirPackets};
@@ -57,7 +57,8 @@ pub fn own_runs_break_no_rule()
 /// `own_runs_break_no_rule`.
 ///
 /// Each position of a subflow has one place (`mapping`, section 3.3.1), each place one octet (`place_content`), and each checksum is that of
-/// its mapping and its octets (`dss_sum`).
+/// its mapping and its octets (`dss_sum`). And no Data ACK is of more than the judge saw of the other side's stream before it (`data_ack`, section
+/// 3.3.2).
 pub fn whole_runs_break_no_rule()
     ensures data_fin { NoWholeRunBreaks DataFin }
     ensures infinite { NoWholeRunBreaks Infinite }
@@ -65,6 +66,7 @@ pub fn whole_runs_break_no_rule()
     ensures mapping { NoWholeRunBreaks Mapping }
     ensures place_content { NoWholeRunBreaks PlaceContent }
     ensures dss_sum { NoWholeRunBreaks DssSum }
+    ensures data_ack { NoWholeRunBreaks DataAck }
 {}
 
 /// A law: what the judge finds of a side's stream in the capture of such a run, over all subflows, up to the first octet that isn't there, is a

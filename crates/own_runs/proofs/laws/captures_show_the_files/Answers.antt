@@ -1,11 +1,12 @@
-use Rattle.own_runs.proofs.MapTrace.{ends_are, streams_are, whole_are}
+use Rattle.own_runs.proofs.AckRuns.{ends_are, streams_are, whole_are}
+use Rattle.own_runs.proofs.TimeRuns.{timed}
 use Rattle.own_runs.proofs.laws.captures_show_the_files.Goals as goal
 
 pub returns-clause-begins : goal.returns-clause-begins
-returns-clause-begins c = streams_are
+returns-clause-begins c = streams_are timed
 
 pub returns-clause-ends : goal.returns-clause-ends
-returns-clause-ends c = ends_are
+returns-clause-ends c = ends_are timed
 
 pub returns-clause-whole : goal.returns-clause-whole
-returns-clause-whole c = whole_are
+returns-clause-whole c = whole_are timed
