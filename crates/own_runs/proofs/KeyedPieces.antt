@@ -1,11 +1,11 @@
 -- At every moment of a run that never falls back A's end of a path has B's key where it may still send octets that it was granted.
-use Rattle.std.proofs.Common.{◌≡◌, refl, sym, ap, ◌∙◌, subst, ℕ, ⊎_elim, not, ◌||◌, Bool, true, false, Option, Some, None, is_some, List, [], ◌∷◌}
+use Rattle.std.proofs.Common.{◌≡◌, refl, sym, ap, ◌∙◌, subst, ℕ, ◌+◌, ⊎_elim, not, ◌&&◌, ◌||◌, nat_le, Bool, true, false, Option, Some, None, is_some, List, [], ◌∷◌}
 use Rattle.std.specs.List.{slice_get}
 use Rattle.std.proofs.lemmas.Bool.{and_parts, both_ways, false≢true}
 use Rattle.actor_desk.specs.declared.ask.Reply.{Reply}
 use Rattle.path_agenda.specs.declared.duty.Duty.{Duty}
 use Rattle.path_agenda.specs.declared.duty.StepDuty.{StepDuty}
-use Rattle.path_core.specs.Emission.{data_stands, first_unsent}
+use Rattle.path_core.specs.Emission.{data_stands, first_unsent, may_ask, may_send_data, payload_size}
 use Rattle.path_core.specs.End.{PathEnd}
 use Rattle.path_core.specs.MpJoin.{is_joined}
 use Rattle.path_core.specs.Start.{waiting_path}
@@ -22,9 +22,13 @@ use Rattle.subflow_send.specs.Sendings.{never_sent}
 use Rattle.subflow_send.specs.declared.record.RecordKind.TheVariants.{Data}
 use Rattle.subflow_send.specs.declared.record.RecordKind.{RecordKind}
 use Rattle.subflow_send.specs.declared.record.Sending.{Sending}
+use Rattle.subflow_tcp.specs.Sizes.{room}
+use Rattle.subflow_tcp.specs.State.{is_at_limit}
 use Rattle.subflow_tcp.specs.States.{may_finish}
 use Rattle.world_laws.proofs.Joins.TokensAgree.{WorldMet, opened_met, run_met}
+use Rattle.world_laws.proofs.Falls.ClearStays.{next_clear, takes_clear}
 use Rattle.world_laws.proofs.Keys.Held.{finish_open}
+use Rattle.world_laws.proofs.Rounds.Frame.{first_keeps, takes_keeps}
 use Rattle.world_laws.proofs.Keys.ToldAreOwn.{NoMore, PathKnows}
 use Rattle.world_laws.proofs.Whole.Doing.{finish_past}
 use Rattle.world_laws.proofs.Whole.Falls.{EachUpright, MemberUpright, PathUpright, each_upright}
@@ -58,7 +62,7 @@ any K r x h = h
 ends_so : (K : Type 0) (n : ℕ) → Needs K (fin_record n never_sent)
 ends_so K n = tt
 
-more : (K L : Type 0) → (K → L) → (r : Record) → Needs K r → Needs L r
+pub more : (K L : Type 0) → (K → L) → (r : Record) → Needs K r → Needs L r
 more K L then_so r h = by r.kind h
   where
     by : (kind : RecordKind) → KindNeeds K kind → KindNeeds L kind
@@ -73,6 +77,22 @@ HasKey e = is_some e.modes.peer_key ≡ true
 abbrev pub EndKeyed : PathEnd → Type 0
 EndKeyed e = Every (Needs (HasKey e)) e.tcp.send.records
 
+-- and on a path that joins A may send a DSS
+abbrev pub MayBear : PathState Carried → Type 0
+MayBear p = HasKey p.a × (is_joined p.profile ≡ true → p.a.modes.clear ≡ true)
+
+abbrev pub EndBears : PathState Carried → Type 0
+EndBears p = Every (Needs (MayBear p)) p.a.tcp.send.records
+
+takes_may : (r : Reply) (p : PathState Carried) → MayBear p → MayBear (takes values r p)
+takes_may r p h = (takes_key r p h.0, λ joins. (takes_clear values r p).a.0 (h.1 (ap is_joined (sym (takes_keeps values r p).1) ∙ joins)))
+
+next_profile : (p : PathState Carried) → (next_round p).profile ≡ p.profile
+next_profile p = (first_keeps (record p { clock = p.until; until = p.until + 100 })).1
+
+next_may : (p : PathState Carried) → MayBear p → MayBear (next_round p)
+next_may p h = (next_key p h.0, λ joins. (next_clear p).a.0 (h.1 (ap is_joined (sym (next_profile p)) ∙ joins)))
+
 -- ---- where A asks for octets
 
 -- the path that opens the connection
@@ -83,6 +103,12 @@ first_keyed p ds (Next d es q between now calm does passes) same may = absurd (f
     first_is : d ∷ es ≡ Duty.Step (StepDuty.Data A) ∷ ds → d ≡ Duty.Step (StepDuty.Data A)
     first_is is = cc
 
+clear_so : (clear plain joins : Bool) → plain ≡ false → joins ≡ true → (clear || (plain || (true && not joins))) ≡ true → clear ≡ true
+clear_so true plain joins none is may = refl
+clear_so false true joins none is may = absurd (false≢true (sym none))
+clear_so false false true none is may = absurd (false≢true may)
+clear_so false false false none is may = absurd (false≢true is)
+
 module _ (start : Start) where
   -- a path that joins
   joined_keyed : (six : SixBooks) (p : PathState Carried) → PathKnows start.key_a start.key_b true NoMore six p → is_joined p.profile ≡ true → may_finish p.a.tcp.state ≡ true → HasKey p.a
@@ -92,14 +118,23 @@ module _ (start : Start) where
       ap is_some (it.1 refl)
 
   asks_keyed : (six : SixBooks) (p : PathState Carried) (ds : List Duty) → PathUpright p → PathKnows start.key_a start.key_b true NoMore six p → p.agenda ≡ Duty.Step (StepDuty.Data A) ∷ ds
-      → first_unsent p.a ≡ None → HasKey p.a
-  asks_keyed six p ds upright knows same none = by (is_joined p.profile) refl
+      → first_unsent p.a ≡ None → MayBear p
+  asks_keyed six p ds upright knows same none = (by (is_joined p.profile) refl, clear)
     where
       stood : data_stands p.profile A p.a (first_unsent p.a) ≡ true
       stood = subst (λ (todo : List Duty). FirstStands todo p) same knows.settled
 
+      asks : may_ask p.profile A p.a ≡ true
+      asks = subst (λ (o : Option Record). data_stands p.profile A p.a o ≡ true) none stood
+
       may : may_finish p.a.tcp.state ≡ true
-      may = (and_parts (may_finish p.a.tcp.state) _ (subst (λ (o : Option Record). data_stands p.profile A p.a o ≡ true) none stood)).0
+      may = (and_parts (may_finish p.a.tcp.state) _ asks).0
+
+      clear : is_joined p.profile ≡ true → p.a.modes.clear ≡ true
+      clear joins =
+          let room_on = (and_parts (may_finish p.a.tcp.state) (nat_le (payload_size p.profile) (room p.a.tcp) && (not (is_at_limit p.a.tcp) && may_send_data p.profile A p.a)) asks).1 in
+          let left_on = (and_parts (nat_le (payload_size p.profile) (room p.a.tcp)) (not (is_at_limit p.a.tcp) && may_send_data p.profile A p.a) room_on).1 in
+          clear_so p.a.modes.clear p.a.modes.identity (is_joined p.profile) (upright.identity A) joins (and_parts (not (is_at_limit p.a.tcp)) (may_send_data p.profile A p.a) left_on).1
 
       by : (b : Bool) → is_joined p.profile ≡ b → HasKey p.a
       by true joins = joined_keyed six p knows joins may
@@ -107,11 +142,11 @@ module _ (start : Start) where
 
   -- ---- worlds
 
-  abbrev MemberKeyed : Actor Carried → Type 0
+  abbrev pub MemberKeyed : Actor Carried → Type 0
   MemberKeyed (App a) = Unit {0}
-  MemberKeyed (Path p) = EndKeyed p.a
+  MemberKeyed (Path p) = EndBears p
 
-  abbrev WorldKeyed : WorldState Carried → Type 0
+  abbrev pub WorldKeyed : WorldState Carried → Type 0
   WorldKeyed w = (actor : ℕ) (c : ActorCrew Carried) → slice_get w.crew actor ≡ Some c → MemberKeyed c.member
 
   abbrev MemberKnows : SixBooks → Actor Carried → Type 0
@@ -121,12 +156,12 @@ module _ (start : Start) where
   takes_so : (r : Reply) (six : SixBooks) (m : Actor Carried) → MemberUpright m → MemberKnows six m → MemberKeyed m → MemberKeyed (member_takes values r m)
   takes_so r six (App a) upright knows h = tt
   takes_so r six (Path p) upright knows h =
-      let K : Type 0 = HasKey (takes values r p).a in
-      takes_a (Needs K) (any K) (ends_so K) r p (λ ds same none grant granted. takes_key r p (asks_keyed six p ds upright knows same none)) (Every-map (more (HasKey p.a) K (takes_key r p)) h)
+      let K : Type 0 = MayBear (takes values r p) in
+      takes_a (Needs K) (any K) (ends_so K) r p (λ ds same none grant granted. takes_may r p (asks_keyed six p ds upright knows same none)) (Every-map (more (MayBear p) K (takes_may r p)) h)
 
   next_so : (m : Actor Carried) → MemberKeyed m → MemberKeyed (member_next m)
   next_so (App a) h = tt
-  next_so (Path p) h = let K : Type 0 = HasKey (next_round p).a in (next_kept (Needs K) (any K) (ends_so K) p).a (Every-map (more (HasKey p.a) K (next_key p)) h)
+  next_so (Path p) h = let K : Type 0 = MayBear (next_round p) in (next_kept (Needs K) (any K) (ends_so K) p).a (Every-map (more (MayBear p) K (next_may p)) h)
 
   turn_keyed : (turn : Turn) (w : WorldState Carried) → EachUpright w → WorldMet start.key_a start.key_b w → WorldKeyed w → WorldKeyed (after_turn values turn w)
   turn_keyed turn w upright met h =
@@ -151,9 +186,20 @@ module _ (start : Start) where
   opened_keyed = opened_actors (λ actor c. MemberKeyed c.member) start tt tt
       (λ number plan there.
       let p : PathState Carried = waiting_path (path_begins start number plan) start.lines in
-      let K : Type 0 = HasKey (begins_turn p).a in
+      let K : Type 0 = MayBear (begins_turn p) in
       (begins_lasts (Kept (Needs K) (any K) (ends_so K)) (lasts (Needs K) (any K) (ends_so K)) p).a (Every-push {xs = []} _ (Every-nil (Needs K)) tt))
 
-  pub always_keyed : IsPlain start → IsWhole start → (turns : List Turn) → WorldKeyed (world_run values turns (opened_world start))
-  always_keyed plain whole turns =
+  pub always_bear : IsPlain start → IsWhole start → (turns : List Turn) → WorldKeyed (world_run values turns (opened_world start))
+  always_bear plain whole turns =
       run_keyed turns (opened_world start) (λ more. each_upright start more plain whole) (λ more. run_met start.key_a start.key_b more (opened_world start) (opened_met start)) opened_keyed
+
+  abbrev pub MemberHas : Actor Carried → Type 0
+  MemberHas (App a) = Unit {0}
+  MemberHas (Path p) = EndKeyed p.a
+
+  pub always_keyed : IsPlain start → IsWhole start → (turns : List Turn) → (actor : ℕ) (c : ActorCrew Carried) → slice_get (world_run values turns (opened_world start)).crew actor ≡ Some c → MemberHas c.member
+  always_keyed plain whole turns actor c there = by c.member (always_bear plain whole turns actor c there)
+    where
+      by : (m : Actor Carried) → MemberKeyed m → MemberHas m
+      by (App a) h = tt
+      by (Path p) h = Every-map (more (MayBear p) (HasKey p.a) (λ may. may.0)) h

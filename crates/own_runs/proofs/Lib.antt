@@ -34,6 +34,8 @@ mod KeyDuties
 mod KeyHears
 mod KeyRuns
 mod KeyedPieces
+mod KeysSaid
+mod KeysShown
 mod KnownKeys
 mod LateJoins
 mod Learning

@@ -2,6 +2,7 @@
 ghost use Rattle.judge_rules.specs.declared.finding.Rule.TheVariants.{AddressHmac, DataAck, DataFin, DssSum, Fail, FastCloseKey, Form, Infinite, JoinHmac, Keys, Mapping, PlaceContent, Token, Within};
 ghost use Rattle.own_runs.specs.Arrivals.{EachAckIsCarried, EachAckRises, WhatCameWasSent};
 ghost use Rattle.own_runs.specs.Fitting.{TracesFit};
+ghost use Rattle.own_runs.specs.KeysShown.{EachShowsKeysSo};
 ghost use Rattle.own_runs.specs.Packets.{CapturesAreTheirPackets};
 ghost use Rattle.own_runs.specs.Runs.{DataFinsEndTheFiles, NoRunBreaks, NoWholeRunBreaks, StreamsBeginTheFiles, WholeStreamsAreTheFiles};
 ghost use Rattle.own_runs.specs.Segments.{SegmentsAreFound, WrittenSegmentsAreFound};
@@ -102,4 +103,11 @@ pub fn whole_runs_say_what_they_bear()
 /// start fit.
 pub fn data_acks_never_fall()
     ensures { EachAckRises }
+{}
+
+/// A law: MP_CAPABLE with both keys goes out from A alone, on a segment without SYN and RST, and with data on path 0 alone (RFC 8684,
+/// section 3.1): no segment of a path that joins tells a data-level length by it. It holds after every list of turns where the script alters no
+/// payload and takes no options away, and the numbers of the start fit.
+pub fn the_opener_shows_both_keys()
+    ensures { EachShowsKeysSo }
 {}

@@ -6,7 +6,8 @@
 //! run of ours is told to have broken a rule of the judge's, as far as these are named (`own_runs_break_no_rule`,
 //! `whole_runs_break_no_rule`). And the streams that the judge finds are first parts of the files (`captures_show_the_files`). What came to a
 //! side is in the trace (`what_came_was_sent`), all of both files once the run is delivered (`delivered_files_were_sent`). Segments map their
-//! payload, and acknowledge a DATA_FIN that was told (`whole_runs_say_what_they_bear`), and Data ACKs never fall (`data_acks_never_fall`).
+//! payload, and acknowledge a DATA_FIN that was told (`whole_runs_say_what_they_bear`), and Data ACKs never fall (`data_acks_never_fall`). A alone
+//! shows both keys (`the_opener_shows_both_keys`).
 #![tactic(auto)]
 
 mod laws;
@@ -14,8 +15,9 @@ mod sent_laws;
 
 pub use laws::{
     captures_are_their_packets, captures_show_the_files, data_acks_never_fall,
-    own_runs_break_no_rule, segments_are_found, traces_are_their_segments, what_came_was_sent,
-    whole_runs_break_no_rule, whole_runs_say_what_they_bear,
+    own_runs_break_no_rule, segments_are_found, the_opener_shows_both_keys,
+    traces_are_their_segments, what_came_was_sent, whole_runs_break_no_rule,
+    whole_runs_say_what_they_bear,
 };
 pub use sent_laws::{
     delivered_files_were_counted, delivered_files_were_granted, delivered_files_were_sent,
