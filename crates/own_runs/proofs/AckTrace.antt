@@ -55,11 +55,12 @@ use Rattle.world_laws.specs.Openings.{PathPlan, Start, path_begins}
 use Rattle.world_laws.specs.Promises.{NumbersFit}
 use Rattle.path_segments.specs.Spelling.{data_number}
 use Rattle.world_laws.proofs.Numbers.TellSmall.{IsShort, IsStray}
+use Rattle.own_runs.specs.KeysShown.{maps_key, shows_keys}
 use Rattle.own_runs.proofs.AckPositions.{EndsIn, EndsOffer, IsCovered}
 use Rattle.own_runs.proofs.FinePositions.{NumberIs}
 use Rattle.own_runs.proofs.EndRuns.{TellsEnd}
 use Rattle.own_runs.proofs.FineMoments.{IsMapped, Offered, content, file_len}
-use Rattle.own_runs.proofs.InTime.{AnswersPath, InTime, IsSynAck, OpensPath, ResetsPath, TellsKey, has_octets, is_bearing, maps_key, shows_keys, tells_end}
+use Rattle.own_runs.proofs.InTime.{AnswersPath, InTime, IsSynAck, OpensPath, ResetsPath, TellsKey, has_octets, is_bearing, tells_end}
 use Rattle.own_runs.proofs.JudgedHere.{IsJudged, fin_here, is_judged, item_of, key_here, key_of_a, seen_here}
 use Rattle.own_runs.proofs.KeptCovers.{maps_first, shows_both}
 use Rattle.own_runs.proofs.LateJoins.{ComesBehind, Says}

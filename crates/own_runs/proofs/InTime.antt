@@ -3,32 +3,22 @@
 use Rattle.std.proofs.Common.{◌≡◌, refl, sym, ap, ◌∙◌, ℕ, inl, inr, ⊎_elim, append_assoc, ◌⊎◌, ◌||◌, not, Bool, true, false, Option, Some, None, option_map, List, [], ◌∷◌, ◌++◌}
 use Rattle.std.specs.List.{list_any, slice_get}
 use Rattle.link_trace.specs.declared.sent.Sent.{Sent}
-use Rattle.mptcp_options.specs.declared.capable.CapableKeys.TheVariants.{Both, WithData}
 use Rattle.path_core.specs.Looking.{first_sends, segment_sent}
 use Rattle.path_core.specs.Octets.{octets}
 use Rattle.path_core.specs.State.{PathState, path_of}
 use Rattle.path_segments.specs.Options.{PlainOption, mapping_ends_stream}
 use Rattle.path_segments.specs.Spelled.{PlainSegment}
-use Rattle.path_segments.specs.declared.segment.PathOption.TheVariants.{Capable, Dss}
+use Rattle.path_segments.specs.declared.segment.PathOption.TheVariants.{Dss}
 use Rattle.sides.specs.declared.side.Side.TheVariants.{A, B}
 use Rattle.sides.specs.declared.side.Side.{Side}
 use Rattle.world_laws.specs.Actors.{Actor, ActorCrew}
 use Rattle.world_laws.specs.Openings.{Start, opened_world}
 use Rattle.world_laws.specs.Worlds.{Turn, WorldState, world_run}
 use Rattle.world_laws.specs.declared.member.Member.TheVariants.{App, Path}
+use Rattle.own_runs.specs.KeysShown.{maps_key, shows_keys}
 use Rattle.own_runs.proofs.LateJoins.{ComesBehind}
 use Rattle.own_runs.proofs.Learning.{IsAlone, shows_key}
 use Rattle.own_runs.proofs.Speaking.{ToSend}
-
--- MP_CAPABLE with both keys, and with data
-abbrev pub shows_keys : PlainOption → Bool
-shows_keys (Capable flag_a flag_c (Both sender receiver)) = true
-shows_keys (Capable flag_a flag_c (WithData sender receiver len checksum)) = true
-shows_keys _ = false
-
-abbrev pub maps_key : PlainOption → Bool
-maps_key (Capable flag_a flag_c (WithData sender receiver len checksum)) = true
-maps_key _ = false
 
 -- the DATA_FIN
 abbrev pub tells_end : PlainOption → Bool
