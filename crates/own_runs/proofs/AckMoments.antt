@@ -27,7 +27,7 @@ use Rattle.own_runs.proofs.AckTrace.{AckSaid, IsKnown}
 use Rattle.own_runs.proofs.Acking.{OptionAcks}
 use Rattle.own_runs.proofs.ComesTimes.{comes_at}
 use Rattle.own_runs.proofs.EndRuns.{TellsEnd}
-use Rattle.own_runs.proofs.InTime.{AnswersAt, AnswersPath, ComesAt, InTime, KeyAt, OpensAt, OpensPath, ResetsAt, ResetsPath, Sending, TellsKey, TimeAt, WasSaid, crew_sending, member_sending, path_sending, sending_as, turn_sending, was_last, was_more, was_split}
+use Rattle.own_runs.proofs.InTime.{AnswersAt, AnswersPath, ComesAt, InTime, KeyAt, OpensAt, OpensPath, ResetsAt, ResetsPath, Sending, SynsAt, SynsPath, TellsKey, TimeAt, WasReset, WasSaid, crew_sending, member_sending, path_sending, sending_as, turn_sending, was_last, was_more, was_split}
 use Rattle.own_runs.proofs.LateJoins.{ComesBehind}
 use Rattle.own_runs.proofs.Moments.{IsSpoken, MemberAlso, MemberSpeaks, PathAlso, PathSpeaks, WorldAlso, WorldSpeaks, path_sends, world_speaks}
 use Rattle.own_runs.proofs.NextTrace.{AcksBy, also_next, octets_append, wants_at, wants_up}
@@ -133,19 +133,33 @@ module _ (start : Start) (turns : List Turn) (plain : IsPlain start) (whole : Is
   one_said most before path s _ shows is = tt
 
   -- what is told by the turns is told by the segments
-  record Told (before : List Turn) (U T : ℕ → Type 0) (K : Type 0) (X : ℕ → Side → Type 0) : Type 0 where
+  record Told (before : List Turn) (U T S : ℕ → Type 0) (K : Type 0) (X : ℕ → Side → Type 0) : Type 0 where
     opened : (n : ℕ) → WasSaid start (OpensAt n) before → U n
     answered : (n : ℕ) → WasSaid start (AnswersAt n) before → T n
     key : WasSaid start KeyAt before → K
-    reset : (n : ℕ) (t : Side) → X n t → WasSaid start (ResetsAt n t) before
+    syn : (n : ℕ) → S n → WasSaid start (SynsAt n) before
+    reset : (n : ℕ) (t : Side) → X n t → WasReset start n t before
 
-  module _ (before : List Turn) (turn : Turn) (U T : ℕ → Type 0) (K : Type 0) (X : ℕ → Side → Type 0) (h : Told before U T K X) where
-    none_more : turn_sending turn (world before) ≡ None → Told (before ++ turn ∷ []) U T K X
+  reset_more : (before : List Turn) (turn : Turn) (n : ℕ) (t : Side) → WasReset start n t before → WasReset start n t (before ++ turn ∷ [])
+  reset_more before turn n t h = record {
+    more = h.more;
+    turn = h.turn;
+    later = h.later ++ turn ∷ [];
+    is = sym (append_assoc h.more (h.turn ∷ h.later) (turn ∷ [])) ∙ ap (λ (ts : List Turn). ts ++ turn ∷ []) h.is;
+    said = h.said;
+    sends = h.sends;
+    holds = h.holds;
+    begun = h.begun;
+  }
+
+  module _ (before : List Turn) (turn : Turn) (U T S : ℕ → Type 0) (K : Type 0) (X : ℕ → Side → Type 0) (h : Told before U T S K X) where
+    none_more : turn_sending turn (world before) ≡ None → Told (before ++ turn ∷ []) U T S K X
     none_more none = record {
       opened = λ n is. h.opened n (only (OpensAt n) is);
       answered = λ n is. h.answered n (only (AnswersAt n) is);
       key = λ is. h.key (only KeyAt is);
-      reset = λ n t x. was_more start (ResetsAt n t) before turn (h.reset n t x);
+      syn = λ n s. was_more start (SynsAt n) before turn (h.syn n s);
+      reset = λ n t x. reset_more before turn n t (h.reset n t x);
     }
       where
         clash : (o : Option Sending) (y : Sending) → o ≡ None → o ≡ Some y → ⊥
@@ -156,16 +170,23 @@ module _ (start : Start) (turns : List Turn) (plain : IsPlain start) (whole : Is
         only P is = ⊎_elim (λ was. was) (λ now. absurd (clash (turn_sending turn (world before)) now.0 none now.1)) (was_split start P before turn is)
 
     one_more : (x : Sent) (sg : PlainSegment) → turn_sending turn (world before) ≡ Some (record { path = x.path; from = x.from; segment = sg })
-        → Told (before ++ turn ∷ []) (λ n. U n ⊎ OpensPath x sg n) (λ n. T n ⊎ AnswersPath x sg n) (K ⊎ TellsKey x sg) (λ n t. X n t ⊎ ResetsPath x sg n t)
+        → Told (before ++ turn ∷ []) (λ n. U n ⊎ OpensPath x sg n) (λ n. T n ⊎ AnswersPath x sg n) (λ n. S n ⊎ SynsPath x sg n) (K ⊎ TellsKey x sg)
+        (λ n t. X n t ⊎ ((S n ⊎ SynsPath x sg n) × ResetsPath x sg n t))
     one_more x sg sends = record {
       opened = λ n is. ⊎_elim (λ was. inl (h.opened n was)) (λ now. inr (now_so (OpensAt n) now)) (was_split start (OpensAt n) before turn is);
       answered = λ n is. ⊎_elim (λ was. inl (h.answered n was)) (λ now. inr (now_so (AnswersAt n) now)) (was_split start (AnswersAt n) before turn is);
       key = λ is. ⊎_elim (λ was. inl (h.key was)) (λ now. inr (now_so KeyAt now)) (was_split start KeyAt before turn is);
-      reset = λ n t. ⊎_elim (λ x. was_more start (ResetsAt n t) before turn (h.reset n t x)) (λ now. was_last start (ResetsAt n t) before turn _ sends now);
+      syn = syn_so;
+      reset = λ n t. ⊎_elim (λ x. reset_more before turn n t (h.reset n t x))
+          (λ now. record { more = before; turn = turn; later = []; is = refl; said = y; sends = sends; holds = now.1; begun = syn_so n now.0 });
     }
       where
         y : Sending
         y = record { path = x.path; from = x.from; segment = sg }
+
+        syn_so : (n : ℕ) → S n ⊎ SynsPath x sg n → WasSaid start (SynsAt n) (before ++ turn ∷ [])
+        syn_so n (inl s) = was_more start (SynsAt n) before turn (h.syn n s)
+        syn_so n (inr now) = was_last start (SynsAt n) before turn _ sends now
 
         same : (z : Sending) → turn_sending turn (world before) ≡ Some z → z ≡ y
         same z other = some_is (sym other ∙ sends)
@@ -176,7 +197,7 @@ module _ (start : Start) (turns : List Turn) (plain : IsPlain start) (whole : Is
         now_so : (P : Sending → Type 0) → (z : Sending) × (turn_sending turn (world before) ≡ Some z) × P z → P (record { path = x.path; from = x.from; segment = sg })
         now_so P it = subst P (same it.0 it.1) it.2
 
-  module _ (before : List Turn) (U T : ℕ → Type 0) (K : Type 0) (X : ℕ → Side → Type 0) (h : Told before U T K X) (x : Sent) (o : Option Sending) (s : IsSpoken (With (Q before) start o) start x) where
+  module _ (before : List Turn) (U T S : ℕ → Type 0) (K : Type 0) (X : ℕ → Side → Type 0) (h : Told before U T S K X) (x : Sent) (o : Option Sending) (s : IsSpoken (With (Q before) start o) start x) where
     known : IsSpoken (IsKnown start acks_of.0 fit U T K X (wants_at start before) (ShownIn start acks_of.0 fit (sent before)) (EndedIn start acks_of.0 fit (sent before))) start x
     known = record {
       plan = s.plan;
@@ -189,12 +210,12 @@ module _ (start : Start) (turns : List Turn) (plain : IsPlain start) (whole : Is
         offered = s.also.0.0.0.0;
         acks = record { each = λ i y at. one_said (wants_at start before) (sent before) x.path x.from y (s.also.0.0.0.1.each i y at) (s.also.0.0.1.each i y at) };
         comes = comes_map (WasSaid start (OpensAt 0) before) (WasSaid start (AnswersAt 0) before) (U 0) (T 0) (h.opened 0) (h.answered 0) x.path x.from s.segment s.also.0.1.1;
-        time = time_map (λ n. WasSaid start (OpensAt n) before) (λ n. WasSaid start (AnswersAt n) before) U T (WasSaid start KeyAt before) K (λ n t. WasSaid start (ResetsAt n t) before) X
+        time = time_map (λ n. WasSaid start (OpensAt n) before) (λ n. WasSaid start (AnswersAt n) before) U T (WasSaid start KeyAt before) K (λ n t. WasReset start n t before) X
             h.opened h.answered h.key h.reset x.path x.from s.segment s.also.0.1.0;
       };
     }
 
-  abbrev Timed : (ℕ → Side → ℕ) → List Sent → (ℕ → Type 0) → (ℕ → Type 0) → Type 0 → (ℕ → Side → Type 0) → List Sent → Type 0
+  abbrev Timed : (ℕ → Side → ℕ) → List Sent → (ℕ → Type 0) → (ℕ → Type 0) → (ℕ → Type 0) → Type 0 → (ℕ → Side → Type 0) → List Sent → Type 0
   Timed = AllTimed start acks_of.0 fit
 
   next_world : (before : List Turn) (turn : Turn) → world (before ++ turn ∷ []) ≡ after_turn octets turn (world before)
@@ -205,36 +226,36 @@ module _ (start : Start) (turns : List Turn) (plain : IsPlain start) (whole : Is
 
   -- what comes of the turns behind one more
   abbrev Rest : List Turn → Turn → List Turn → Type 1
-  Rest before turn rest = (more : ℕ → Side → ℕ) → ((n : ℕ) (t : Side) → more n t ≤ wants_at start (before ++ turn ∷ []) n t) → (V W : ℕ → Type 0) (L : Type 0) (Y : ℕ → Side → Type 0)
-      → Told (before ++ turn ∷ []) V W L Y → Timed more (sent (before ++ turn ∷ [])) V W L Y (trace_of rest (world (before ++ turn ∷ [])))
+  Rest before turn rest = (more : ℕ → Side → ℕ) → ((n : ℕ) (t : Side) → more n t ≤ wants_at start (before ++ turn ∷ []) n t) → (V W R : ℕ → Type 0) (L : Type 0) (Y : ℕ → Side → Type 0)
+      → Told (before ++ turn ∷ []) V W R L Y → Timed more (sent (before ++ turn ∷ [])) V W R L Y (trace_of rest (world (before ++ turn ∷ [])))
 
   timed_rest : (rest before : List Turn) → before ++ rest ≡ turns → (most : ℕ → Side → ℕ) → ((n : ℕ) (t : Side) → most n t ≤ wants_at start before n t)
-      → (U T : ℕ → Type 0) (K : Type 0) (X : ℕ → Side → Type 0) → Told before U T K X → Timed most (sent before) U T K X (trace_of rest (world before))
+      → (U T S : ℕ → Type 0) (K : Type 0) (X : ℕ → Side → Type 0) → Told before U T S K X → Timed most (sent before) U T S K X (trace_of rest (world before))
   unfolding known
-  timed_rest [] before is most low U T K X h = tt
-  timed_rest (turn ∷ rest) before is most low U T K X h = by (λ more up V W L Y told. timed_rest rest (before ++ turn ∷ []) is_next more up V W L Y told) (one_turn (Q before) start turn (world before) (world_speaks start before plain.size fit) (also before (turn ∷ rest) is))
+  timed_rest [] before is most low U T S K X h = tt
+  timed_rest (turn ∷ rest) before is most low U T S K X h = by (λ more up V W R L Y told. timed_rest rest (before ++ turn ∷ []) is_next more up V W R L Y told) (one_turn (Q before) start turn (world before) (world_speaks start before plain.size fit) (also before (turn ∷ rest) is))
     where
       is_next : (before ++ turn ∷ []) ++ rest ≡ turns
       is_next = append_assoc before (turn ∷ []) rest ∙ is
 
       by : Rest before turn rest → Sends (Q before) start (sent_at turn (world before)) (turn_sending turn (world before))
-          → Timed most (sent before) U T K X (sent_at turn (world before) ++ trace_of rest (after_turn octets turn (world before)))
+          → Timed most (sent before) U T S K X (sent_at turn (world before) ++ trace_of rest (after_turn octets turn (world before)))
       by later (inl it) =
-          subst (λ (xs : List Sent). Timed most (sent before) U T K X (xs ++ trace_of rest (after_turn octets turn (world before)))) (sym it.0)
-          (subst (λ (w : WorldState (List ℕ)). Timed most (sent before) U T K X (trace_of rest w)) (next_world before turn)
-          (subst (λ (xs : List Sent). Timed most xs U T K X (trace_of rest (world (before ++ turn ∷ [])))) sent_is
-          (later most (λ n t. let up = wants_up start before (turn ∷ []) n t in let lo = low n t in omega (arith, up, lo)) U T K X
-          (none_more before turn U T K X h it.1))))
+          subst (λ (xs : List Sent). Timed most (sent before) U T S K X (xs ++ trace_of rest (after_turn octets turn (world before)))) (sym it.0)
+          (subst (λ (w : WorldState (List ℕ)). Timed most (sent before) U T S K X (trace_of rest w)) (next_world before turn)
+          (subst (λ (xs : List Sent). Timed most xs U T S K X (trace_of rest (world (before ++ turn ∷ [])))) sent_is
+          (later most (λ n t. let up = wants_up start before (turn ∷ []) n t in let lo = low n t in omega (arith, up, lo)) U T S K X
+          (none_more before turn U T S K X h it.1))))
         where
           sent_is : sent (before ++ turn ∷ []) ≡ sent before
           sent_is = next_sent before turn ∙ ap (λ (xs : List Sent). sent before ++ xs) it.0 ∙ append-nil (sent before)
       by later (inr it) =
-          subst (λ (xs : List Sent). Timed most (sent before) U T K X (xs ++ trace_of rest (after_turn octets turn (world before)))) (sym it.1)
-          (wants_at start before, low, known before U T K X h it.0 (turn_sending turn (world before)) it.2,
-          subst (λ (w : WorldState (List ℕ)). Timed (wants_at start before) (sent before ++ it.0 ∷ []) V W L Y (trace_of rest w)) (next_world before turn)
-          (subst (λ (xs : List Sent). Timed (wants_at start before) xs V W L Y (trace_of rest (world (before ++ turn ∷ [])))) sent_is
-          (later (wants_at start before) (λ n t. wants_up start before (turn ∷ []) n t) V W L Y
-          (one_more before turn U T K X h it.0 it.2.segment it.2.also.1))))
+          subst (λ (xs : List Sent). Timed most (sent before) U T S K X (xs ++ trace_of rest (after_turn octets turn (world before)))) (sym it.1)
+          (wants_at start before, low, known before U T S K X h it.0 (turn_sending turn (world before)) it.2,
+          subst (λ (w : WorldState (List ℕ)). Timed (wants_at start before) (sent before ++ it.0 ∷ []) V W R L Y (trace_of rest w)) (next_world before turn)
+          (subst (λ (xs : List Sent). Timed (wants_at start before) xs V W R L Y (trace_of rest (world (before ++ turn ∷ [])))) sent_is
+          (later (wants_at start before) (λ n t. wants_up start before (turn ∷ []) n t) V W R L Y
+          (one_more before turn U T S K X h it.0 it.2.segment it.2.also.1))))
         where
           V : ℕ → Type 0
           V = λ n. U n ⊎ OpensPath it.0 it.2.segment n
@@ -242,11 +263,14 @@ module _ (start : Start) (turns : List Turn) (plain : IsPlain start) (whole : Is
           W : ℕ → Type 0
           W = λ n. T n ⊎ AnswersPath it.0 it.2.segment n
 
+          R : ℕ → Type 0
+          R = λ n. S n ⊎ SynsPath it.0 it.2.segment n
+
           L : Type 0
           L = K ⊎ TellsKey it.0 it.2.segment
 
           Y : ℕ → Side → Type 0
-          Y = λ n t. X n t ⊎ ResetsPath it.0 it.2.segment n t
+          Y = λ n t. X n t ⊎ ((S n ⊎ SynsPath it.0 it.2.segment n) × ResetsPath it.0 it.2.segment n t)
 
           sent_is : sent (before ++ turn ∷ []) ≡ sent before ++ it.0 ∷ []
           sent_is = next_sent before turn ∙ ap (λ (xs : List Sent). sent before ++ xs) it.1
@@ -258,10 +282,10 @@ module _ (start : Start) (turns : List Turn) (plain : IsPlain start) (whole : Is
       none [] e = cc
       none (m ∷ more) e = cc
 
-  pub all_timed : Timed (λ n t. 0) [] (λ n. ⊥) (λ n. ⊥) ⊥ (λ n t. ⊥) (trace_of turns (opened_world start))
+  pub all_timed : Timed (λ n t. 0) [] (λ n. ⊥) (λ n. ⊥) (λ n. ⊥) ⊥ (λ n t. ⊥) (trace_of turns (opened_world start))
   all_timed =
-      timed_rest turns [] refl (λ n t. 0) (λ n t. omega arith) (λ n. ⊥) (λ n. ⊥) ⊥ (λ n t. ⊥)
-      (record { opened = λ n is. none_said (OpensAt n) is; answered = λ n is. none_said (AnswersAt n) is; key = λ is. none_said KeyAt is; reset = λ n t no. absurd no })
+      timed_rest turns [] refl (λ n t. 0) (λ n t. omega arith) (λ n. ⊥) (λ n. ⊥) (λ n. ⊥) ⊥ (λ n t. ⊥)
+      (record { opened = λ n is. none_said (OpensAt n) is; answered = λ n is. none_said (AnswersAt n) is; key = λ is. none_said KeyAt is; syn = λ n no. absurd no; reset = λ n t no. absurd no })
 
 -- at each moment of a whole run the segments that are sent next come in time
 abbrev pub WholeComes : Type 0

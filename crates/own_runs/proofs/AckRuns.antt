@@ -38,7 +38,7 @@ use Rattle.own_runs.proofs.EndRuns.{TellsEnd}
 use Rattle.own_runs.proofs.FineMoments.{Offered, content, file_len}
 use Rattle.own_runs.proofs.Fitting.{traces_fit}
 use Rattle.own_runs.proofs.Handed.{HasPart}
-use Rattle.own_runs.proofs.InTime.{AnswersPath, OpensPath, ResetsPath, TellsKey}
+use Rattle.own_runs.proofs.InTime.{AnswersPath, OpensPath, ResetsPath, SynsPath, TellsKey}
 use Rattle.own_runs.proofs.Kept.{same_judged}
 use Rattle.own_runs.proofs.MapPositions.{StreamFine, is_mapping}
 use Rattle.own_runs.proofs.MapTrace.{all_same, few}
@@ -78,30 +78,31 @@ module _ (start : Start) (last : Duo) (fit : NumbersFit start) where
   shown_low before t q h = part_within (file_of start t) h.holds.covers.said.segment.payload q h.holds.covers.has
 
   -- all that is known of each segment of a trace behind others, where so much is wanted and so much was sent
-  abbrev pub AllTimed : (ℕ → Side → ℕ) → List Sent → (ℕ → Type 0) → (ℕ → Type 0) → Type 0 → (ℕ → Side → Type 0) → List Sent → Type 0
-  AllTimed most before U T K X [] = Unit {0}
-  AllTimed most before U T K X (x ∷ trace) =
+  abbrev pub AllTimed : (ℕ → Side → ℕ) → List Sent → (ℕ → Type 0) → (ℕ → Type 0) → (ℕ → Type 0) → Type 0 → (ℕ → Side → Type 0) → List Sent → Type 0
+  AllTimed most before U T S K X [] = Unit {0}
+  AllTimed most before U T S K X (x ∷ trace) =
       (more : ℕ → Side → ℕ) × ((n : ℕ) (t : Side) → most n t ≤ more n t) × (s : IsSpoken (IsKnown start last fit U T K X more (ShownIn before) (EndedIn before)) start x)
-      × AllTimed more (before ++ x ∷ []) (λ n. U n ⊎ OpensPath x s.segment n) (λ n. T n ⊎ AnswersPath x s.segment n) (K ⊎ TellsKey x s.segment) (λ n t. X n t ⊎ ResetsPath x s.segment n t) trace
+      × AllTimed more (before ++ x ∷ []) (λ n. U n ⊎ OpensPath x s.segment n) (λ n. T n ⊎ AnswersPath x s.segment n) (λ n. S n ⊎ SynsPath x s.segment n) (K ⊎ TellsKey x s.segment) (λ n t. X n t ⊎ ((S n ⊎ SynsPath x s.segment n) × ResetsPath x s.segment n t)) trace
 
   -- what stands behind these
   pub record Stands (before : List Sent) (state : JudgedValue) : Type 1 where
     pub U : ℕ → Type 0
     pub T : ℕ → Type 0
+    pub S : ℕ → Type 0
     pub K : Type 0
     pub X : ℕ → Side → Type 0
     pub most : ℕ → Side → ℕ
-    pub stands : StandsAt start last fit U T K X most (ShownIn before) (EndedIn before) state
+    pub stands : StandsAt start last fit U T S K X most (ShownIn before) (EndedIn before) state
 
   module _ (at : Option Side) where
-    run_stands : (trace : List Sent) (most : ℕ → Side → ℕ) (before : List Sent) (U T : ℕ → Type 0) (K : Type 0) (X : ℕ → Side → Type 0) (state : JudgedValue) (n : ℕ)
-        → AllTimed most before U T K X trace → All FitsCapture trace → StandsAt start last fit U T K X most (ShownIn before) (EndedIn before) state
+    run_stands : (trace : List Sent) (most : ℕ → Side → ℕ) (before : List Sent) (U T S : ℕ → Type 0) (K : Type 0) (X : ℕ → Side → Type 0) (state : JudgedValue) (n : ℕ)
+        → AllTimed most before U T S K X trace → All FitsCapture trace → StandsAt start last fit U T S K X most (ShownIn before) (EndedIn before) state
         → Stands (before ++ trace) (judged_packets at true state n (map packet_for trace))
-    run_stands [] most before U T K X state n timed fits h =
-        record { U = U; T = T; K = K; X = X; most = most; stands = subst (λ (xs : List Sent). StandsAt start last fit U T K X most (ShownIn xs) (EndedIn xs) state) (sym (append-nil before)) h }
-    run_stands (x ∷ trace) most before U T K X state n timed fits h =
+    run_stands [] most before U T S K X state n timed fits h =
+        record { U = U; T = T; S = S; K = K; X = X; most = most; stands = subst (λ (xs : List Sent). StandsAt start last fit U T S K X most (ShownIn xs) (EndedIn xs) state) (sym (append-nil before)) h }
+    run_stands (x ∷ trace) most before U T S K X state n timed fits h =
         subst (λ (xs : List Sent). Stands xs (judged_packets at true state n (map packet_for (x ∷ trace)))) (append_assoc before (x ∷ []) trace)
-        (run_stands trace timed.0 (before ++ x ∷ []) (λ n. U n ⊎ OpensPath x s.segment n) (λ n. T n ⊎ AnswersPath x s.segment n) (K ⊎ TellsKey x s.segment) (λ n t. X n t ⊎ ResetsPath x s.segment n t)
+        (run_stands trace timed.0 (before ++ x ∷ []) (λ n. U n ⊎ OpensPath x s.segment n) (λ n. T n ⊎ AnswersPath x s.segment n) (λ n. S n ⊎ SynsPath x s.segment n) (K ⊎ TellsKey x s.segment) (λ n t. X n t ⊎ ((S n ⊎ SynsPath x s.segment n) × ResetsPath x s.segment n t))
         (judged_if_seen at true state n (segment_in_packet (packet_for x))) (n + 1) timed.3 (All-tail FitsCapture x trace fits)
         (subst (λ (o : Option Seen). Now (judged_if_seen at true state n o)) (sym (found (Offered start last) start x offered short)) next))
       where
@@ -115,24 +116,25 @@ module _ (start : Start) (last : Duo) (fit : NumbersFit start) where
         offered = record { plan = s.plan; there = s.there; segment = s.segment; end = s.end; octets = s.octets; spoken = s.spoken; also = s.also.offered }
 
         Now : JudgedValue → Type 0
-        Now = StandsAt start last fit (λ n. U n ⊎ OpensPath x s.segment n) (λ n. T n ⊎ AnswersPath x s.segment n) (K ⊎ TellsKey x s.segment) (λ n t. X n t ⊎ ResetsPath x s.segment n t) timed.0
+        Now = StandsAt start last fit (λ n. U n ⊎ OpensPath x s.segment n) (λ n. T n ⊎ AnswersPath x s.segment n) (λ n. S n ⊎ SynsPath x s.segment n) (K ⊎ TellsKey x s.segment) (λ n t. X n t ⊎ ((S n ⊎ SynsPath x s.segment n) × ResetsPath x s.segment n t)) timed.0
             (ShownIn (before ++ x ∷ [])) (EndedIn (before ++ x ∷ []))
 
         next : Now (judged at true state n (seen_of (Offered start last) start x offered short))
         next =
-            narrowed start last fit (λ n. U n ⊎ OpensPath x s.segment n) (λ n. T n ⊎ AnswersPath x s.segment n) (K ⊎ TellsKey x s.segment) (λ n t. X n t ⊎ ResetsPath x s.segment n t) timed.0
+            narrowed start last fit (λ n. U n ⊎ OpensPath x s.segment n) (λ n. T n ⊎ AnswersPath x s.segment n) (λ n. S n ⊎ SynsPath x s.segment n) (K ⊎ TellsKey x s.segment) (λ n t. X n t ⊎ ((S n ⊎ SynsPath x s.segment n) × ResetsPath x s.segment n t)) timed.0
             (λ t q. ShownIn before t q ⊎ IsShown start last t q x) (ShownIn (before ++ x ∷ [])) (λ t. EndedIn before t ⊎ TellsEnd start t x) (EndedIn (before ++ x ∷ []))
             (judged at true state n (seen_of (Offered start last) start x offered short)) (λ t q. last_or (IsShown start last t q) before x) (λ t. last_or (TellsEnd start t) before x)
-            (stands_next start last fit U T K X timed.0 (ShownIn before) (EndedIn before) (shown_low before) x s short at n state
-            (raised start last fit U T K X most timed.0 (ShownIn before) (EndedIn before) state timed.1 h))
+            (stands_next start last fit U T S K X timed.0 (ShownIn before) (EndedIn before) (shown_low before) x s short at n state
+            (raised start last fit U T S K X most timed.0 (ShownIn before) (EndedIn before) state timed.1 h))
 
-    begins : StandsAt start last fit (λ n. ⊥) (λ n. ⊥) ⊥ (λ n t. ⊥) (λ n t. 0) (ShownIn []) (EndedIn []) nothing_judged
+    begins : StandsAt start last fit (λ n. ⊥) (λ n. ⊥) (λ n. ⊥) ⊥ (λ n t. ⊥) (λ n t. 0) (ShownIn []) (EndedIn []) nothing_judged
     begins = record {
       tokens = record { seen = nothing_holds (drawn start); one = nothing_one (drawn start); books = λ i book at. absurd (none i at) };
       counts = record { sizes = record { known = λ no. absurd no; belongs = λ i f at. absurd (none i at) }; books = refl; lanes = refl };
       each = λ i f at. absurd (none i at);
       flows = λ n no. absurd no;
       opens = λ n no. absurd no;
+      only = λ i f at. absurd (none i at);
       key = λ no. absurd no;
       shown = λ t q has. absurd (none has.at has.there);
       ended = λ t has. absurd (none has.at has.there);
@@ -142,15 +144,15 @@ module _ (start : Start) (last : Duo) (fit : NumbersFit start) where
         none : {Y : Type 0} {y : Y} → (i : ℕ) → slice_get [] i ≡ Some y → ⊥
         none i e = cc
 
-    pub all_stands : (trace : List Sent) → AllTimed (λ n t. 0) [] (λ n. ⊥) (λ n. ⊥) ⊥ (λ n t. ⊥) trace → All FitsCapture trace → Stands trace (judged_packets at true nothing_judged 1 (map packet_for trace))
-    all_stands trace timed fits = run_stands trace (λ n t. 0) [] (λ n. ⊥) (λ n. ⊥) ⊥ (λ n t. ⊥) nothing_judged 1 timed fits begins
+    pub all_stands : (trace : List Sent) → AllTimed (λ n t. 0) [] (λ n. ⊥) (λ n. ⊥) (λ n. ⊥) ⊥ (λ n t. ⊥) trace → All FitsCapture trace → Stands trace (judged_packets at true nothing_judged 1 (map packet_for trace))
+    all_stands trace timed fits = run_stands trace (λ n t. 0) [] (λ n. ⊥) (λ n. ⊥) (λ n. ⊥) ⊥ (λ n t. ⊥) nothing_judged 1 timed fits begins
 
   -- on the paths of the start
-  pub paths_are : (trace : List Sent) (most : ℕ → Side → ℕ) (before : List Sent) (U T : ℕ → Type 0) (K : Type 0) (X : ℕ → Side → Type 0) → AllTimed most before U T K X trace
+  pub paths_are : (trace : List Sent) (most : ℕ → Side → ℕ) (before : List Sent) (U T S : ℕ → Type 0) (K : Type 0) (X : ℕ → Side → Type 0) → AllTimed most before U T S K X trace
       → All (λ s. s.path < length start.paths) trace
-  paths_are [] most before U T K X timed = All-nil (λ s. s.path < length start.paths)
-  paths_are (x ∷ trace) most before U T K X timed =
-      All-cons (λ s. s.path < length start.paths) x trace (slice_get_within start.paths x.path timed.2.plan timed.2.there) (paths_are trace _ _ _ _ _ _ timed.3)
+  paths_are [] most before U T S K X timed = All-nil (λ s. s.path < length start.paths)
+  paths_are (x ∷ trace) most before U T S K X timed =
+      All-cons (λ s. s.path < length start.paths) x trace (slice_get_within start.paths x.path timed.2.plan timed.2.there) (paths_are trace _ _ _ _ _ _ _ timed.3)
 
 -- ---- a run
 
@@ -168,7 +170,7 @@ all_of_it octets file begins same =
 -- each segment of a whole run comes in time
 abbrev pub WholeTimed : Type 0
 WholeTimed = (start : Start) (turns : List Turn) → IsPlain start → IsWhole start → (fit : NumbersFit start) → RunFits start turns
-    → (last : Duo) × AllTimed start last fit (λ n t. 0) [] (λ n. ⊥) (λ n. ⊥) ⊥ (λ n t. ⊥) (trace_of turns (opened_world start))
+    → (last : Duo) × AllTimed start last fit (λ n t. 0) [] (λ n. ⊥) (λ n. ⊥) (λ n. ⊥) ⊥ (λ n t. ⊥) (trace_of turns (opened_world start))
 
 module _ (whole_timed : WholeTimed) where
   module _ (start : Start) (turns : List Turn) (plain : IsPlain start) (whole : IsWhole start) (fit : NumbersFit start)
@@ -177,7 +179,7 @@ module _ (whole_timed : WholeTimed) where
     abbrev trace : List Sent
     trace = trace_of turns (opened_world start)
 
-    pub timed : (last : Duo) × AllTimed start last fit (λ n t. 0) [] (λ n. ⊥) (λ n. ⊥) ⊥ (λ n t. ⊥) trace
+    pub timed : (last : Duo) × AllTimed start last fit (λ n t. 0) [] (λ n. ⊥) (λ n. ⊥) (λ n. ⊥) ⊥ (λ n t. ⊥) trace
     timed = whole_timed start turns plain whole fit run
 
     room : All FitsCapture trace
@@ -186,7 +188,7 @@ module _ (whole_timed : WholeTimed) where
     same : judged_packets at true nothing_judged 1 (map packet_for trace) ≡ judged
     same =
         let few = fit.paths in
-        let all = traces_are side (length start.paths) trace (omega (arith, few)) (paths_are start timed.0 fit trace _ _ _ _ _ _ timed.1) room in
+        let all = traces_are side (length start.paths) trace (omega (arith, few)) (paths_are start timed.0 fit trace _ _ _ _ _ _ _ timed.1) room in
         same_judged (judged_packets at true nothing_judged 1 (map packet_for trace)) judged
         (sym (ap (λ (m : Result (List Captured) ℕ). m >>= λ packets. Ok (judged_packets at true nothing_judged 1 packets)) all) ∙ read)
 

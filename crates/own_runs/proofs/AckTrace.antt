@@ -60,7 +60,7 @@ use Rattle.own_runs.proofs.AckPositions.{EndsIn, EndsOffer, IsCovered}
 use Rattle.own_runs.proofs.FinePositions.{NumberIs}
 use Rattle.own_runs.proofs.EndRuns.{TellsEnd}
 use Rattle.own_runs.proofs.FineMoments.{IsMapped, Offered, content, file_len}
-use Rattle.own_runs.proofs.InTime.{AnswersPath, InTime, IsSynAck, OpensPath, ResetsPath, TellsKey, has_octets, is_bearing, tells_end}
+use Rattle.own_runs.proofs.InTime.{AnswersPath, InTime, IsSynAck, OpensPath, ResetsPath, SynsPath, TellsKey, has_octets, is_bearing, tells_end}
 use Rattle.own_runs.proofs.JudgedHere.{IsJudged, fin_here, is_judged, item_of, key_here, key_of_a, seen_here}
 use Rattle.own_runs.proofs.KeptCovers.{maps_first, shows_both}
 use Rattle.own_runs.proofs.LateJoins.{ComesBehind, Says}
@@ -72,7 +72,7 @@ use Rattle.own_runs.proofs.Numbered.{number_so}
 use Rattle.own_runs.proofs.Offering.{AllFine, OptionFine}
 use Rattle.own_runs.proofs.OneConnection.{OneHolds, taken_one}
 use Rattle.own_runs.proofs.OpenCounts.{AreCounted, judged_counted, wrong_seen}
-use Rattle.own_runs.proofs.OpenFlows.{HasFlow, IsOpenOn, OpenBelongs, answers_flow, opens_belong, opens_flow, stays, stays_open, which_some}
+use Rattle.own_runs.proofs.OpenFlows.{HasFlow, IsOpenOn, OpenBelongs, OpensBy, answers_flow, opens_belong, opens_flow, opens_only, stays, stays_open, which_some}
 use Rattle.own_runs.proofs.Own.{Drawn, IsOwn, own_initial, own_key}
 use Rattle.own_runs.proofs.OwnFlows.{Each}
 use Rattle.own_runs.proofs.OwnPackets.{AllHold, NewBook, segment_so}
@@ -137,35 +137,36 @@ module _ (start : Start) (last : Duo) (fit : NumbersFit start) where
   abbrev first : Side → ℕ
   first s = first_number (own_key (drawn start) s)
 
-  module _ (most : ℕ → Side → ℕ) (X : ℕ → Side → Type 0) (Shown : Side → ℕ → Type 0) (Ended : Side → Type 0) where
+  module _ (most : ℕ → Side → ℕ) (S : ℕ → Type 0) (X : ℕ → Side → Type 0) (Shown : Side → ℕ → Type 0) (Ended : Side → Type 0) where
     abbrev pub GoodSeen : Seen → Type 0
-    GoodSeen seen = IsGood (drawn start) (file_len start) (few start last fit) (content start) (where_in last) most (λ n s. X n s → ⊥) Shown Ended seen
+    GoodSeen seen = IsGood (drawn start) (file_len start) (few start last fit) (content start) (where_in last) most S (λ n s. X n s → ⊥) Shown Ended seen
 
     abbrev pub GoodBook : BookValue → Type 0
-    GoodBook book = BookGood (drawn start) (file_len start) (few start last fit) (content start) (where_in last) most (λ n s. X n s → ⊥) Shown Ended book
+    GoodBook book = BookGood (drawn start) (file_len start) (few start last fit) (content start) (where_in last) most S (λ n s. X n s → ⊥) Shown Ended book
 
     abbrev pub GoodLanes : ℕ → LanesValue → Type 0
-    GoodLanes path lanes = LanesFine (drawn start) (file_len start) (few start last fit) (content start) (where_in last) most (λ n s. X n s → ⊥) Shown Ended path lanes
+    GoodLanes path lanes = LanesFine (drawn start) (file_len start) (few start last fit) (content start) (where_in last) most S (λ n s. X n s → ⊥) Shown Ended path lanes
 
     abbrev pub AllGood : JudgedValue → Type 0
-    AllGood state = AllHold (drawn start) GoodSeen GoodBook GoodLanes state
+    AllGood state = AllHold (drawn start) (OpensBy S) GoodSeen GoodBook GoodLanes state
 
   -- what stands behind the segments so far
-  pub record StandsAt (U T : ℕ → Type 0) (K : Type 0) (X : ℕ → Side → Type 0) (most : ℕ → Side → ℕ) (Shown : Side → ℕ → Type 0) (Ended : Side → Type 0) (state : JudgedValue) : Type 0 where
+  pub record StandsAt (U T S : ℕ → Type 0) (K : Type 0) (X : ℕ → Side → Type 0) (most : ℕ → Side → ℕ) (Shown : Side → ℕ → Type 0) (Ended : Side → Type 0) (state : JudgedValue) : Type 0 where
     pub tokens : TokensHeld (drawn start) BookUntold (U 0) (T 0) state
     pub counts : AreCounted state
     pub each : Each OpenBelongs state.seen.flows
     pub flows : (n : ℕ) → U n → HasFlow n state.seen.flows
     pub opens : (n : ℕ) → T n → IsOpenOn n state.seen.flows
+    pub only : Each (OpensBy S) state.seen.flows
     pub key : K → (keys : Keys) × (slice_get state.seen.connections 0 ≡ Some keys) × (is_some keys.a ≡ true)
     pub shown : (s : Side) (q : ℕ) → Shown s q → is_some (slice_get state.books 0) ≡ true
     pub ended : (s : Side) → Ended s → is_some (slice_get state.books 0) ≡ true
-    pub hold : AllGood most X Shown Ended state
+    pub hold : AllGood most S X Shown Ended state
 
   -- by what holds of the books
-  shown_in : (most : ℕ → Side → ℕ) (X : ℕ → Side → Type 0) (Shown : Side → ℕ → Type 0) (Ended : Side → Type 0) (state : JudgedValue) → AllGood most X Shown Ended state
+  shown_in : (most : ℕ → Side → ℕ) (S : ℕ → Type 0) (X : ℕ → Side → Type 0) (Shown : Side → ℕ → Type 0) (Ended : Side → Type 0) (state : JudgedValue) → AllGood most S X Shown Ended state
       → (t : Side) (stream : StreamValue) → stream_in state 0 t ≡ Some stream → ((q : ℕ) → Shown t q → stream.seen q ≡ true) × (Ended t → is_some stream.fin ≡ true)
-  shown_in most X Shown Ended state hold t stream there = by (slice_get state.books 0) refl there
+  shown_in most S X Shown Ended state hold t stream there = by (slice_get state.books 0) refl there
     where
       by : (o : Option BookValue) → slice_get state.books 0 ≡ o → option_map (stream_at t) o ≡ Some stream → ((q : ℕ) → Shown t q → stream.seen q ≡ true) × (Ended t → is_some stream.fin ≡ true)
       by None e there = cc
@@ -183,36 +184,38 @@ module _ (start : Start) (last : Duo) (fit : NumbersFit start) where
       one.few i keys.0 keys.1
 
   -- where more is wanted
-  pub raised : (U T : ℕ → Type 0) (K : Type 0) (X : ℕ → Side → Type 0) (most more : ℕ → Side → ℕ) (Shown : Side → ℕ → Type 0) (Ended : Side → Type 0) (state : JudgedValue)
-      → ((path : ℕ) (t : Side) → most path t ≤ more path t) → StandsAt U T K X most Shown Ended state → StandsAt U T K X more Shown Ended state
-  raised U T K X most more Shown Ended state up h = record {
+  pub raised : (U T S : ℕ → Type 0) (K : Type 0) (X : ℕ → Side → Type 0) (most more : ℕ → Side → ℕ) (Shown : Side → ℕ → Type 0) (Ended : Side → Type 0) (state : JudgedValue)
+      → ((path : ℕ) (t : Side) → most path t ≤ more path t) → StandsAt U T S K X most Shown Ended state → StandsAt U T S K X more Shown Ended state
+  raised U T S K X most more Shown Ended state up h = record {
     tokens = h.tokens;
     counts = h.counts;
     each = h.each;
     flows = h.flows;
     opens = h.opens;
+    only = h.only;
     key = h.key;
     shown = h.shown;
     ended = h.ended;
-    hold = later_holds (drawn start) (file_len start) (few start last fit) (content start) (where_in last) most more (λ n t. X n t → ⊥) (λ n t. X n t → ⊥) Shown Shown Ended Ended
-        up (λ path t still. still) state (shown_in most X Shown Ended state h.hold) (one_book state h.counts h.tokens.one) h.hold;
+    hold = later_holds (drawn start) (file_len start) (few start last fit) (content start) (where_in last) most more S S (λ n t. X n t → ⊥) (λ n t. X n t → ⊥) Shown Shown Ended Ended
+        up (λ path t still. still) state (shown_in most S X Shown Ended state h.hold) (one_book state h.counts h.tokens.one) h.hold;
   }
 
   -- where less is said
-  pub narrowed : (U T : ℕ → Type 0) (K : Type 0) (X : ℕ → Side → Type 0) (most : ℕ → Side → ℕ) (Shown Later : Side → ℕ → Type 0) (Ended Over : Side → Type 0) (state : JudgedValue)
-      → ((t : Side) (q : ℕ) → Later t q → Shown t q) → ((t : Side) → Over t → Ended t) → StandsAt U T K X most Shown Ended state → StandsAt U T K X most Later Over state
-  narrowed U T K X most Shown Later Ended Over state shows ends h = record {
+  pub narrowed : (U T S : ℕ → Type 0) (K : Type 0) (X : ℕ → Side → Type 0) (most : ℕ → Side → ℕ) (Shown Later : Side → ℕ → Type 0) (Ended Over : Side → Type 0) (state : JudgedValue)
+      → ((t : Side) (q : ℕ) → Later t q → Shown t q) → ((t : Side) → Over t → Ended t) → StandsAt U T S K X most Shown Ended state → StandsAt U T S K X most Later Over state
+  narrowed U T S K X most Shown Later Ended Over state shows ends h = record {
     tokens = h.tokens;
     counts = h.counts;
     each = h.each;
     flows = h.flows;
     opens = h.opens;
+    only = h.only;
     key = h.key;
     shown = λ t q later. h.shown t q (shows t q later);
     ended = λ t over. h.ended t (ends t over);
-    hold = later_holds (drawn start) (file_len start) (few start last fit) (content start) (where_in last) most most (λ n t. X n t → ⊥) (λ n t. X n t → ⊥) Shown Later Ended Over
+    hold = later_holds (drawn start) (file_len start) (few start last fit) (content start) (where_in last) most most S S (λ n t. X n t → ⊥) (λ n t. X n t → ⊥) Shown Later Ended Over
         (λ path t. omega arith) (λ path t still. still) state
-        (λ t stream there. let was = shown_in most X Shown Ended state h.hold t stream there in (λ q later. was.0 q (shows t q later), λ over. was.1 (ends t over)))
+        (λ t stream there. let was = shown_in most S X Shown Ended state h.hold t stream there in (λ q later. was.0 q (shows t q later), λ over. was.1 (ends t over)))
         (one_book state h.counts h.tokens.one) h.hold;
   }
 
@@ -234,7 +237,7 @@ module _ (start : Start) (last : Duo) (fit : NumbersFit start) where
   low_len A = fit.short_a
   low_len B = fit.short_b
 
-  module _ (U T : ℕ → Type 0) (K : Type 0) (X : ℕ → Side → Type 0) (most : ℕ → Side → ℕ) (Shown : Side → ℕ → Type 0) (Ended : Side → Type 0)
+  module _ (U T S : ℕ → Type 0) (K : Type 0) (X : ℕ → Side → Type 0) (most : ℕ → Side → ℕ) (Shown : Side → ℕ → Type 0) (Ended : Side → Type 0)
       (inside : (t : Side) (q : ℕ) → Shown t q → q < file_len start t) (x : Sent) (s : IsSpoken (IsKnown U T K X most Shown Ended) start x) (short : length x.octets ≤ 65515) where
     abbrev c : Profile
     c = (path_begins start x.path s.plan).profile
@@ -252,8 +255,11 @@ module _ (start : Start) (last : Duo) (fit : NumbersFit start) where
     abbrev pub KeyOf : Type 0
     KeyOf = TellsKey x s.segment
 
+    abbrev pub MoreS : ℕ → Type 0
+    MoreS n = S n ⊎ SynsPath x s.segment n
+
     abbrev pub MoreX : ℕ → Side → Type 0
-    MoreX n t = X n t ⊎ ResetsPath x s.segment n t
+    MoreX n t = X n t ⊎ (MoreS n × ResetsPath x s.segment n t)
 
     abbrev pub as_offered : IsSpoken (Offered start last) start x
     as_offered = record { plan = s.plan; there = s.there; segment = s.segment; end = s.end; octets = s.octets; spoken = s.spoken; also = s.also.offered }
@@ -288,7 +294,7 @@ module _ (start : Start) (last : Duo) (fit : NumbersFit start) where
     -- ---- its Data ACKs
 
     abbrev Acks : ℕ → Side → OptionValue → Type 0
-    Acks path t option = AckSays (drawn start) (file_len start) (few start last fit) (content start) (where_in last) most (λ n t. MoreX n t → ⊥) Shown Ended path t option
+    Acks path t option = AckSays (drawn start) (file_len start) (few start last fit) (content start) (where_in last) most MoreS (λ n t. MoreX n t → ⊥) Shown Ended path t option
 
     one_says : (o : PlainOption) → AckSaid most Shown Ended x.path x.from o → Acks x.path x.from (said_option c.spelling x.from o)
     one_says (Dss (Some next) mapping) is =
@@ -322,8 +328,8 @@ module _ (start : Start) (last : Duo) (fit : NumbersFit start) where
     -- ---- its position
 
     low_so : (MoreX (good start last fit x as_offered short).own.path (good start last fit x as_offered short).own.from → ⊥)
-        → (good start last fit x as_offered short).at + seen.payload_len < 2 ^ 31
-    low_so straight = by s.spoken.tells.position (borne start last fit x as_offered short).0
+        → MoreS (good start last fit x as_offered short).own.path → (good start last fit x as_offered short).at + seen.payload_len < 2 ^ 31
+    low_so straight begun = by s.spoken.tells.position (borne start last fit x as_offered short).0
       where
         at_is : (good start last fit x as_offered short).at ≡ s.segment.position
         at_is = good_at start last fit x as_offered short
@@ -333,11 +339,11 @@ module _ (start : Start) (last : Duo) (fit : NumbersFit start) where
 
         by : IsStray sg.rst sg.acknowledged sg.position ⊎ IsShort sg.position → (length sg.payload ≡ 0) ⊎ (sg.position + length sg.payload < 2 ^ 31)
             → (good start last fit x as_offered short).at + seen.payload_len < 2 ^ 31
-        by (inl stray) bears = absurd (straight (inr (sym path_so, sym from_so, stray.reset)))
+        by (inl stray) bears = absurd (straight (inr (begun, (sym path_so, sym from_so, stray.reset))))
         by (inr low) (inl none) = omega (arith, at_is, octets_are, low, none)
         by (inr low) (inr ends) = omega (arith, at_is, octets_are, ends)
 
-    abbrev good_seen : GoodSeen most MoreX Shown Ended seen
+    abbrev good_seen : GoodSeen most MoreS MoreX Shown Ended seen
     good_seen = record {
       fine = good start last fit x as_offered short;
       acks = subst (λ (n : ℕ). All (Acks n (good start last fit x as_offered short).own.from) (good start last fit x as_offered short).own.values) (sym path_so)
@@ -384,7 +390,7 @@ module _ (start : Start) (last : Duo) (fit : NumbersFit start) where
 
     -- ---- what it leaves
 
-    module _ (at : Option Side) (n : ℕ) (state : JudgedValue) (h : StandsAt U T K X most Shown Ended state) where
+    module _ (at : Option Side) (n : ℕ) (state : JudgedValue) (h : StandsAt U T S K X most Shown Ended state) where
       abbrev V : Type 0
       V = Says start A IsAlone x s.segment
 
@@ -409,17 +415,17 @@ module _ (start : Start) (last : Duo) (fit : NumbersFit start) where
           some_map (λ o. IsCapable o → (is_own (ComesBehind (U 0) (T 0)) start x as_coming short).path ≡ 0) (λ o. IsCapable o → (good start last fit x as_offered short).own.path ≡ 0) (Asked seen)
           (λ o f capable. path_so ∙ sym (path_is (ComesBehind (U 0) (T 0)) start x as_coming short) ∙ f capable) (asks_only (U 0) (T 0) start x as_coming short syn)
 
-      ready : AllGood most MoreX Shown Ended state
+      ready : AllGood most MoreS MoreX Shown Ended state
       ready =
-          later_holds (drawn start) (file_len start) (few start last fit) (content start) (where_in last) most most (λ n t. X n t → ⊥) (λ n t. MoreX n t → ⊥) Shown Shown Ended Ended
-          (λ path t. omega arith) (λ path t still was. still (inl was)) state (shown_in most X Shown Ended state h.hold) (one_book state h.counts h.tokens.one) h.hold
+          later_holds (drawn start) (file_len start) (few start last fit) (content start) (where_in last) most most S MoreS (λ n t. X n t → ⊥) (λ n t. MoreX n t → ⊥) Shown Shown Ended Ended
+          (λ path t. omega arith) (λ path t still was. still (inl was)) state (shown_in most S X Shown Ended state h.hold) (one_book state h.counts h.tokens.one) h.hold
 
       now_one : OneHolds (drawn start) (taken state.seen n seen true).now
       now_one = taken_one (drawn start) (U 0) (T 0) V W state.seen n seen (good start last fit x as_offered short).own is_behind h.tokens.seen h.tokens.one only
 
-      new_book : NewBook (drawn start) (GoodSeen most MoreX Shown Ended) (GoodBook most MoreX Shown Ended) (GoodLanes most MoreX Shown Ended) state n seen
+      new_book : NewBook (drawn start) (OpensBy MoreS) (GoodSeen most MoreS MoreX Shown Ended) (GoodBook most MoreS MoreX Shown Ended) (GoodLanes most MoreS MoreX Shown Ended) state n seen
       new_book more =
-          new_good (drawn start) (file_len start) (few start last fit) (content start) (where_in last) most (λ n t. MoreX n t → ⊥) Shown Ended
+          new_good (drawn start) (file_len start) (few start last fit) (content start) (where_in last) most MoreS (λ n t. MoreX n t → ⊥) Shown Ended
           (λ t q shown. none (h.shown t q shown)) (λ t ended. none (h.ended t ended))
         where
           few_now : (1 < length (taken state.seen n seen true).now.connections) ⊎ (length (taken state.seen n seen true).now.connections ≤ 1)
@@ -435,10 +441,15 @@ module _ (start : Start) (last : Duo) (fit : NumbersFit start) where
               let most_one = few_now (cases_lt 1 (length (taken state.seen n seen true).now.connections)) in
               omega (arith, within, less, most_one)
 
-      hold_next : AllGood most MoreX Shown Ended next
+      only_now : Each (OpensBy MoreS) (taken state.seen n seen true).now.flows
+      only_now =
+          opens_only (drawn start) (U 0) (T 0) V W state.seen n seen (good start last fit x as_offered short).own is_behind h.tokens.seen h.tokens.one S MoreS (λ n was. inl was)
+          (λ of_b syn. inr (sym path_so, sym from_so ∙ of_b, sym syn_so ∙ syn)) h.only
+
+      hold_next : AllGood most MoreS MoreX Shown Ended next
       hold_next =
-          segment_so (drawn start) (GoodSeen most MoreX Shown Ended) (GoodBook most MoreX Shown Ended) (GoodLanes most MoreX Shown Ended)
-          (keep (drawn start) (file_len start) (few start last fit) (content start) (where_in last) most (λ n t. MoreX n t → ⊥) Shown Ended) at n seen good_seen state new_book ready
+          segment_so (drawn start) (OpensBy MoreS) (GoodSeen most MoreS MoreX Shown Ended) (GoodBook most MoreS MoreX Shown Ended) (GoodLanes most MoreS MoreX Shown Ended)
+          (keep (drawn start) (file_len start) (few start last fit) (content start) (where_in last) most MoreS (λ n t. MoreX n t → ⊥) Shown Ended) at n seen good_seen state new_book only_now ready
 
       tokens_next : TokensHeld (drawn start) BookUntold (U 0 ⊎ V) (T 0 ⊎ W) next
       tokens_next =
@@ -515,6 +526,9 @@ module _ (start : Start) (last : Duo) (fit : NumbersFit start) where
         open_one : IsOpenOn (good start last fit x as_offered short).own.path state.seen.flows
         open_one = subst (λ (k : ℕ). IsOpenOn k state.seen.flows) (sym path_so) (h.opens x.path opened)
 
+        begun : MoreS (good start last fit x as_offered short).own.path
+        begun = let open_is = h.opens x.path opened in inl (subst S (sym path_so) (h.only open_is.place open_is.flow open_is.there x.path open_is.opener open_is.opened))
+
         j : IsJudged (drawn start) (U 0) (T 0) V W state n seen (good start last fit x as_offered short).own is_behind h.tokens.seen h.tokens.one at h.counts h.each
         j =
             is_judged (drawn start) (U 0) (T 0) V W state n seen (good start last fit x as_offered short).own is_behind h.tokens.seen h.tokens.one at h.counts h.each (syn_so ∙ no_syn) open_one
@@ -534,10 +548,10 @@ module _ (start : Start) (last : Duo) (fit : NumbersFit start) where
           (later.0, later.1, ap is_some (later.2 A key.0 key.1))
       key_next (inr it) =
           let time = s.also.time.keys it.2 in
-          key_here (drawn start) (file_len start) (few start last fit) (content start) (where_in last) most (λ n t. MoreX n t → ⊥) Shown Ended (U 0) (T 0) V W state n seen good_seen
-          is_behind h.tokens.seen h.tokens.one at h.counts h.each ready (j time.0 time.1) (syn_so ∙ time.0)
-          (key_of_a (drawn start) (file_len start) (few start last fit) (content start) (where_in last) most (λ n t. MoreX n t → ⊥) Shown Ended (U 0) (T 0) V W state n seen good_seen
-          is_behind h.tokens.seen h.tokens.one at h.counts h.each ready (j time.0 time.1) (syn_so ∙ time.0) (knows time.0 time.1 (λ of_a. inr (it.0, it.2))) (from_so ∙ it.1))
+          key_here (drawn start) (file_len start) (few start last fit) (content start) (where_in last) most MoreS (λ n t. MoreX n t → ⊥) Shown Ended (U 0) (T 0) V W state n seen good_seen
+          is_behind h.tokens.seen h.tokens.one at h.counts h.each ready (j time.0 time.1) (syn_so ∙ time.0) (begun time.0 time.1)
+          (key_of_a (drawn start) (file_len start) (few start last fit) (content start) (where_in last) most MoreS (λ n t. MoreX n t → ⊥) Shown Ended (U 0) (T 0) V W state n seen good_seen
+          is_behind h.tokens.seen h.tokens.one at h.counts h.each ready (j time.0 time.1) (syn_so ∙ time.0) (begun time.0 time.1) (knows time.0 time.1 (λ of_a. inr (it.0, it.2))) (from_so ∙ it.1))
 
       -- ---- what its payload shows, and the end that it tells
 
@@ -590,7 +604,7 @@ module _ (start : Start) (last : Duo) (fit : NumbersFit start) where
         straight : MoreX (good start last fit x as_offered short).own.path (good start last fit x as_offered short).own.from → ⊥
         straight (inl was) =
             (s.also.time.bears bearing).3 (subst (λ (t : Side). X x.path t) from_so (subst (λ (n : ℕ). X n (good start last fit x as_offered short).own.from) path_so was))
-        straight (inr it) = false≢true (sym ((s.also.time.bears bearing).1) ∙ it.2)
+        straight (inr it) = false≢true (sym ((s.also.time.bears bearing).1) ∙ it.1.2)
 
         no_syn : sg.syn ≡ false
         no_syn = (s.also.time.bears bearing).0
@@ -609,8 +623,8 @@ module _ (start : Start) (last : Duo) (fit : NumbersFit start) where
         place_seen : (t : Side) (q : ℕ) → ShowsAt start last fit t q seen (good start last fit x as_offered short) → (stream : StreamValue) → stream_in next 0 t ≡ Some stream → stream.seen q ≡ true
         place_seen t q shows stream there =
             subst (λ (p : ℕ). stream.seen p ≡ true) (ap (λ (u : Side). where_in last (good start last fit x as_offered short).own.path u ((good start last fit x as_offered short).at + shows.offset)) shows.from ∙ shows.sits)
-            (seen_here (drawn start) (file_len start) (few start last fit) (content start) (where_in last) most (λ n t. MoreX n t → ⊥) Shown Ended (U 0) (T 0) V W state n seen good_seen
-            is_behind h.tokens.seen h.tokens.one at h.counts h.each ready (j no_syn opened) (syn_so ∙ no_syn) bearing_knows firsts straight ((good start last fit x as_offered short).at + shows.offset)
+            (seen_here (drawn start) (file_len start) (few start last fit) (content start) (where_in last) most MoreS (λ n t. MoreX n t → ⊥) Shown Ended (U 0) (T 0) V W state n seen good_seen
+            is_behind h.tokens.seen h.tokens.one at h.counts h.each ready (j no_syn opened) (syn_so ∙ no_syn) (begun no_syn opened) bearing_knows firsts straight ((good start last fit x as_offered short).at + shows.offset)
             ((good start last fit x as_offered short).maps (good start last fit x as_offered short).at refl shows.offset shows.within) shows.some (omega arith)
             (let within = shows.within in let len = len_is in omega (arith, within, len)) stream
             (subst (λ (u : Side). stream_in next 0 u ≡ Some stream) (sym shows.from) there))
@@ -619,8 +633,8 @@ module _ (start : Start) (last : Duo) (fit : NumbersFit start) where
         end_stands : (t : Side) → ((good start last fit x as_offered short).own.from ≡ t) × EndsIn (first_number (own_key (drawn start) t)) (good start last fit x as_offered short).own.values
             → (stream : StreamValue) → stream_in next 0 t ≡ Some stream → is_some stream.fin ≡ true
         end_stands t ends stream there =
-            fin_here (drawn start) (file_len start) (few start last fit) (content start) (where_in last) most (λ n t. MoreX n t → ⊥) Shown Ended (U 0) (T 0) V W state n seen good_seen
-            is_behind h.tokens.seen h.tokens.one at h.counts h.each ready (j no_syn opened) (syn_so ∙ no_syn) bearing_knows firsts straight
+            fin_here (drawn start) (file_len start) (few start last fit) (content start) (where_in last) most MoreS (λ n t. MoreX n t → ⊥) Shown Ended (U 0) (T 0) V W state n seen good_seen
+            is_behind h.tokens.seen h.tokens.one at h.counts h.each ready (j no_syn opened) (syn_so ∙ no_syn) (begun no_syn opened) bearing_knows firsts straight
             (subst (λ (u : Side). EndsIn (first_number (own_key (drawn start) u)) (good start last fit x as_offered short).own.values) (sym ends.0) ends.1) stream
             (subst (λ (u : Side). stream_in next 0 u ≡ Some stream) (sym ends.0) there)
 
@@ -653,12 +667,12 @@ module _ (start : Start) (last : Duo) (fit : NumbersFit start) where
 
       streams_next : (t : Side) (stream : StreamValue) → stream_in next 0 t ≡ Some stream → ((q : ℕ) → MoreShown t q → stream.seen q ≡ true) × (MoreEnded t → is_some stream.fin ≡ true)
       streams_next t stream there =
-          let was = shown_in most MoreX Shown Ended next hold_next t stream there in (
+          let was = shown_in most MoreS MoreX Shown Ended next hold_next t stream there in (
             λ q. ⊎_elim (was.0 q) (λ shown. place_seen (bears_place t q shown) t q (shows_seen start last fit x as_offered short (good start last fit x as_offered short) t q shown) stream there),
             ⊎_elim was.1 (λ ends. end_stands (bears_end t ends) t (ends_seen start last fit x as_offered short (good start last fit x as_offered short) t ends) stream there),
           )
 
-      pub stands_next : StandsAt (λ m. U m ⊎ SynOf m) (λ m. T m ⊎ AnswerOf m) (K ⊎ KeyOf) MoreX most MoreShown MoreEnded next
+      pub stands_next : StandsAt (λ m. U m ⊎ SynOf m) (λ m. T m ⊎ AnswerOf m) MoreS (K ⊎ KeyOf) MoreX most MoreShown MoreEnded next
       stands_next = record {
         tokens = record {
           seen = record {
@@ -678,9 +692,10 @@ module _ (start : Start) (last : Duo) (fit : NumbersFit start) where
         each = each_next;
         flows = flows_next;
         opens = opens_next;
+        only = subst (Each (OpensBy MoreS)) (sym counted.1) only_now;
         key = key_next;
         shown = λ t q. ⊎_elim (λ was. book_stays (h.shown t q was)) (λ shown. book_stays (book_bears (bears_place t q shown)));
         ended = λ t. ⊎_elim (λ was. book_stays (h.ended t was)) (λ ends. book_stays (book_bears (bears_end t ends)));
-        hold = later_holds (drawn start) (file_len start) (few start last fit) (content start) (where_in last) most most (λ n t. MoreX n t → ⊥) (λ n t. MoreX n t → ⊥) Shown MoreShown Ended MoreEnded
+        hold = later_holds (drawn start) (file_len start) (few start last fit) (content start) (where_in last) most most MoreS MoreS (λ n t. MoreX n t → ⊥) (λ n t. MoreX n t → ⊥) Shown MoreShown Ended MoreEnded
             (λ path t. omega arith) (λ path t still. still) next streams_next (one_book next counted.0 tokens_next.one) hold_next;
       }

@@ -38,7 +38,7 @@ pub record IsSynAck (sg : PlainSegment) : Type 0 where
   pub syn : sg.syn ≡ true
   pub acknowledged : sg.acknowledged ≡ Some 1
 
--- what a segment of a trace is: A's SYN of a path, B's answer to it, A's key, and a reset
+-- what a segment of a trace is: A's SYN of a path, B's answer to it, A's key, a SYN of B's, and a reset
 abbrev pub OpensPath : Sent → PlainSegment → ℕ → Type 0
 OpensPath x sg n = (x.path ≡ n) × (x.from ≡ A) × IsAlone sg
 
@@ -48,10 +48,13 @@ AnswersPath x sg n = (x.path ≡ n) × (x.from ≡ B) × IsSynAck sg
 abbrev pub TellsKey : Sent → PlainSegment → Type 0
 TellsKey x sg = (x.path ≡ 0) × (x.from ≡ A) × (list_any shows_keys sg.options ≡ true)
 
+abbrev pub SynsPath : Sent → PlainSegment → ℕ → Type 0
+SynsPath x sg n = (x.path ≡ n) × (x.from ≡ B) × (sg.syn ≡ true)
+
 abbrev pub ResetsPath : Sent → PlainSegment → ℕ → Side → Type 0
 ResetsPath x sg n s = (x.path ≡ n) × (x.from ≡ s) × (sg.rst ≡ true)
 
--- of a side's on a path, where so much was sent before it: A's SYNs, B's answers, A's key, and resets
+-- of a side's on a path, where so much was sent before it: A's SYNs, B's answers, A's key, and resets behind a SYN of B's
 pub record InTime (U T : ℕ → Type 0) (K : Type 0) (X : ℕ → Side → Type 0) (path : ℕ) (s : Side) (sg : PlainSegment) : Type 0 where
   pub answers : s ≡ B → IsSynAck sg → U path
   pub bears : is_bearing sg ≡ true → (sg.syn ≡ false) × (sg.rst ≡ false) × T path × (X path s → ⊥)
@@ -107,10 +110,24 @@ KeyAt y = (y.path ≡ 0) × (y.from ≡ A) × (list_any shows_keys y.segment.opt
 abbrev pub ResetsAt : ℕ → Side → Sending → Type 0
 ResetsAt n s y = (y.path ≡ n) × (y.from ≡ s) × (y.segment.rst ≡ true)
 
+abbrev pub SynsAt : ℕ → Sending → Type 0
+SynsAt n y = (y.path ≡ n) × (y.from ≡ B) × (y.segment.syn ≡ true)
+
+-- one of the turns sent a reset of a side's on a path, not before a SYN of B's there
+pub record WasReset (start : Start) (n : ℕ) (s : Side) (before : List Turn) : Type 0 where
+  pub more : List Turn
+  pub turn : Turn
+  pub later : List Turn
+  pub is : more ++ turn ∷ later ≡ before
+  pub said : Sending
+  pub sends : turn_sending turn (world_run octets more (opened_world start)) ≡ Some said
+  pub holds : ResetsAt n s said
+  pub begun : WasSaid start (SynsAt n) (more ++ turn ∷ [])
+
 -- a segment that is sent next comes in time
 abbrev pub TimeAt : Start → List Turn → ℕ → Side → PlainSegment → Type 0
 TimeAt start before path s sg =
-    InTime (λ n. WasSaid start (OpensAt n) before) (λ n. WasSaid start (AnswersAt n) before) (WasSaid start KeyAt before) (λ n t. WasSaid start (ResetsAt n t) before) path s sg
+    InTime (λ n. WasSaid start (OpensAt n) before) (λ n. WasSaid start (AnswersAt n) before) (WasSaid start KeyAt before) (λ n t. WasReset start n t before) path s sg
 
 abbrev pub ComesAt : Start → List Turn → ℕ → Side → PlainSegment → Type 0
 ComesAt start before path s sg = ComesBehind (WasSaid start (OpensAt 0) before) (WasSaid start (AnswersAt 0) before) path s sg

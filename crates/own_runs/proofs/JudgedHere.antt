@@ -51,7 +51,7 @@ use Rattle.own_runs.proofs.MapKept.{BookGood, IsGood, Laned, LanesFine, LeftGood
 use Rattle.own_runs.proofs.MapPositions.{Fine, OffersWell, StreamFine, is_mapping}
 use Rattle.own_runs.proofs.OneConnection.{OneHolds}
 use Rattle.own_runs.proofs.OpenCounts.{AreCounted}
-use Rattle.own_runs.proofs.OpenFlows.{IsOpenOn, OpenBelongs, found_on, finds, which_some}
+use Rattle.own_runs.proofs.OpenFlows.{IsOpenOn, OpenBelongs, OpensBy, found_on, finds, which_some}
 use Rattle.own_runs.proofs.Own.{Drawn, IsOwn, ValueIs, end_of, own_key}
 use Rattle.own_runs.proofs.OwnFlows.{Each, FlowOn, KeysOwn, NonceIs, counted_on}
 use Rattle.own_runs.proofs.OwnOptions.{IsKeyed, IsOf, key_is, options_so, readable_so}
@@ -221,12 +221,12 @@ module _ (d : Drawn) (U T V W : Type 0) (state : JudgedValue) (packet : ℕ) (se
 
 -- ---- and what it leaves
 
-module _ (d : Drawn) (limit : Side → ℕ) (few : (s : Side) → limit s < 2 ^ 31) (content : Side → ℕ → ℕ) (where_at : ℕ → Side → ℕ → ℕ) (most : ℕ → Side → ℕ) (Straight : ℕ → Side → Type 0)
-    (Shown : Side → ℕ → Type 0) (Ended : Side → Type 0) (U T V W : Type 0) (state : JudgedValue) (packet : ℕ) (seen : Seen) (g : IsGood d limit few content where_at most Straight Shown Ended seen)
+module _ (d : Drawn) (limit : Side → ℕ) (few : (s : Side) → limit s < 2 ^ 31) (content : Side → ℕ → ℕ) (where_at : ℕ → Side → ℕ → ℕ) (most : ℕ → Side → ℕ) (S : ℕ → Type 0) (Straight : ℕ → Side → Type 0)
+    (Shown : Side → ℕ → Type 0) (Ended : Side → Type 0) (U T V W : Type 0) (state : JudgedValue) (packet : ℕ) (seen : Seen) (g : IsGood d limit few content where_at most S Straight Shown Ended seen)
     (is : IsBehind U T V W d seen g.fine.own) (h : TokensHold d U T state.seen) (one : OneHolds d state.seen) (at : Option Side) (counts : AreCounted state) (each : Each OpenBelongs state.seen.flows)
-    (hold : AllHold d (IsGood d limit few content where_at most Straight Shown Ended) (BookGood d limit few content where_at most Straight Shown Ended)
-    (LanesFine d limit few content where_at most Straight Shown Ended) state)
-    (j : IsJudged d U T V W state packet seen g.fine.own is h one at counts each) (no_syn : seen.segment.head.syn ≡ false) where
+    (hold : AllHold d (OpensBy S) (IsGood d limit few content where_at most S Straight Shown Ended) (BookGood d limit few content where_at most S Straight Shown Ended)
+    (LanesFine d limit few content where_at most S Straight Shown Ended) state)
+    (j : IsJudged d U T V W state packet seen g.fine.own is h one at counts each) (no_syn : seen.segment.head.syn ≡ false) (begun : S g.fine.own.path) where
   abbrev own : IsOwn d seen
   own = g.fine.own
 
@@ -239,17 +239,17 @@ module _ (d : Drawn) (limit : Side → ℕ) (few : (s : Side) → limit s < 2 ^ 
   k : KeysOwn d j.keys
   k = hold.seen.connections 0 j.keys j.has_keys
 
-  book_is : BookGood d limit few content where_at most Straight Shown Ended j.book
+  book_is : BookGood d limit few content where_at most S Straight Shown Ended j.book
   book_is = hold.books 0 j.book j.has_book
 
-  lanes_are : LanesFine d limit few content where_at most Straight Shown Ended own.path j.lanes
+  lanes_are : LanesFine d limit few content where_at most S Straight Shown Ended own.path j.lanes
   lanes_are =
-      lanes_so d (IsGood d limit few content where_at most Straight Shown Ended) (BookGood d limit few content where_at most Straight Shown Ended)
-      (LanesFine d limit few content where_at most Straight Shown Ended) (keep d limit few content where_at most Straight Shown Ended) at packet seen g j.index j.was j.was_on state.seen.flows
+      lanes_so d (OpensBy S) (IsGood d limit few content where_at most S Straight Shown Ended) (BookGood d limit few content where_at most S Straight Shown Ended)
+      (LanesFine d limit few content where_at most S Straight Shown Ended) (keep d limit few content where_at most S Straight Shown Ended) at packet seen g j.index j.was j.was_on state.seen.flows
       j.was_there j.lanes (hold.lanes j.index j.lanes j.has_lanes)
 
-  lane : Laned d limit few content where_at most Straight Shown Ended own.path own.from (own_lane facts j.lanes)
-  lane = lane_at d limit few content where_at most Straight Shown Ended own.path own.from facts.is_opener j.lanes (opens_so d seen own j.flow j.on) lanes_are
+  lane : Laned d limit few content where_at most S Straight Shown Ended own.path own.from (own_lane facts j.lanes)
+  lane = lane_at d limit few content where_at most S Straight Shown Ended own.path own.from facts.is_opener j.lanes (opens_so d seen own j.flow j.on) lanes_are
 
   abbrev first : KeyedValue
   first = record { options = []; keys = j.keys; stream = stream_at own.from (with_stream own.from (stream_at own.from j.book) j.book) }
@@ -284,7 +284,7 @@ module _ (d : Drawn) (limit : Side → ℕ) (few : (s : Side) → limit s < 2 ^ 
   position_is : Straight g.fine.own.path g.fine.own.from → position_of (own_base facts) (own_lane facts j.lanes) seen.segment.head.seq seen.payload_len ≡ Some g.fine.at
   position_is straight =
       let top = lane.1.0.top in let low = lane.1.1 straight in
-      position_so (own_base facts) (own_lane facts j.lanes) seen.segment.head.seq seen.payload_len g.fine.at base_is (omega (arith, top, low)) (g.low straight)
+      position_so (own_base facts) (own_lane facts j.lanes) seen.segment.head.seq seen.payload_len g.fine.at base_is (omega (arith, top, low)) (g.low straight begun)
 
   stream_told : Straight g.fine.own.path g.fine.own.from → stream_at own.from told.left.book ≡ acked.stream
   stream_told straight =
@@ -312,17 +312,17 @@ module _ (d : Drawn) (limit : Side → ℕ) (few : (s : Side) → limit s < 2 ^ 
   abbrev left : Left
   left = record { book = with_stream own.from (stream_at own.from j.book) j.book; lanes = j.lanes }
 
-  left_is : LeftGood d limit few content where_at most Straight Shown Ended at packet seen g left
-  left_is = record { book = with_good d limit few content where_at most Straight Shown Ended own.from (stream_at own.from j.book) j.book (book_is own.from) book_is; lanes = lanes_are }
+  left_is : LeftGood d limit few content where_at most S Straight Shown Ended at packet seen g left
+  left_is = record { book = with_good d limit few content where_at most S Straight Shown Ended own.from (stream_at own.from j.book) j.book (book_is own.from) book_is; lanes = lanes_are }
 
   ours : IsOf d is_mapping own.path facts
-  ours = of_flow d limit few content where_at most Straight Shown Ended at packet seen g j.index j.flow j.on j.keys k left left_is j.opened j.has_opened
+  ours = of_flow d limit few content where_at most S Straight Shown Ended at packet seen g j.index j.flow j.on j.keys k left left_is j.opened j.has_opened
 
   keyed : IsKeyed d is_mapping own.path own.from first
-  keyed = begun_keyed d limit few content where_at most Straight Shown Ended at packet seen g j.index j.flow j.on j.keys k left left_is j.opened j.has_opened
+  keyed = begun_keyed d limit few content where_at most S Straight Shown Ended at packet seen g j.index j.flow j.on j.keys k left left_is j.opened j.has_opened
 
   made_fine : StreamFine (limit own.from) (few own.from) (content own.from) made.stream
-  made_fine = stream_made d limit few content where_at most Straight Shown Ended at packet seen g j.index j.flow j.on j.keys k left left_is j.opened j.has_opened
+  made_fine = stream_made d limit few content where_at most S Straight Shown Ended at packet seen g j.index j.flow j.on j.keys k left left_is j.opened j.has_opened
 
   abbrev number : ℕ
   number = first_at d limit few content where_at own.from

@@ -41,6 +41,7 @@ use Rattle.own_runs.proofs.KeptOptions.{kept_so}
 use Rattle.own_runs.proofs.Own.{Drawn, IsOwn, ValueIs, own_key}
 use Rattle.own_runs.proofs.OwnFlows.{FlowOn, KeysOwn, NonceIs}
 use Rattle.own_runs.proofs.OwnOptions.{IsKeyed, IsOf, key_is, options_so, readable_so}
+use Rattle.own_runs.proofs.OpenFlows.{OpensBy}
 use Rattle.own_runs.proofs.OwnPackets.{AllHold, IsLeft, SegmentsKeep, opens_so, sender_so}
 use Rattle.own_runs.proofs.Own.{is_a, own_initial}
 use Rattle.own_runs.proofs.OwnUntold.{base_so, numbered}
@@ -72,7 +73,7 @@ module _ (d : Drawn) (limit : Side → ℕ) (few : (s : Side) → limit s < 2 ^ 
 
   -- by what each side wants of the other's stream on each path, on which paths all of its segments stand low, what was shown of its stream, and
   -- whether its DATA_FIN was
-  module _ (most : ℕ → Side → ℕ) (Straight : ℕ → Side → Type 0) (Shown : Side → ℕ → Type 0) (Ended : Side → Type 0) where
+  module _ (most : ℕ → Side → ℕ) (S : ℕ → Type 0) (Straight : ℕ → Side → Type 0) (Shown : Side → ℕ → Type 0) (Ended : Side → Type 0) where
     -- a Data ACK is of what its side wants, which was shown
     abbrev pub AckSays : ℕ → Side → OptionValue → Type 0
     AckSays path s (Dss (Some number) mapping fin) =
@@ -83,7 +84,7 @@ module _ (d : Drawn) (limit : Side → ℕ) (few : (s : Side) → limit s < 2 ^ 
     pub record IsGood (seen : Seen) : Type 0 where
       pub fine : IsFine seen
       pub acks : All (AckSays fine.own.path fine.own.from) fine.own.values
-      pub low : Straight fine.own.path fine.own.from → fine.at + seen.payload_len < 2 ^ 31
+      pub low : Straight fine.own.path fine.own.from → S fine.own.path → fine.at + seen.payload_len < 2 ^ 31
 
     -- all that was shown was seen
     pub record StreamGood (s : Side) (stream : StreamValue) : Type 0 where
@@ -160,7 +161,7 @@ module _ (d : Drawn) (limit : Side → ℕ) (few : (s : Side) → limit s < 2 ^ 
     }
 
     abbrev Leaves : ℕ → Told → Type 0
-    Leaves path told = IsLeft d IsGood BookGood LanesFine path told
+    Leaves path told = IsLeft d (OpensBy S) IsGood BookGood LanesFine path told
 
     -- a Data ACK is of what was seen
     ack_so : (path : ℕ) (s : Side) (high : ℕ) (peers : StreamValue) → StreamGood (peer s) peers → (option : OptionValue) → AckSays path s option
@@ -303,28 +304,28 @@ module _ (d : Drawn) (limit : Side → ℕ) (few : (s : Side) → limit s < 2 ^ 
               let fields = fields_so (fields_keep own.from) facts (map Readable own.values) first (record { infinite = was.infinite; fin = was.fin; top = was.top; octets = was.octets; below = was.below }) in
               record { infinite = fields.infinite; fin = fields.fin; top = fields.top; octets = fields.octets; below = fields.below; untold = made.untold }
 
-          opened_so : Leaves own.path (judged_opened facts (map Readable own.values) keys left)
-          opened_so =
+          opened_so : S own.path → Leaves own.path (judged_opened facts (map Readable own.values) keys left)
+          opened_so begun =
               let wells : (q : ℕ) → q % 2 ^ 32 ≡ p.at % 2 ^ 32 → All (Well own.path own.from q) all.options =
               λ q same. kept_so (Well own.path own.from q) facts own.values first (p.offers q same) (All-nil (Well own.path own.from q)) in
               let calm = kept_so TellsNoFail facts own.values first p.calm (All-nil TellsNoFail) in
               let acks = kept_so (AckSays own.path own.from) facts own.values first g.acks (All-nil (AckSays own.path own.from)) in
               let behind = positions_so facts all.options all.keys (record left { book = with_stream own.from all.stream left.book }) refl (opens_so d seen own flow f) p.at
-              (seq_so opened e) made.keys p.bears wells calm acks g.low
+              (seq_so opened e) made.keys p.bears wells calm acks (λ straight. g.low straight begun)
               (record {
                 book = with_good own.from all.stream left.book (goes_good own.from (stream_at own.from left.book) all.stream (options_go facts (map Readable own.values) first) stream_made (h.book own.from)) h.book;
                 lanes = h.lanes;
               }) in
               record { keys = made.keys; book = behind.book; lanes = behind.lanes }
 
-        formed_so : (opened : Option Opened) → flow.opened ≡ opened
+        formed_so : (opened : Option Opened) → flow.opened ≡ opened → (is_some opened ≡ true → S own.path)
             → Leaves own.path (judged_formed at packet seen index flow opened own.from (map Readable own.values) keys left)
-        formed_so None e = record { keys = k; book = h.book; lanes = h.lanes }
-        formed_so (Some opened) e = opened_so opened e
+        formed_so None e begun = record { keys = k; book = h.book; lanes = h.lanes }
+        formed_so (Some opened) e begun = opened_so opened e (begun refl)
 
-      pub flow_so : (index : ℕ) (flow : Flow) (f : FlowOn d own.path flow) (belongs : Belongs) → belongs.opener ≡ A → (keys : Keys) (left : Left) → KeysOwn d keys
+      pub flow_so : (index : ℕ) (flow : Flow) (f : FlowOn d own.path flow) → OpensBy S flow → (belongs : Belongs) → belongs.opener ≡ A → (keys : Keys) (left : Left) → KeysOwn d keys
           → LeftGood left → Leaves own.path (judged_flow at packet seen index flow belongs keys left)
-      flow_so index flow f belongs is keys left k h =
+      flow_so index flow f opens belongs is keys left k h =
           let formed = told_formless packet (map Readable own.values) (stream_at own.from left.book) in
           subst (λ (s : Side). Leaves own.path (judged_side at packet seen index flow s keys left)) (sym (sender_so d seen own flow f belongs is))
           (subst (λ (options : List SeenValue). Leaves own.path (judged_formed at packet seen index flow flow.opened own.from options keys
@@ -335,7 +336,7 @@ module _ (d : Drawn) (limit : Side → ℕ) (few : (s : Side) → limit s < 2 ^ 
                 (subst (StreamGood own.from) (sym (readable_so packet own.values (stream_at own.from left.book))) (h.book own.from)) h.book;
             lanes = h.lanes;
           })
-          flow.opened refl))
+          flow.opened refl (opens own.path f.opener)))
         where
           options_are : seen_options keys.checksums seen.segment.options ≡ map Readable own.values
           options_are = ap (λ (c : Bool). seen_options c seen.segment.options) k.checksums ∙ own.options
@@ -356,7 +357,7 @@ module _ (d : Drawn) (limit : Side → ℕ) (few : (s : Side) → limit s < 2 ^ 
       ),
     )
 
-    abbrev pub keep : SegmentsKeep d IsGood BookGood LanesFine
+    abbrev pub keep : SegmentsKeep d (OpensBy S) IsGood BookGood LanesFine
     keep = record {
       own = λ seen g. g.fine.own;
       new_lanes = λ path. record { opener = new_lane path A; other = new_lane path B };
@@ -376,8 +377,8 @@ module _ (d : Drawn) (limit : Side → ℕ) (few : (s : Side) → limit s < 2 ^ 
             seen = (h s).seen;
             fin = (h s).fin;
           }) h;
-      flow = λ at packet seen g index flow f belongs is keys left k h lanes.
-          flow_so at packet seen g index flow f belongs is keys left k (record { book = h; lanes = lanes });
+      flow = λ at packet seen g index flow f opens belongs is keys left k h lanes.
+          flow_so at packet seen g index flow f opens belongs is keys left k (record { book = h; lanes = lanes });
     }
 
     -- of an empty book, before anything was shown
@@ -393,12 +394,12 @@ module _ (d : Drawn) (limit : Side → ℕ) (few : (s : Side) → limit s < 2 ^ 
         empty B = record { infinite = refl; fin = tt; top = omega arith; octets = λ q. tt; below = λ q is. absurd (false≢true is); untold = λ r is. refl }
 
   -- as more is wanted and shown, and fewer paths are straight
-  module _ (most more : ℕ → Side → ℕ) (Straight Still : ℕ → Side → Type 0) (Shown Later : Side → ℕ → Type 0) (Ended Over : Side → Type 0)
+  module _ (most more : ℕ → Side → ℕ) (S S_later : ℕ → Type 0) (Straight Still : ℕ → Side → Type 0) (Shown Later : Side → ℕ → Type 0) (Ended Over : Side → Type 0)
       (up : (path : ℕ) (s : Side) → most path s ≤ more path s) (was : (path : ℕ) (s : Side) → Still path s → Straight path s) where
-    later_lanes : (path : ℕ) (lanes : LanesValue) → LanesFine most Straight Shown Ended path lanes → LanesFine more Still Later Over path lanes
+    later_lanes : (path : ℕ) (lanes : LanesValue) → LanesFine most S Straight Shown Ended path lanes → LanesFine more S_later Still Later Over path lanes
     later_lanes path lanes h = record { opener = one A lanes.opener h.opener; other = one B lanes.other h.other }
       where
-        one : (s : Side) (l : LaneValue) → Laned most Straight Shown Ended path s l → Laned more Still Later Over path s l
+        one : (s : Side) (l : LaneValue) → Laned most S Straight Shown Ended path s l → Laned more S_later Still Later Over path s l
         one s l h = (
           h.0,
           (
@@ -417,8 +418,8 @@ module _ (d : Drawn) (limit : Side → ℕ) (few : (s : Side) → limit s < 2 ^ 
     pub later_holds : (state : JudgedValue)
         → ((s : Side) (stream : StreamValue) → stream_in state 0 s ≡ Some stream → ((q : ℕ) → Later s q → stream.seen q ≡ true) × (Over s → is_some stream.fin ≡ true))
         → ((i : ℕ) (book : BookValue) → slice_get state.books i ≡ Some book → i ≡ 0)
-        → AllHold d (IsGood most Straight Shown Ended) (BookGood most Straight Shown Ended) (LanesFine most Straight Shown Ended) state
-        → AllHold d (IsGood more Still Later Over) (BookGood more Still Later Over) (LanesFine more Still Later Over) state
+        → AllHold d (OpensBy S) (IsGood most S Straight Shown Ended) (BookGood most S Straight Shown Ended) (LanesFine most S Straight Shown Ended) state
+        → AllHold d (OpensBy S_later) (IsGood more S_later Still Later Over) (BookGood more S_later Still Later Over) (LanesFine more S_later Still Later Over) state
     later_holds state new few h = record {
       seen = h.seen;
       books = λ i book at s.

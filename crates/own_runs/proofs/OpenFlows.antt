@@ -45,6 +45,10 @@ which_some (Some x) some = (x, refl)
 abbrev pub OpenBelongs : Flow → Type 0
 OpenBelongs f = is_some f.opened ≡ true → is_some f.belongs ≡ true
 
+-- and of a path on which so much was sent
+abbrev pub OpensBy : (ℕ → Type 0) → Flow → Type 0
+OpensBy S f = (n : ℕ) → f.opener ≡ end_of n A → is_some f.opened ≡ true → S n
+
 -- the flow of a path
 pub record HasFlow (n : ℕ) (flows : List Flow) : Type 0 where
   pub place : ℕ
@@ -138,6 +142,47 @@ module _ (d : Drawn) (U T V W : Type 0) (state : SeenFlows) (packet : ℕ) (seen
       by : (b : Bool) → begins seen found ≡ b → Each OpenBelongs (if b then begun_with state packet seen found (Asked seen) else gone_on state packet seen true found).now.flows
       by true begin = begun_each (Asked seen) begin
       by false none = gone_each found refl
+
+  -- what opens a flow is a SYN of B's on its path
+  module _ (S S_now : ℕ → Type 0) (keeps : (n : ℕ) → S n → S_now n) (new : own.from ≡ B → seen.segment.head.syn ≡ true → S_now own.path) where
+    all_keep : (flows : List Flow) → Each (OpensBy S) flows → Each (OpensBy S_now) flows
+    all_keep flows each i f at n opener some = keeps n (each i f at n opener some)
+
+    answered_opens : (path : ℕ) (flow : Flow) (a : Option Answer) → answer_of seen flow ≡ a → FlowOn d path flow → OpensBy S flow → OpensBy S_now (flow_after seen (answered state seen flow a) flow)
+    answered_opens path flow None none on opens n opener some = keeps n (opens n opener some)
+    answered_opens path flow (Some a) is on opens n opener some =
+        let parts = by seen.segment.head.syn seen.segment.head.ack_set (is_none flow.opened) (same_end seen.source flow.other) (is_acknowledged_by seen.segment.head.ack flow) is in
+        let place = same_place own.path path own.from B (sym own.source ∙ (same_end_decides seen.source flow.other).0 parts.1 ∙ on.other) in
+        let here : path ≡ n = (same_place path n A A (sym on.opener ∙ opener)).0 in
+        subst S_now (place.0 ∙ here) (new place.1 parts.0)
+      where
+        by : (syn ack none source acked : Bool) → (if not syn || (not ack || not none) then None
+            else (if not source || not acked then None else first_answer flow.opening (option_octets seen.segment.options))) ≡ Some a → (syn ≡ true) × (source ≡ true)
+        by true true true true acked is = (refl, refl)
+        by true true true false acked is = cc
+        by true true false source acked is = cc
+        by true false none source acked is = cc
+        by false ack none source acked is = cc
+
+    pub opens_only : Each (OpensBy S) state.flows → Each (OpensBy S_now) now.flows
+    opens_only each = by (begins seen found) refl
+      where
+        begun_each : (o : Option Opening) → begins seen found ≡ true → Each (OpensBy S_now) (begun_with state packet seen found o).now.flows
+        begun_each None begin = subst (λ (f : Option Found). Each (OpensBy S_now) (ended f state.flows)) (sym (begins_none d U T V W state packet seen own is h begin)) (all_keep state.flows each)
+        begun_each (Some o) begin = each_end (OpensBy S_now) state.flows (begun packet seen o (belongs_by o state.known)) (all_keep state.flows each) (λ n opener some. absurd (false≢true some))
+
+        gone_each : (f : Option Found) → found ≡ f → Each (OpensBy S_now) (gone_on state packet seen true f).now.flows
+        gone_each None e = all_keep state.flows each
+        gone_each (Some f) e =
+            let there = (found_there state.flows (ends_in seen) f e).0 in
+            let it = counted seen.is_cut true f.flow in
+            let on = h.own.flows f.index f.flow there in
+            each_set (OpensBy S_now) state.flows f.index (flow_after seen (answered state seen it (answer_of seen it)) it) (all_keep state.flows each)
+            (answered_opens on.0 it (answer_of seen it) refl (counted_on d state packet seen own h.own on.0 f.flow on.1) (each f.index f.flow there))
+
+        by : (b : Bool) → begins seen found ≡ b → Each (OpensBy S_now) (if b then begun_with state packet seen found (Asked seen) else gone_on state packet seen true found).now.flows
+        by true begin = begun_each (Asked seen) begin
+        by false none = gone_each found refl
 
   pub stays_open : (n : ℕ) → Each OpenBelongs state.flows → IsOpenOn n state.flows → IsOpenOn n now.flows
   stays_open n each f =

@@ -60,7 +60,7 @@ grown_item {X} count one xs i x = by (nat_lt (length xs) count)
     by true at = ⊎_elim (λ old. inr old) (λ new. inl (last (i - length xs) new.1)) (in_append xs (one ∷ []) i x at)
     by false at = inr at
 
-module _ (d : Drawn) (P : Seen → Type 0) (B : BookValue → Type 0) (L : ℕ → LanesValue → Type 0) where
+module _ (d : Drawn) (F : Flow → Type 0) (P : Seen → Type 0) (B : BookValue → Type 0) (L : ℕ → LanesValue → Type 0) where
   -- what a segment on a path leaves
   pub record IsLeft (path : ℕ) (told : Told) : Type 0 where
     pub keys : KeysOwn d told.keys
@@ -72,7 +72,7 @@ module _ (d : Drawn) (P : Seen → Type 0) (B : BookValue → Type 0) (L : ℕ �
     pub own : (seen : Seen) → P seen → IsOwn d seen
     pub new_lanes : (path : ℕ) → L path empty_lanes
     pub token : (wrong : WrongToken) (book : BookValue) → B book → B (token_told wrong book)
-    pub flow : (at : Option Side) (packet : ℕ) (seen : Seen) (p : P seen) (index : ℕ) (flow : Flow) → FlowOn d (own seen p).path flow → (belongs : Belongs)
+    pub flow : (at : Option Side) (packet : ℕ) (seen : Seen) (p : P seen) (index : ℕ) (flow : Flow) → FlowOn d (own seen p).path flow → F flow → (belongs : Belongs)
         → belongs.opener ≡ A → (keys : Keys) (left : Left) → KeysOwn d keys → B left.book → L (own seen p).path left.lanes
         → IsLeft (own seen p).path (judged_flow at packet seen index flow belongs keys left)
 
@@ -105,6 +105,10 @@ module _ (d : Drawn) (P : Seen → Type 0) (B : BookValue → Type 0) (L : ℕ �
       abbrev own : IsOwn d seen
       own = keep.own seen p
 
+      -- a flow of its path
+      abbrev On : Flow → Type 0
+      On flow = FlowOn d own.path flow × F flow
+
       -- ---- put back
 
       pub lanes_so : (index : ℕ) (flow : Flow) (f : FlowOn d own.path flow) (flows : List Flow) → slice_get flows index ≡ Some flow → (lanes : LanesValue)
@@ -126,36 +130,36 @@ module _ (d : Drawn) (P : Seen → Type 0) (B : BookValue → Type 0) (L : ℕ �
       })
       set_so index flow f flows there left holds i new all each (inr other) = each i new other
 
-      known_so : (index : ℕ) (flow : Flow) (f : FlowOn d own.path flow) (belongs : Belongs) → belongs.opener ≡ A → (keys : Option Keys) (book : Option BookValue)
+      known_so : (index : ℕ) (flow : Flow) (f : On flow) (belongs : Belongs) → belongs.opener ≡ A → (keys : Option Keys) (book : Option BookValue)
           (lanes : Option LanesValue) (state : JudgedValue) → slice_get state.seen.flows index ≡ Some flow → slice_get state.seen.connections belongs.connection ≡ keys → slice_get state.books belongs.connection ≡ book
           → slice_get state.lanes index ≡ lanes → AllHold state → AllHold (judged_known at packet seen index flow belongs keys book lanes state)
       known_so index flow f belongs is (Some keys) (Some book) (Some lanes) state has_flow has_keys has_book has_lanes all =
           let left : Left = record { book = book; lanes = lanes } in
           let told = judged_flow at packet seen index flow belongs keys left in
-          let it = keep.flow at packet seen p index flow f belongs is keys left (all.seen.connections belongs.connection keys has_keys)
-          (all.books belongs.connection book has_book) (lanes_so index flow f state.seen.flows has_flow lanes (all.lanes index lanes has_lanes)) in
+          let it = keep.flow at packet seen p index flow f.0 f.1 belongs is keys left (all.seen.connections belongs.connection keys has_keys)
+          (all.books belongs.connection book has_book) (lanes_so index flow f.0 state.seen.flows has_flow lanes (all.lanes index lanes has_lanes)) in
           let flows_same = key_flows belongs.connection keys.a told.keys.a state.seen in
           record {
             seen = key_so d belongs.connection keys.a told.keys.a state.seen it.keys.a all.seen;
             books = each_set B state.books belongs.connection told.left.book all.books it.book;
             lanes = subst (λ (flows : List Flow). LanesHold flows (set state.lanes index told.left.lanes)) (sym flows_same)
-                (λ i new at. set_so index flow f state.seen.flows has_flow told.left.lanes it.lanes i new state.lanes all.lanes (set_item state.lanes index i told.left.lanes new at));
+                (λ i new at. set_so index flow f.0 state.seen.flows has_flow told.left.lanes it.lanes i new state.lanes all.lanes (set_item state.lanes index i told.left.lanes new at));
           }
       known_so index flow f belongs is (Some keys) (Some book) None state has_flow has_keys has_book has_lanes all = all
       known_so index flow f belongs is (Some keys) None lanes state has_flow has_keys has_book has_lanes all = all
       known_so index flow f belongs is None book lanes state has_flow has_keys has_book has_lanes all = all
 
-      belonging_so : (index : ℕ) (flow : Flow) (f : FlowOn d own.path flow) (belongs : Option Belongs) → IfSome belongs (λ b. b.opener ≡ A) → (state : JudgedValue)
+      belonging_so : (index : ℕ) (flow : Flow) (f : On flow) (belongs : Option Belongs) → IfSome belongs (λ b. b.opener ≡ A) → (state : JudgedValue)
           → slice_get state.seen.flows index ≡ Some flow → AllHold state → AllHold (judged_belonging at packet seen index flow belongs state)
       belonging_so index flow f None is state there all = all
       belonging_so index flow f (Some belongs) is state there all =
           known_so index flow f belongs is (slice_get state.seen.connections belongs.connection) (slice_get state.books belongs.connection) (slice_get state.lanes index)
           state there refl refl refl all
 
-      in_flow_so : (index : ℕ) (flow : Option Flow) → IfSome flow (FlowOn d own.path) → (state : JudgedValue) → slice_get state.seen.flows index ≡ flow → AllHold state
+      in_flow_so : (index : ℕ) (flow : Option Flow) → IfSome flow On → (state : JudgedValue) → slice_get state.seen.flows index ≡ flow → AllHold state
           → AllHold (judged_in_flow at packet seen index flow state)
       in_flow_so index None f state there all = all
-      in_flow_so index (Some flow) f state there all = belonging_so index flow f flow.belongs f.belongs state there all
+      in_flow_so index (Some flow) f state there all = belonging_so index flow f flow.belongs f.0.belongs state there all
 
       token_so : (book : Option BookValue) (wrong : WrongToken) (books : List BookValue) → slice_get books wrong.belongs.connection ≡ book → Each B books
           → Each B (token_in book wrong books)
@@ -172,7 +176,7 @@ module _ (d : Drawn) (P : Seen → Type 0) (B : BookValue → Type 0) (L : ℕ �
       wrong_flows None state = refl
       wrong_flows (Some wrong) state = refl
 
-      place_at : (place : Option Place) (state : JudgedValue) → IfSome place (λ p. (flow : Flow) → slice_get state.seen.flows p.flow ≡ Some flow → FlowOn d own.path flow)
+      place_at : (place : Option Place) (state : JudgedValue) → IfSome place (λ p. (flow : Flow) → slice_get state.seen.flows p.flow ≡ Some flow → On flow)
           → AllHold state → AllHold (judged_place at packet seen place state)
       place_at None state on all = all
       place_at (Some place) state on all =
@@ -181,14 +185,14 @@ module _ (d : Drawn) (P : Seen → Type 0) (B : BookValue → Type 0) (L : ℕ �
           (found (slice_get told.seen.flows place.flow) (ap (λ (x : SeenFlows). slice_get x.flows place.flow) (wrong_flows place.wrong_token state)))
           told refl (wrong_so place.wrong_token state all)
         where
-          found : (o : Option Flow) → o ≡ slice_get state.seen.flows place.flow → IfSome o (FlowOn d own.path)
+          found : (o : Option Flow) → o ≡ slice_get state.seen.flows place.flow → IfSome o On
           found None same = tt
           found (Some flow) same = on flow (sym same)
 
-      pub segment_so : (state : JudgedValue) → NewBook state packet seen → AllHold state → AllHold (judged at true state packet seen)
-      segment_so state new all =
+      pub segment_so : (state : JudgedValue) → NewBook state packet seen → Each F (taken state.seen packet seen true).now.flows → AllHold state → AllHold (judged at true state packet seen)
+      segment_so state new flows all =
           subst (λ (b : Bool). AllHold (judged_taken at packet seen (taken state.seen packet seen b) state)) (sym good)
-          (place_at (taken state.seen packet seen true).place (grown now state) (place_so d state.seen packet seen own all.seen)
+          (place_at (taken state.seen packet seen true).place (grown now state) (on_place (taken state.seen packet seen true).place (place_so d state.seen packet seen own all.seen))
           (record {
             seen = taken_so d state.seen packet seen own all.seen;
             books = grown_each B (length now.connections) empty_book state.books all.books new;
@@ -198,6 +202,11 @@ module _ (d : Drawn) (P : Seen → Type 0) (B : BookValue → Type 0) (L : ℕ �
         where
           now : SeenFlows
           now = (taken state.seen packet seen true).now
+
+          on_place : (place : Option Place) → IfSome place (λ p. (flow : Flow) → slice_get now.flows p.flow ≡ Some flow → FlowOn d own.path flow)
+              → IfSome place (λ p. (flow : Flow) → slice_get now.flows p.flow ≡ Some flow → On flow)
+          on_place None on = tt
+          on_place (Some place) on = λ flow at. (on flow at, flows place.flow flow at)
 
           bound_on : (i : ℕ) (lanes : LanesValue) → AreBound state.seen.flows i lanes → AreBound now.flows i lanes
           bound_on i lanes bound =

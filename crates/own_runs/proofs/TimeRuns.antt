@@ -13,18 +13,18 @@ use Rattle.world_laws.specs.Worlds.{Turn, world_run}
 use Rattle.own_runs.specs.KeysShown.{KeysShownSo, maps_key, shows_keys}
 use Rattle.own_runs.proofs.AckMoments.{WholeComes, whole_timed}
 use Rattle.own_runs.proofs.AckRuns.{WholeTimed}
-use Rattle.own_runs.proofs.InTime.{AnswersAt, InTime, IsSynAck, KeyAt, OpensAt, ResetsAt, TimeAt, WasSaid, is_bearing}
+use Rattle.own_runs.proofs.InTime.{AnswersAt, InTime, IsSynAck, KeyAt, OpensAt, TimeAt, WasReset, WasSaid, is_bearing}
 use Rattle.own_runs.proofs.KeysSaid.{maps_some, shows_at}
 use Rattle.own_runs.proofs.Learning.{shows_key}
 use Rattle.own_runs.proofs.Moments.{WorldAlso}
 use Rattle.own_runs.proofs.ShownAcks.{world_map, both_worlds}
 
 -- what is left: a side answers a SYN that was sent; what is no SYN and no reset comes behind the SYN/ACK of its path; what bears payload or a DATA_FIN is
--- none of these, comes before each reset, and A's behind its key, or with it; B's SYN/ACK of path 0 shows its key
+-- none of these, comes before each reset behind a SYN of B's, and A's behind its key, or with it; B's SYN/ACK of path 0 shows its key
 pub record LeftAt (start : Start) (before : List Turn) (path : ℕ) (s : Side) (sg : PlainSegment) : Type 0 where
   pub answers : s ≡ B → IsSynAck sg → WasSaid start (OpensAt path) before
   pub plain : sg.syn ≡ false → sg.rst ≡ false → WasSaid start (AnswersAt path) before
-  pub bears : is_bearing sg ≡ true → (sg.syn ≡ false) × (sg.rst ≡ false) × (WasSaid start (ResetsAt path s) before → ⊥)
+  pub bears : is_bearing sg ≡ true → (sg.syn ≡ false) × (sg.rst ≡ false) × (WasReset start path s before → ⊥)
   pub key : is_bearing sg ≡ true → s ≡ A → WasSaid start KeyAt before ⊎ ((path ≡ 0) × (list_any shows_keys sg.options ≡ true))
   pub shows : s ≡ B → path ≡ 0 → sg.syn ≡ true → list_any shows_key sg.options ≡ true
 
