@@ -5,6 +5,7 @@ mod AckTrace
 mod Acking
 mod Acknowledged
 mod Bearing
+mod BearsPlain
 mod Begun
 mod CameSent
 mod Carrying

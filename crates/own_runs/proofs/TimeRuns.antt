@@ -13,28 +13,29 @@ use Rattle.world_laws.specs.Worlds.{Turn, world_run}
 use Rattle.own_runs.specs.KeysShown.{KeysShownSo, maps_key, shows_keys}
 use Rattle.own_runs.proofs.AckMoments.{WholeComes, whole_timed}
 use Rattle.own_runs.proofs.AckRuns.{WholeTimed}
+use Rattle.own_runs.proofs.BearsPlain.{BearsPlain, bears_at}
 use Rattle.own_runs.proofs.InTime.{AnswersAt, InTime, IsSynAck, KeyAt, OpensAt, TimeAt, WasReset, WasSaid, is_bearing}
 use Rattle.own_runs.proofs.KeysSaid.{maps_some, shows_at}
 use Rattle.own_runs.proofs.Learning.{shows_key}
 use Rattle.own_runs.proofs.Moments.{WorldAlso}
 use Rattle.own_runs.proofs.ShownAcks.{world_map, both_worlds}
 
--- what is left: a side answers a SYN that was sent; what is no SYN and no reset comes behind the SYN/ACK of its path; what bears payload or a DATA_FIN is
--- none of these, comes before each reset behind a SYN of B's, and A's behind its key, or with it; B's SYN/ACK of path 0 shows its key
+-- what is left: a side answers a SYN that was sent; what is no SYN and no reset comes behind the SYN/ACK of its path; what bears payload or a DATA_FIN comes
+-- before each reset behind a SYN of B's, and A's behind its key, or with it; B's SYN/ACK of path 0 shows its key
 pub record LeftAt (start : Start) (before : List Turn) (path : ℕ) (s : Side) (sg : PlainSegment) : Type 0 where
   pub answers : s ≡ B → IsSynAck sg → WasSaid start (OpensAt path) before
   pub plain : sg.syn ≡ false → sg.rst ≡ false → WasSaid start (AnswersAt path) before
-  pub bears : is_bearing sg ≡ true → (sg.syn ≡ false) × (sg.rst ≡ false) × (WasReset start path s before → ⊥)
+  pub bears : is_bearing sg ≡ true → WasReset start path s before → ⊥
   pub key : is_bearing sg ≡ true → s ≡ A → WasSaid start KeyAt before ⊎ ((path ≡ 0) × (list_any shows_keys sg.options ≡ true))
   pub shows : s ≡ B → path ≡ 0 → sg.syn ≡ true → list_any shows_key sg.options ≡ true
 
 whole_left : (start : Start) (turns : List Turn) → IsPlain start → IsWhole start → NumbersFit start → WorldAlso (LeftAt start turns) (world_run octets turns (opened_world start))
 whole_left start turns plain whole fit = ?
 
-in_time : (start : Start) (before : List Turn) (path : ℕ) (s : Side) (sg : PlainSegment) → LeftAt start before path s sg → KeysShownSo path s sg → TimeAt start before path s sg
-in_time start before path s sg left shown = record {
+in_time : (start : Start) (before : List Turn) (path : ℕ) (s : Side) (sg : PlainSegment) → LeftAt start before path s sg → KeysShownSo path s sg → BearsPlain path s sg → TimeAt start before path s sg
+in_time start before path s sg left shown plain = record {
   answers = left.answers;
-  bears = λ is. let it = left.bears is in (it.0, it.1, left.plain it.0 it.1, it.2);
+  bears = λ is. let it = plain.bears is in (it.0, it.1, left.plain it.0 it.1, left.bears is);
   key = left.key;
   keys = λ is. let it = shown.keys is in (it.1, left.plain it.1 it.2);
   first = λ is. (shown.first is, (shown.keys (maps_some sg.options is)).0);
@@ -43,9 +44,10 @@ in_time start before path s sg left shown = record {
 
 whole_comes : WholeComes
 whole_comes start turns plain whole fit =
-    world_map (λ path s sg. LeftAt start turns path s sg × KeysShownSo path s sg) (TimeAt start turns) (world_run octets turns (opened_world start))
-    (λ path s sg it. in_time start turns path s sg it.0 it.1)
-    (both_worlds (LeftAt start turns) KeysShownSo (world_run octets turns (opened_world start)) (whole_left start turns plain whole fit) (shows_at start plain whole fit turns))
+    world_map (λ path s sg. LeftAt start turns path s sg × (KeysShownSo path s sg × BearsPlain path s sg)) (TimeAt start turns) (world_run octets turns (opened_world start))
+    (λ path s sg it. in_time start turns path s sg it.0 it.1.0 it.1.1)
+    (both_worlds (LeftAt start turns) (λ path s sg. KeysShownSo path s sg × BearsPlain path s sg) (world_run octets turns (opened_world start)) (whole_left start turns plain whole fit)
+    (both_worlds KeysShownSo BearsPlain (world_run octets turns (opened_world start)) (shows_at start plain whole fit turns) (bears_at start plain.size fit turns)))
 
 pub timed : WholeTimed
 timed = whole_timed whole_comes
