@@ -84,7 +84,7 @@ use Rattle.world_laws.specs.Openings.{PathPlan, Start, new_path, opened_world, p
 use Rattle.world_laws.specs.Worlds.{Turn, WorldState, after_turn, all_over, asked, begins, crew_after, greatest, stepped}
 use Rattle.world_laws.specs.Writes.{EndView, EndWrites, Only, OnlyAt, PathView, Writes, side_of, writes}
 use Rattle.world_laws.specs.declared.member.Member.TheVariants.{App, Path}
-use Rattle.own_runs.proofs.KeyDuties.{is_events}
+use Rattle.own_runs.proofs.DutiesFew.{is_events}
 use Rattle.own_runs.proofs.KeyHears.{Waits, alone_so, answer_so, copy_waits, says_none}
 use Rattle.own_runs.proofs.Learning.{FlightTells, IsAlone, IsAnswer, Learns, LearnsAt, PathLearns, SendsSo, Tells, agenda_so, ask_so, fired_so, is_unborn, join_so, line_so, send_so, settled_so, shows_key, step_so, still_false}
 use Rattle.own_runs.proofs.Speaking.{ToSend}

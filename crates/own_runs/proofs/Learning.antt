@@ -9,7 +9,6 @@ use Rattle.link_model.specs.State.{LinkState}
 use Rattle.link_model.specs.Steps.{changed, next_number}
 use Rattle.link_model.specs.Fate.{is_altered, is_stripped}
 use Rattle.link_model.specs.declared.flight.Flight.{Flight}
-use Rattle.mptcp_options.specs.declared.capable.CapableKeys.TheVariants.{Sender}
 use Rattle.path_agenda.specs.Agenda.{announces, emission, leaves, resets, rest_of_turn, withdraws}
 use Rattle.path_agenda.specs.Items.{key_heard}
 use Rattle.path_agenda.specs.declared.duty.AskDuty.{AskDuty}
@@ -36,9 +35,7 @@ use Rattle.path_core.specs.Timer.{after_firing, template_fired, timer_fired}
 use Rattle.path_core.specs.Treated.{Treated}
 use Rattle.path_core.specs.Treating.{answered_heard, answered_item, item_of, item_passed}
 use Rattle.path_core.specs.Values.{Carried, altered, carried_by, stripped, values}
-use Rattle.path_segments.specs.Options.{PlainOption}
 use Rattle.path_segments.specs.Spelled.{PlainSegment}
-use Rattle.path_segments.specs.declared.segment.PathOption.TheVariants.{Capable}
 use Rattle.path_store.specs.declared.lines.LineAction.{LineAction}
 use Rattle.sides.specs.Side.{peer}
 use Rattle.sides.specs.declared.side.Side.TheVariants.{A, B}
@@ -61,7 +58,9 @@ use Rattle.world_laws.proofs.Lanes.Saying.{handed_kept}
 use Rattle.world_laws.proofs.Writes.Paths.{passes_no_more, writes_no_more}
 use Rattle.world_laws.proofs.Writes.Steps.{both_ends, unwritten}
 use Rattle.world_laws.specs.Writes.{EndView, EndWrites, Only, OnlyAt, PathView, Writes, copy_said, side_of, writes}
-use Rattle.own_runs.proofs.KeyDuties.{answer_calm, ask_calm, dead_calm, failing_calm, fell_calm, is_events, leave_calm, leaves_calm, left_calm, refuse_calm, resets_calm, stopped_calm, told_calm}
+pub use Rattle.own_runs.specs.KeysShown.{shows_key}
+use Rattle.own_runs.proofs.DutiesFew.{is_events}
+use Rattle.own_runs.proofs.KeyDuties.{answer_calm, ask_calm, dead_calm, failing_calm, fell_calm, leave_calm, leaves_calm, left_calm, refuse_calm, resets_calm, stopped_calm, told_calm}
 use Rattle.own_runs.proofs.Speaking.{ToSend}
 
 -- ---- ends and segments
@@ -71,10 +70,6 @@ abbrev pub is_unborn : EndPhase → Bool
 is_unborn EndPhase.Waiting = true
 is_unborn EndPhase.SynSent = true
 is_unborn _ = false
-
-abbrev pub shows_key : PlainOption → Bool
-shows_key (Capable flag_a flag_c (Sender key)) = true
-shows_key _ = false
 
 -- a SYN without RST that acknowledges nothing
 pub record IsAlone (sg : PlainSegment) : Type 0 where

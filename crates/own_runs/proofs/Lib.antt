@@ -4,6 +4,8 @@ mod AckRuns
 mod AckTrace
 mod Acking
 mod Acknowledged
+mod AnswersAsked
+mod AnswersShow
 mod Bearing
 mod BearsPlain
 mod Begun
@@ -11,6 +13,7 @@ mod CameSent
 mod Carrying
 mod ComesTimes
 mod Counted
+mod DutiesFew
 mod EndMarks
 mod EndPaths
 mod EndRuns

@@ -2,14 +2,14 @@
 use Rattle.std.specs.Prelude.{◌≡◌, ℕ, Bool, true, false, Some, List}
 use Rattle.std.specs.List.{list_any, slice_get}
 use Rattle.link_trace.specs.declared.sent.Sent.{Sent}
-use Rattle.mptcp_options.specs.declared.capable.CapableKeys.TheVariants.{Both, WithData}
+use Rattle.mptcp_options.specs.declared.capable.CapableKeys.TheVariants.{Both, Sender, WithData}
 use Rattle.path_core.specs.Octets.{made}
 use Rattle.path_segments.specs.Options.{PlainOption}
 use Rattle.path_segments.specs.Spelled.{PlainSegment}
 use Rattle.path_segments.specs.declared.segment.PathOption.TheVariants.{Capable}
 use Rattle.path_segments.specs.declared.spelling.Spelling.{Spelling}
 use Rattle.run_trace.specs.Trace.{trace_of}
-use Rattle.sides.specs.declared.side.Side.TheVariants.{A}
+use Rattle.sides.specs.declared.side.Side.TheVariants.{A, B}
 use Rattle.sides.specs.declared.side.Side.{Side}
 use Rattle.world_laws.specs.NeverFalls.{IsWhole}
 use Rattle.world_laws.specs.Openings.{Start, opened_world}
@@ -27,10 +27,16 @@ abbrev pub maps_key : PlainOption → Bool
 maps_key (Capable flag_a flag_c (WithData sender receiver len checksum)) = true
 maps_key _ = false
 
--- Both keys are shown by A, on no SYN and no reset, and with data on path 0 alone.
+-- MP_CAPABLE with the key of its sender alone
+abbrev pub shows_key : PlainOption → Bool
+shows_key (Capable flag_a flag_c (Sender key)) = true
+shows_key _ = false
+
+-- Both keys are shown by A, on no SYN and no reset, and with data on path 0 alone; there each SYN of B shows its key.
 pub record KeysShownSo (path : ℕ) (s : Side) (sg : PlainSegment) : Type 0 where
   pub keys : list_any shows_keys sg.options ≡ true → (s ≡ A) × (sg.syn ≡ false) × (sg.rst ≡ false)
   pub first : list_any maps_key sg.options ≡ true → path ≡ 0
+  pub shows : s ≡ B → path ≡ 0 → sg.syn ≡ true → list_any shows_key sg.options ≡ true
 
 -- the segment, as it was made
 pub record ShowsKeysSo (x : Sent) : Type 0 where

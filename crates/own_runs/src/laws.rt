@@ -106,8 +106,8 @@ pub fn data_acks_never_fall()
 {}
 
 /// A law: MP_CAPABLE with both keys goes out from A alone, on a segment without SYN and RST, and with data on path 0 alone (RFC 8684,
-/// section 3.1): no segment of a path that joins tells a data-level length by it. It holds after every list of turns where the script alters no
-/// payload and takes no options away, and the numbers of the start fit.
+/// section 3.1): no segment of a path that joins tells a data-level length by it. And each SYN of B on path 0 shows B's key. It holds after every
+/// list of turns where the script alters no payload and takes no options away, and the numbers of the start fit.
 pub fn the_opener_shows_both_keys()
     ensures { EachShowsKeysSo }
 {}
