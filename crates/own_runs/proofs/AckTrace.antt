@@ -55,7 +55,7 @@ use Rattle.world_laws.specs.Openings.{PathPlan, Start, path_begins}
 use Rattle.world_laws.specs.Promises.{NumbersFit}
 use Rattle.path_segments.specs.Spelling.{data_number}
 use Rattle.world_laws.proofs.Numbers.TellSmall.{IsShort, IsStray}
-use Rattle.own_runs.specs.KeysShown.{maps_key, shows_keys}
+use Rattle.own_runs.specs.KeysShown.{maps_key, shows_key, shows_keys}
 use Rattle.own_runs.proofs.AckPositions.{EndsIn, EndsOffer, IsCovered}
 use Rattle.own_runs.proofs.FinePositions.{NumberIs}
 use Rattle.own_runs.proofs.EndRuns.{TellsEnd}
@@ -64,7 +64,7 @@ use Rattle.own_runs.proofs.InTime.{AnswersPath, InTime, IsSynAck, OpensPath, Res
 use Rattle.own_runs.proofs.JudgedHere.{IsJudged, fin_here, is_judged, item_of, key_here, key_of_a, seen_here}
 use Rattle.own_runs.proofs.KeptCovers.{maps_first, shows_both}
 use Rattle.own_runs.proofs.LateJoins.{ComesBehind, Says}
-use Rattle.own_runs.proofs.Learning.{IsAlone, IsAnswer, shows_key}
+use Rattle.own_runs.proofs.Learning.{IsAlone, IsAnswer}
 use Rattle.own_runs.proofs.MapKept.{AckSays, BookGood, IsFine, IsGood, LanesFine, keep, later_holds, new_good}
 use Rattle.own_runs.proofs.MapTrace.{borne, few, good, good_at, good_from, good_path, good_values, where_in}
 use Rattle.own_runs.proofs.Moments.{IsSpoken}

@@ -15,9 +15,9 @@ use Rattle.world_laws.specs.Actors.{Actor, ActorCrew}
 use Rattle.world_laws.specs.Openings.{Start, opened_world}
 use Rattle.world_laws.specs.Worlds.{Turn, WorldState, world_run}
 use Rattle.world_laws.specs.declared.member.Member.TheVariants.{App, Path}
-use Rattle.own_runs.specs.KeysShown.{maps_key, shows_keys}
+use Rattle.own_runs.specs.KeysShown.{maps_key, shows_key, shows_keys}
 use Rattle.own_runs.proofs.LateJoins.{ComesBehind}
-use Rattle.own_runs.proofs.Learning.{IsAlone, shows_key}
+use Rattle.own_runs.proofs.Learning.{IsAlone}
 use Rattle.own_runs.proofs.Speaking.{ToSend}
 
 -- the DATA_FIN

@@ -16,18 +16,16 @@ use Rattle.own_runs.proofs.AckRuns.{WholeTimed}
 use Rattle.own_runs.proofs.BearsPlain.{BearsPlain, bears_at}
 use Rattle.own_runs.proofs.InTime.{AnswersAt, InTime, IsSynAck, KeyAt, OpensAt, TimeAt, WasReset, WasSaid, is_bearing}
 use Rattle.own_runs.proofs.KeysSaid.{maps_some, shows_at}
-use Rattle.own_runs.proofs.Learning.{shows_key}
 use Rattle.own_runs.proofs.Moments.{WorldAlso}
 use Rattle.own_runs.proofs.ShownAcks.{world_map, both_worlds}
 
 -- what is left: a side answers a SYN that was sent; what is no SYN and no reset comes behind the SYN/ACK of its path; what bears payload or a DATA_FIN comes
--- before each reset behind a SYN of B's, and A's behind its key, or with it; B's SYN/ACK of path 0 shows its key
+-- before each reset behind a SYN of B's, and A's behind its key, or with it
 pub record LeftAt (start : Start) (before : List Turn) (path : ℕ) (s : Side) (sg : PlainSegment) : Type 0 where
   pub answers : s ≡ B → IsSynAck sg → WasSaid start (OpensAt path) before
   pub plain : sg.syn ≡ false → sg.rst ≡ false → WasSaid start (AnswersAt path) before
   pub bears : is_bearing sg ≡ true → WasReset start path s before → ⊥
   pub key : is_bearing sg ≡ true → s ≡ A → WasSaid start KeyAt before ⊎ ((path ≡ 0) × (list_any shows_keys sg.options ≡ true))
-  pub shows : s ≡ B → path ≡ 0 → sg.syn ≡ true → list_any shows_key sg.options ≡ true
 
 whole_left : (start : Start) (turns : List Turn) → IsPlain start → IsWhole start → NumbersFit start → WorldAlso (LeftAt start turns) (world_run octets turns (opened_world start))
 whole_left start turns plain whole fit = ?
@@ -39,7 +37,7 @@ in_time start before path s sg left shown plain = record {
   key = left.key;
   keys = λ is. let it = shown.keys is in (it.1, left.plain it.1 it.2);
   first = λ is. (shown.first is, (shown.keys (maps_some sg.options is)).0);
-  shows = left.shows;
+  shows = shown.shows;
 }
 
 whole_comes : WholeComes
