@@ -52,8 +52,10 @@ module _ (R : ℕ → Side → PlainSegment → Type 0) (start : Start) where
     where
       by : (o : Option ToSend) → first_sends p.agenda p ≡ o → Sends (option_to_list (sent_by p)) (path_sending p)
       by None e =
-          inl (ap (λ (o : Option ToSend). option_to_list (option_map (sent_as p) (option_map (departing_as p) o))) e,
-          ap (λ (o : Option ToSend). option_map (sending_as p) o) e)
+          inl (
+            ap (λ (o : Option ToSend). option_to_list (option_map (sent_as p) (option_map (departing_as p) o))) e,
+            ap (λ (o : Option ToSend). option_map (sending_as p) o) e,
+          )
       by (Some t) e =
           let it : IfSome (sent_by p) (IsSpoken (With (path_sending p)) start) = path_sends (With (path_sending p)) start p said (subst (λ (o : Option ToSend). IfSome o Said) (sym e) both) in
           inr (sent_as p (departing_as p t), sent_so, subst (λ (o : Option Sent). IfSome o (IsSpoken (With (path_sending p)) start)) sent_is it)
@@ -250,12 +252,15 @@ module _ (start : Start) (turns : List Turn) (plain : IsPlain start) (whole : Is
           sent_is : sent (before ++ turn ∷ []) ≡ sent before
           sent_is = next_sent before turn ∙ ap (λ (xs : List Sent). sent before ++ xs) it.0 ∙ append-nil (sent before)
       by later (inr it) =
-          subst (λ (xs : List Sent). Timed most (sent before) U T S K X (xs ++ trace_of rest (after_turn octets turn (world before)))) (sym it.1)
-          (wants_at start before, low, known before U T S K X h it.0 (turn_sending turn (world before)) it.2,
-          subst (λ (w : WorldState (List ℕ)). Timed (wants_at start before) (sent before ++ it.0 ∷ []) V W R L Y (trace_of rest w)) (next_world before turn)
-          (subst (λ (xs : List Sent). Timed (wants_at start before) xs V W R L Y (trace_of rest (world (before ++ turn ∷ [])))) sent_is
-          (later (wants_at start before) (λ n t. wants_up start before (turn ∷ []) n t) V W R L Y
-          (one_more before turn U T S K X h it.0 it.2.segment it.2.also.1))))
+          subst (λ (xs : List Sent). Timed most (sent before) U T S K X (xs ++ trace_of rest (after_turn octets turn (world before)))) (sym it.1) (
+            wants_at start before,
+            low,
+            known before U T S K X h it.0 (turn_sending turn (world before)) it.2,
+            subst (λ (w : WorldState (List ℕ)). Timed (wants_at start before) (sent before ++ it.0 ∷ []) V W R L Y (trace_of rest w)) (next_world before turn)
+                (subst (λ (xs : List Sent). Timed (wants_at start before) xs V W R L Y (trace_of rest (world (before ++ turn ∷ [])))) sent_is
+                (later (wants_at start before) (λ n t. wants_up start before (turn ∷ []) n t) V W R L Y
+                (one_more before turn U T S K X h it.0 it.2.segment it.2.also.1))),
+          )
         where
           V : ℕ → Type 0
           V = λ n. U n ⊎ OpensPath it.0 it.2.segment n

@@ -155,7 +155,6 @@ module _ (p : PathState Carried) where
   first_bare [] = tt
   first_bare (d ∷ ds) = duty_bare d
 
-
 -- ---- a SYN
 
 syn_bears : (c : Profile) (s : Side) (e : PathEnd) → list_any tells_end (syn_options c s e) ≡ false

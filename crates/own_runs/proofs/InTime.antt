@@ -170,8 +170,12 @@ module _ (start : Start) (P : Sending → Type 0) (before : List Turn) (turn : T
   pub was_split : WasSaid start P (before ++ turn ∷ []) → WasSaid start P before ⊎ ((y : Sending) × (here ≡ Some y) × P y)
   was_split h =
       ⊎_elim
-      (λ last. inr (h.said, ap (λ (t : Turn). turn_sending t (world_run octets before (opened_world start))) (sym last.1)
-      ∙ ap (λ (ts : List Turn). turn_sending h.turn (world_run octets ts (opened_world start))) (sym last.0) ∙ h.sends, h.holds))
+      (λ last. inr (
+        h.said,
+        ap (λ (t : Turn). turn_sending t (world_run octets before (opened_world start))) (sym last.1)
+            ∙ ap (λ (ts : List Turn). turn_sending h.turn (world_run octets ts (opened_world start))) (sym last.0) ∙ h.sends,
+        h.holds,
+      ))
       (λ it. inl (record { more = h.more; turn = h.turn; later = it.0; is = it.1; said = h.said; sends = h.sends; holds = h.holds })) (turns_split h.more h.later before h.turn turn h.is)
 
   pub was_more : WasSaid start P before → WasSaid start P (before ++ turn ∷ [])
