@@ -60,6 +60,7 @@ mod OneConnection
 mod OpenCounts
 mod OpenFlows
 mod Openers
+mod Opening
 mod Own
 mod OwnFlows
 mod OwnOptions
