@@ -67,23 +67,31 @@ use Rattle.own_runs.proofs.Speaking.{ToSend}
 
 -- ---- ends
 
+-- an end that listens, or answered a SYN
+abbrev pub is_passive : EndPhase → Bool
+is_passive EndPhase.Listen = true
+is_passive EndPhase.SynReceived = true
+is_passive _ = false
+
 -- what a step makes of an end: it waits for an answer only where it did, with the same next position; and it is connected only where it was
 pub record Goes (e f : PathEnd) : Type 0 where
   pub unborn : is_unborn f.tcp.state ≡ true → (is_unborn e.tcp.state ≡ true) × (f.tcp.send.nxt ≡ e.tcp.send.nxt)
   pub connected : is_connected f.tcp.state ≡ true → is_connected e.tcp.state ≡ true
+  pub passive : is_passive f.tcp.state ≡ true → is_passive e.tcp.state ≡ true
 
 pub same_goes : (e f : PathEnd) → f.tcp.state ≡ e.tcp.state → f.tcp.send.nxt ≡ e.tcp.send.nxt → f.treated.items ≡ e.treated.items → Goes e f
 same_goes e f state next items = record {
   unborn = λ is. (ap is_unborn (sym state) ∙ is, next);
   connected = λ is. ap is_connected (sym state) ∙ is;
+  passive = λ is. ap is_passive (sym state) ∙ is;
 }
 
 -- where it doesn't wait any more
-born_goes : (e f : PathEnd) → is_unborn f.tcp.state ≡ false → (is_connected f.tcp.state ≡ true → is_connected e.tcp.state ≡ true) → Goes e f
-born_goes e f born connected = record { unborn = λ is. absurd (both_ways (is_unborn f.tcp.state) born is); connected = connected }
+born_goes : (e f : PathEnd) → is_unborn f.tcp.state ≡ false → (is_connected f.tcp.state ≡ true → is_connected e.tcp.state ≡ true) → (is_passive f.tcp.state ≡ true → is_passive e.tcp.state ≡ true) → Goes e f
+born_goes e f born connected passive = record { unborn = λ is. absurd (both_ways (is_unborn f.tcp.state) born is); connected = connected; passive = passive }
 
 died_goes : (e : PathEnd) → Goes e (died e)
-died_goes e = born_goes e (died e) refl (λ is. absurd (false≢true is))
+died_goes e = born_goes e (died e) refl (λ is. absurd (false≢true is)) (λ is. absurd (false≢true is))
 
 finishing_born : (state : EndPhase) → may_finish state ≡ true → is_unborn state ≡ false
 finishing_born EndPhase.Waiting is = absurd (false≢true is)
@@ -101,6 +109,19 @@ finishing_connected EndPhase.Established is = refl
 finishing_connected EndPhase.CloseWait is = refl
 finishing_connected EndPhase.Waiting is = absurd (false≢true is)
 finishing_connected _ is = absurd (false≢true is)
+
+finished_active : (state : EndPhase) → may_finish state ≡ true → is_passive (after_finish state) ≡ false
+finished_active EndPhase.Established is = refl
+finished_active EndPhase.CloseWait is = refl
+finished_active EndPhase.Waiting is = absurd (false≢true is)
+finished_active _ is = absurd (false≢true is)
+
+passed_passive : (state : EndPhase) → is_passive (after_fin_passed state) ≡ is_passive state
+passed_passive EndPhase.Established = refl
+passed_passive EndPhase.FinWait1 = refl
+passed_passive EndPhase.FinWait2 = refl
+passed_passive EndPhase.Waiting = refl
+passed_passive _ = refl
 
 passed_connected : (state : EndPhase) → is_connected (after_fin_passed state) ≡ is_connected state
 passed_connected EndPhase.Established = refl
@@ -147,6 +168,7 @@ module _ (U T : Type 0) where
   pub record OpensAt (ds : List Duty) (p : PathState Carried) : Type 0 where
     pub copies : Every FlightTells p.link.under_way
     pub heard : is_connected p.a.tcp.state ≡ true → T
+    pub active : is_passive p.a.tcp.state ≡ false
     pub next : is_unborn p.a.tcp.state ≡ true → p.a.tcp.send.nxt ≡ 1
     pub born : is_unborn p.b.tcp.state ≡ false
 
@@ -165,25 +187,27 @@ module _ (U T : Type 0) where
   put_so A e ds es p g calm h = record {
     copies = h.copies;
     heard = λ is. h.heard (g.connected is);
+    active = still_false (is_passive p.a.tcp.state) (is_passive e.tcp.state) g.passive h.active;
     next = λ is. let was = g.unborn is in was.1 ∙ h.next was.0;
     born = h.born;
   }
   put_so B e ds es p g calm h = record {
     copies = h.copies;
     heard = h.heard;
+    active = h.active;
     next = h.next;
     born = still_false (is_unborn p.b.tcp.state) (is_unborn e.tcp.state) (λ is. (g.unborn is).0) h.born;
   }
 
   any_agenda : (ds fs : List Duty) (p : PathState Carried) → OpensAt ds p → OpensAt ds (with_agenda fs p)
-  any_agenda ds fs p h = record { copies = h.copies; heard = h.heard; next = h.next; born = h.born }
+  any_agenda ds fs p h = record { copies = h.copies; heard = h.heard; active = h.active; next = h.next; born = h.born }
 
   pub goes_so : (s : Side) (e : PathEnd) (es : List Duty) (p : PathState Carried) → Goes (end_at s p) e → Calmer p.agenda es → PathOpens p → PathOpens (goes_on s e es p)
   goes_so s e es p g calm h = any_agenda es es (with_end s e p) (put_so s e p.agenda es p g calm h)
 
   calmer_so : (ds es : List Duty) (p : PathState Carried) → Calmer ds es → OpensAt ds p → OpensAt es p
   calmer_so ds es p calm h =
-      record { copies = h.copies; heard = h.heard; next = h.next; born = h.born }
+      record { copies = h.copies; heard = h.heard; active = h.active; next = h.next; born = h.born }
 
   pub agenda_so : (es : List Duty) (p : PathState Carried) → Calmer p.agenda es → PathOpens p → PathOpens (with_agenda es p)
   agenda_so es p calm h = any_agenda es es p (calmer_so p.agenda es p calm h)
@@ -215,9 +239,9 @@ module _ (U T : Type 0) where
   sent_so : (s : Side) (sg : PlainSegment) (e : PathEnd) (es : List Duty) (p : PathState Carried) → Tells s sg → Goes (end_at s p) e
       → Calmer p.agenda es → PathOpens p → PathOpens (sent_on values s sg e es p)
   sent_so A sg e es p tells g calm h =
-      let n = goes_so A e es p g calm h in record { copies = sent_copies A sg p tells h.copies; heard = n.heard; next = n.next; born = n.born }
+      let n = goes_so A e es p g calm h in record { copies = sent_copies A sg p tells h.copies; heard = n.heard; active = n.active; next = n.next; born = n.born }
   sent_so B sg e es p tells g calm h =
-      let n = goes_so B e es p g calm h in record { copies = sent_copies B sg p tells h.copies; heard = n.heard; next = n.next; born = n.born }
+      let n = goes_so B e es p g calm h in record { copies = sent_copies B sg p tells h.copies; heard = n.heard; active = n.active; next = n.next; born = n.born }
 
   -- one that is no SYN tells nothing
   no_syn : (s : Side) (sg : PlainSegment) → sg.syn ≡ false → Tells s sg
@@ -249,6 +273,7 @@ module _ (U T : Type 0) where
       record {
         copies = subst (λ (l : LinkState Carried). Every FlightTells l.under_way) (sym linked) h.copies;
         heard = λ is. h.heard (both.0.connected is);
+        active = still_false (is_passive p.a.tcp.state) (is_passive q.a.tcp.state) both.0.passive h.active;
         next = λ is. let was = both.0.unborn is in was.1 ∙ h.next was.0;
         born = still_false (is_unborn p.b.tcp.state) (is_unborn q.b.tcp.state) (λ is. (both.1.unborn is).0) h.born;
       }
@@ -266,7 +291,7 @@ module _ (U T : Type 0) where
   item_goes s (Some _) p = same_goes _ _ refl refl refl
 
   fin_goes : (s : Side) (b : Bool) (p : PathState Carried) → Goes (end_at s p) (record (end_at s p) { tcp = (if b then after_passing_fin (end_at s p).tcp else (end_at s p).tcp) })
-  fin_goes s true p = record { unborn = λ is. (sym (passed_unborn (end_at s p).tcp.state) ∙ is, refl); connected = λ is. sym (passed_connected (end_at s p).tcp.state) ∙ is }
+  fin_goes s true p = record { unborn = λ is. (sym (passed_unborn (end_at s p).tcp.state) ∙ is, refl); connected = λ is. sym (passed_connected (end_at s p).tcp.state) ∙ is; passive = λ is. sym (passed_passive (end_at s p).tcp.state) ∙ is }
   fin_goes s false p = same_goes _ _ refl refl refl
 
   passed_so : (d : Duty) (ds : List Duty) (p : PathState Carried) → OpensAt ds p → OpensAt ds (passed d p)
@@ -341,7 +366,7 @@ module _ (U T : Type 0) where
     -- bytes are granted to an end alone that may finish
     granted_so : (s : Side) (o : Option Grant) → may_finish (end_at s p).tcp.state ≡ true → PathOpens (answered_grant s o r p)
     granted_so s None may = same_so s _ (left p) refl refl refl (λ c. left_calm p c)
-    granted_so s (Some grant) may = goes_so s _ p.agenda p (born_goes _ _ (finishing_born (end_at s p).tcp.state may) (λ is. is)) (λ c. c) h
+    granted_so s (Some grant) may = goes_so s _ p.agenda p (born_goes _ _ (finishing_born (end_at s p).tcp.state may) (λ is. is) (λ is. is)) (λ c. c) h
 
     data_so : (s : Side) (o : Option Record) → data_stands p.profile s (end_at s p) o ≡ true → SendsSo p (unsent_sends s o) → PathOpens (answered_data values s o r p)
     data_so s (Some unsent) stood says = sent_so s _ _ p.agenda p says (occasion_goes Occasion.Unsent p.clock (unsent_segment s p) (end_at s p)) (λ c. c) h
@@ -356,21 +381,26 @@ module _ (U T : Type 0) where
         waits _ is = absurd (false≢true is)
 
         by : (b : Bool) → is_waiting e.tcp.state ≡ b → Goes e (record e { tcp = (if b then after_begin e.tcp else e.tcp); modes = with_keys keys e.modes })
-        by true is = record { unborn = λ un. (waits e.tcp.state is, refl); connected = λ is. absurd (false≢true is) }
+        by true is = record { unborn = λ un. (waits e.tcp.state is, refl); connected = λ is. absurd (false≢true is); passive = λ is. absurd (false≢true is) }
         by false is = same_goes _ _ refl refl refl
 
     pub join_so : (dead living : List Duty) → Calmer p.agenda dead → Calmer p.agenda living → PathOpens (join_begun r dead living p)
     join_so dead living to_dead to_living =
-        either_so (is_never r) _ _ (goes_so A (never_joined r p.a) dead p (born_goes _ _ refl (λ is. absurd (false≢true is))) to_dead h)
+        either_so (is_never r) _ _ (goes_so A (never_joined r p.a) dead p (born_goes _ _ refl (λ is. absurd (false≢true is)) (λ is. absurd (false≢true is))) to_dead h)
         (goes_so A (opened_by (keys_begun r) p.a) living p (opened_goes (keys_begun r) p.a) to_living h)
 
     -- B answers a join
     joined_goes : (e : PathEnd) (keys : KeyPair) (asked : JoinSyn) → Goes e (joined_by keys asked e)
-    joined_goes e keys asked = by (is_listening e.tcp.state)
+    joined_goes e keys asked = by (is_listening e.tcp.state) refl
       where
-        by : (b : Bool) → Goes e (record e { tcp = (if b then after_syn (unkept None) (syn_of_window e.treated.window) e.tcp else e.tcp); modes = record (with_keys keys e.modes) { peer_nonce = asked.nonce; backup_heard = asked.backup } })
-        by true = born_goes _ _ refl (λ is. absurd (false≢true is))
-        by false = same_goes _ _ refl refl refl
+        listens : (state : EndPhase) → is_listening state ≡ true → is_passive state ≡ true
+        listens EndPhase.Listen is = refl
+        listens EndPhase.Waiting is = absurd (false≢true is)
+        listens _ is = absurd (false≢true is)
+
+        by : (b : Bool) → is_listening e.tcp.state ≡ b → Goes e (record e { tcp = (if b then after_syn (unkept None) (syn_of_window e.treated.window) e.tcp else e.tcp); modes = record (with_keys keys e.modes) { peer_nonce = asked.nonce; backup_heard = asked.backup } })
+        by true is = born_goes _ _ refl (λ is. absurd (false≢true is)) (λ passive. listens e.tcp.state is)
+        by false is = same_goes _ _ refl refl refl
 
     joined_so : (s : Side) (o : Option KeyPair) (asked : Option JoinSyn) → PathOpens (join_taken s o asked r p)
     joined_so s (Some keys) (Some asked) = goes_so s _ _ p (joined_goes (end_at s p) keys asked) (λ c. answer_calm p c s) h
@@ -406,7 +436,8 @@ module _ (U T : Type 0) where
     send_so (SendDuty.Resend s) stood says = sent_so s _ _ (left p) p says (occasion_goes (resend_occasion (end_at s p)) p.clock (resend_of s p) (end_at s p)) (λ c. left_calm p c) h
     send_so (SendDuty.Fin s) stood says =
         sent_so s _ _ (left p) p says (born_goes _ _ (finished_born (end_at s p).tcp.state (and_parts (may_finish (end_at s p).tcp.state) _ stood).0)
-        (λ is. finishing_connected (end_at s p).tcp.state (and_parts (may_finish (end_at s p).tcp.state) _ stood).0)) (λ c. left_calm p c) h
+        (λ is. finishing_connected (end_at s p).tcp.state (and_parts (may_finish (end_at s p).tcp.state) _ stood).0)
+        (λ is. absurd (both_ways _ (finished_active (end_at s p).tcp.state (and_parts (may_finish (end_at s p).tcp.state) _ stood).0) is))) (λ c. left_calm p c) h
     send_so (SendDuty.BreakReset s reason) stood says = reset_so s (Some reason) (leaves s) (λ c. leaves_calm p c s)
     send_so (SendDuty.Reset s) stood says = reset_so s None _ (λ c. leave_calm p c s)
     send_so (SendDuty.ResetNoted s) stood says = reset_so s None _ (λ c. leave_calm p c s)
@@ -444,6 +475,7 @@ module _ (U T : Type 0) where
         record {
           copies = Every-nil FlightTells;
           heard = λ is. h.heard (a.connected is);
+          active = still_false (is_passive p.a.tcp.state) (is_passive (died_unless_dead p.a).tcp.state) a.passive h.active;
           next = λ is. let was = a.unborn is in was.1 ∙ h.next was.0;
           born = still_false (is_unborn p.b.tcp.state) (is_unborn (died_unless_dead p.b).tcp.state) (λ is. (b.unborn is).0) h.born;
         }
@@ -463,7 +495,7 @@ module _ (U T : Type 0) where
     fired_so s = new_so s (after_firing p.clock (end_at s p)) (template_fired (is_sixth (end_at s p).tcp) s) (fires (is_sixth (end_at s p).tcp)) (by (is_sixth (end_at s p).tcp) s)
       where
         fires : (b : Bool) → Goes (end_at s p) (record (end_at s p) { tcp = (if b then after_death true (end_at s p).tcp else after_expiry p.clock (end_at s p).tcp) })
-        fires true = born_goes _ _ refl (λ is. absurd (false≢true is))
+        fires true = born_goes _ _ refl (λ is. absurd (false≢true is)) (λ is. absurd (false≢true is))
         fires false = same_goes _ _ refl refl refl
 
         by : (b : Bool) (s : Side) → is_calm (template_fired b s) ≡ true
