@@ -61,6 +61,7 @@ mod OpenCounts
 mod OpenFlows
 mod Openers
 mod Opening
+mod OpeningHears
 mod Own
 mod OwnFlows
 mod OwnOptions
