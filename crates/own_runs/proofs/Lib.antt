@@ -62,6 +62,7 @@ mod OpenFlows
 mod Openers
 mod Opening
 mod OpeningHears
+mod OpeningRuns
 mod Own
 mod OwnFlows
 mod OwnOptions

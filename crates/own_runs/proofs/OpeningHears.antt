@@ -89,6 +89,39 @@ taken_means true rst items m e n is = by m is
     by Meaning.Ignored is = over _ Meaning.Ignored is
     by m is = over _ m is
 
+pub taken_opens : (joined rst : Bool) (items : List Heard) (m : Meaning) (e : PathEnd) → taken_as (judged_of joined rst items m e) ≡ Meaning.Opens → m ≡ Meaning.Opens
+taken_opens false rst items m e is = is
+taken_opens true rst items m e is = by m is
+  where
+    asks : (b : Bool) → taken_as (if b then judged.Asks else judged.Lacks) ≡ Meaning.Opens → ⊥
+    asks true is = cc
+    asks false is = cc
+
+    answers : (b : Bool) (k : ℕ) → taken_as (if b then judged.As (Meaning.Accepts k) else judged.Forged) ≡ Meaning.Opens → ⊥
+    answers true k is = cc
+    answers false k is = cc
+
+    takes : (b c : Bool) (k l : ℕ) → taken_as (if b then judged.As Meaning.Ignored else (if c then judged.Forged else judged.As (Meaning.Taken k l))) ≡ Meaning.Opens → ⊥
+    takes true c k l is = cc
+    takes false true k l is = cc
+    takes false false k l is = cc
+
+    over : (b : Bool) (m : Meaning) → taken_as (if b then judged.As Meaning.Ignored else judged.As m) ≡ Meaning.Opens → m ≡ Meaning.Opens
+    over true m is = cc
+    over false m is = is
+
+    by : (m : Meaning) → taken_as (join_judged rst items m e) ≡ Meaning.Opens → m ≡ Meaning.Opens
+    by Meaning.Opens is = absurd (asks _ is)
+    by (Meaning.Accepts k) is = absurd (answers _ k is)
+    by Meaning.RepeatedSyn is = is
+    by (Meaning.Taken k l) is = absurd (takes _ _ k l is)
+    by Meaning.Ignored is = over _ Meaning.Ignored is
+    by m is = over _ m is
+
+-- what opens an end came to one that listens
+pub opens_passive : (s : EndState) (c : Copy) → meaning_of c s ≡ Meaning.Opens → is_passive s.state ≡ true
+opens_passive s c is = ap is_passive (subst (Means c s) is (means c s)).0
+
 -- ---- what it makes of an end's subflow
 
 abbrev pub IsAccepted : Meaning → Type 0
