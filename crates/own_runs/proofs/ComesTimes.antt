@@ -1,5 +1,5 @@
 -- At each moment of a run each SYN of a join that is sent next comes behind the SYN/ACK of path 0, and that behind A's SYN, as its turns sent them.
-use Rattle.std.proofs.Common.{◌≡◌, refl, sym, ap, ◌∙◌, subst, ℕ, ⊎_elim, ◌⊎◌, Bool, true, false, Option, Some, None, option_map, List, [], ◌∷◌, ◌++◌, append-nil, append_assoc}
+use Rattle.std.proofs.Common.{◌≡◌, refl, sym, ap, ◌∙◌, subst, ℕ, zero, suc, map, ⊎_elim, ◌⊎◌, Bool, true, false, Option, Some, None, option_map, List, [], ◌∷◌, ◌++◌, append-nil, append_assoc}
 use Rattle.std.specs.List.{slice_get}
 use Rattle.std.specs.Option.{IfSome}
 use Rattle.actor_desk.specs.Books.{books_in}
@@ -50,6 +50,12 @@ module _ (Q : ℕ → Side → PlainSegment → Type 0) where
   also_shown w also i c at =
       let found = in_map shown_crew w.crew i c at in
       subst (λ (y : ActorCrew (List ℕ)). MemberAlso Q y.member) found.2 (member_also found.0.member (also i found.0 found.1))
+
+-- what is shown of an actor
+pub crew_at : (crew : List (ActorCrew Carried)) (i : ℕ) → slice_get (map shown_crew crew) i ≡ option_map shown_crew (slice_get crew i)
+crew_at [] i = refl
+crew_at (c ∷ crew) zero = refl
+crew_at (c ∷ crew) (suc i) = crew_at crew i
 
 -- ---- at each moment
 
@@ -130,7 +136,7 @@ module _ (start : Start) (size : HasRoom start) (fit : NumbersFit start) where
   learns_from (turn ∷ rest) before h =
       subst (λ (ts : List Turn). Learns start (Opened ts) (Answered ts) (v ts)) (append_assoc before (turn ∷ []) rest) (learns_from rest (before ++ turn ∷ []) (learns_next before turn h))
 
-  learns_at : (turns : List Turn) → Learns start (Opened turns) (Answered turns) (v turns)
+  pub learns_at : (turns : List Turn) → Learns start (Opened turns) (Answered turns) (v turns)
   learns_at turns = learns_from turns [] (more_learns start ⊥ ⊥ (Opened []) (Answered []) (opened_world start) (λ no. absurd no) (λ no. absurd no) (opened_learns start))
 
   pub comes_at : (turns : List Turn) → WorldAlso (ComesAt start turns) (world_run octets turns (opened_world start))

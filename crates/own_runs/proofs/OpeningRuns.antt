@@ -1,5 +1,5 @@
 -- At every moment of a run A's end of a path has both SYNs acknowledged only where B's SYN/ACK of that path was sent, which acknowledges A's SYN.
-use Rattle.std.proofs.Common.{◌≡◌, refl, sym, ap, ◌∙◌, subst, ℕ, ◌+◌, ◌==◌, inl, inr, ◌⊎◌, ⊎_elim, Bool, true, false, if◌then◌else◌, Option, Some, None, is_some, List, [], ◌∷◌, length, map}
+use Rattle.std.proofs.Common.{append_assoc, append-nil, ◌≡◌, refl, sym, ap, ◌∙◌, subst, ℕ, ◌+◌, ◌==◌, inl, inr, ◌⊎◌, ⊎_elim, Bool, true, false, if◌then◌else◌, Option, Some, None, is_some, List, [], ◌∷◌, ◌++◌, length, map}
 use Rattle.std.specs.List.{flat_map, list_any, slice_get}
 use Rattle.std.proofs.lemmas.Bool.{and_parts, both_ways, false≢true}
 use Rattle.std.proofs.lemmas.Option.{same_Some}
@@ -90,6 +90,24 @@ use Rattle.own_runs.proofs.Opening.{FlightTells, OpensAt, PathOpens, SendsSo, Te
 use Rattle.own_runs.proofs.OpeningHears.{IsAccepted, Joins, answered_so as syn_answered, copy_joins, opens_passive, taken_means, taken_opens}
 use Rattle.own_runs.proofs.Speaking.{ToSend}
 use Rattle.path_core.specs.Standing.{is_connected}
+use Rattle.std.specs.Option.{IfSome, option_map}
+use Rattle.path_core.specs.Octets.{octets}
+use Rattle.path_core.specs.Said.{said_by}
+use Rattle.path_core.specs.Shown.{shown_path}
+use Rattle.path_core.specs.State.{path_of}
+use Rattle.stream_lanes.proofs.Lists.{Every-map}
+use Rattle.world_laws.proofs.Promises.Made.{run_fresh}
+use Rattle.world_laws.proofs.Rounds.Frame.{first_keeps, takes_keeps}
+use Rattle.world_laws.specs.Fresh.{shown_crew, shown_member}
+use Rattle.world_laws.specs.Promises.{HasRoom, NumbersFit}
+use Rattle.world_laws.specs.Worlds.{world_run}
+use Rattle.path_core.specs.Start.{first_state}
+use Rattle.path_core.specs.Steps.{begins_turn}
+use Rattle.world_laws.specs.Openings.{joins_at}
+use Rattle.own_runs.proofs.ComesTimes.{crew_at, learns_at}
+use Rattle.own_runs.proofs.NextTrace.{run_append}
+use Rattle.own_runs.proofs.InTime.{AnswersAt, IsSynAck, OpensAt as SynAt, WasSaid, crew_sending, member_sending, sending_as, turn_sending, was_last, was_more}
+use Rattle.own_runs.proofs.Moments.{end_shown, first_same}
 
 -- ---- paths
 
@@ -214,3 +232,151 @@ module _ (U T : Type 0) where
 
   pub next_so : (p : PathState Carried) → PathOpens U T p → PathOpens U T (next_round p)
   next_so p h = begins_so (record p { clock = p.until; until = p.until + 100 }) (record { copies = h.copies; heard = h.heard; active = h.active; next = h.next; born = h.born })
+
+-- ---- worlds
+
+module _ (U T V W : Type 0) (u : U → V) (t : T → W) where
+  more_tells : (s : Side) (segment : PlainSegment) → Tells U T s segment → Tells V W s segment
+  more_tells A segment tells = λ is. u (tells is)
+  more_tells B segment tells = λ is. t (tells is)
+
+  more_path : (p : PathState Carried) → PathOpens U T p → PathOpens V W p
+  more_path p h = record {
+    copies = Every-map (λ f tells. more_tells (peer f.to) f.carried.segment tells) h.copies;
+    heard = λ is. t (h.heard is);
+    active = h.active;
+    next = h.next;
+    born = h.born;
+  }
+
+module _ (start : Start) (size : HasRoom start) (fit : NumbersFit start) where
+  abbrev v : List Turn → WorldState Carried
+  v before = world_run values before (opened_world start)
+
+  abbrev pub Opened : List Turn → ℕ → Type 0
+  Opened before n = WasSaid start (SynAt n) before
+
+  abbrev pub Answered : List Turn → ℕ → Type 0
+  Answered before n = WasSaid start (AnswersAt n) before
+
+  abbrev pub MemberOpens : List Turn → Actor Carried → Type 0
+  MemberOpens before (App a) = Unit {0}
+  MemberOpens before (Path p) = PathOpens (Opened before (path_of p)) (Answered before (path_of p)) p
+
+  abbrev pub WorldOpens : List Turn → WorldState Carried → Type 0
+  WorldOpens before w = (i : ℕ) (c : ActorCrew Carried) → slice_get w.crew i ≡ Some c → MemberOpens before c.member
+
+  module _ (before : List Turn) (turn : Turn) where
+    abbrev later : List Turn
+    later = before ++ turn ∷ []
+
+    more_member : (m : Actor Carried) → MemberOpens before m → MemberOpens later m
+    more_member (App a) h = tt
+    more_member (Path p) h =
+        more_path (Opened before (path_of p)) (Answered before (path_of p)) (Opened later (path_of p)) (Answered later (path_of p)) (was_more start (SynAt (path_of p)) before turn)
+        (was_more start (AnswersAt (path_of p)) before turn) p h
+
+    next_member : (m : Actor Carried) → MemberOpens later m → MemberOpens later (member_next m)
+    next_member (App a) h = tt
+    next_member (Path p) h = by (first_keeps (record p { clock = p.until; until = p.until + 100 })).2 (next_so (Opened later (path_of p)) (Answered later (path_of p)) p h)
+      where
+        by : path_of (next_round p) ≡ path_of p → PathOpens (Opened later (path_of p)) (Answered later (path_of p)) (next_round p) → MemberOpens later (Path (next_round p))
+        by same h = subst (λ (n : ℕ). PathOpens (Opened later n) (Answered later n) (next_round p)) (sym same) h
+
+    -- what a path's step sends is told by the turn
+    module _ (actor : ℕ) (is_turn : turn ≡ Turn.Step actor) (c : ActorCrew Carried) (there : slice_get (v before).crew actor ≡ Some c) (p : PathState Carried) (is_path : c.member ≡ Path p) where
+      turn_sends : (t : ToSend) → first_sends p.agenda p ≡ Some t → turn_sending turn (world_run octets before (opened_world start)) ≡ Some (sending_as (shown_path p) t)
+      turn_sends t next =
+          ap (λ (x : Turn). turn_sending x (world_run octets before (opened_world start))) is_turn
+          ∙ ap (λ (w : WorldState (List ℕ)). crew_sending (slice_get w.crew actor)) (run_fresh start before size fit)
+          ∙ ap crew_sending (crew_at (v before).crew actor ∙ ap (option_map shown_crew) there)
+          ∙ ap (λ (m : Actor Carried). member_sending (shown_member m)) is_path
+          ∙ ap (λ (o : Option ToSend). option_map (sending_as (shown_path p)) o) (first_same p.agenda p ∙ next)
+
+      same_segment : (t : ToSend) → segment_sent (shown_path p) t ≡ segment_sent p t
+      same_segment t = ap (said_by t.kind p.profile t.from) (sym (end_shown t.from p))
+
+      says : SendsSo (Opened later (path_of p)) (Answered later (path_of p)) p (first_sends p.agenda p)
+      says = by (first_sends p.agenda p) refl
+        where
+          tells : (s : Side) (t : ToSend) → t.from ≡ s → first_sends p.agenda p ≡ Some t → Tells (Opened later (path_of p)) (Answered later (path_of p)) s (segment_sent p t)
+          tells A t of next = λ is.
+              was_last start (SynAt (path_of p)) before turn (sending_as (shown_path p) t) (turn_sends t next) (refl, of, subst IsAlone (sym (same_segment t)) is)
+          tells B t of next = λ is.
+              was_last start (AnswersAt (path_of p)) before turn (sending_as (shown_path p) t) (turn_sends t next) (refl, of, subst IsSynAck (sym (same_segment t)) is)
+
+          by : (o : Option ToSend) → first_sends p.agenda p ≡ o → IfSome o (λ t. Tells (Opened later (path_of p)) (Answered later (path_of p)) t.from (segment_sent p t))
+          by None next = tt
+          by (Some t) next = tells t.from t refl next
+
+      takes_path : (r : Reply) → IsSettled p → MemberOpens before (Path p) → MemberOpens later (member_takes values r (Path p))
+      takes_path r settles h =
+          subst (λ (n : ℕ). PathOpens (Opened later n) (Answered later n) (takes values r p)) (sym (takes_keeps values r p).2)
+          (takes_so (Opened later (path_of p)) (Answered later (path_of p)) r p settles says (more_member (Path p) h))
+
+    -- after the turn
+    module _ (met : WorldMet start.key_a start.key_b (v before)) (h : WorldOpens before (v before)) where
+      same_next : WorldOpens later (v before)
+      same_next i c at = more_member c.member (h i c at)
+
+      takes_member : (actor : ℕ) → turn ≡ Turn.Step actor → (r : Reply) (c : ActorCrew Carried) → slice_get (v before).crew actor ≡ Some c → MemberOpens later (member_takes values r c.member)
+      takes_member actor is_turn r c there = by c.member refl (met.keys.crew.each actor c there) (h actor c there)
+        where
+          by : (m : Actor Carried) → c.member ≡ m → MemberIs start.key_a start.key_b true (books_in (v before).books) m → MemberOpens before m → MemberOpens later (member_takes values r m)
+          by (App a) is_app is opens = tt
+          by (Path p) is_path is opens = takes_path actor is_turn c there p is_path r is.settled opens
+
+      step_next : (actor : ℕ) → turn ≡ Turn.Step actor → (o : Option (ActorCrew Carried)) → slice_get (v before).crew actor ≡ o → WorldOpens later (stepped values actor o (v before))
+      step_next actor is_turn None there = same_next
+      step_next actor is_turn (Some c) there = by (member_asks values c.member) refl
+        where
+          by : (o : Option Ask) → member_asks values c.member ≡ o → WorldOpens later (asked values actor o c (v before))
+          by None asks = same_next
+          by (Some x) asks = λ i d at.
+              ⊎_elim
+              (λ here. subst (λ (y : ActorCrew Carried). MemberOpens later y.member) here.1 (takes_member actor is_turn (reply_of (books_in (v before).books) x) c there))
+              (λ other. more_member d.member (h i d other.1))
+              (in_set (v before).crew actor (crew_after values x (v before).books c) i d at)
+
+      turn_next : WorldOpens later (after_turn values turn (v before))
+      turn_next = by turn refl
+        where
+          round : (b : Bool) → WorldOpens later (if b then record (v before) { crew = map (begins (greatest 0 (v before).crew)) (v before).crew } else v before)
+          round false = same_next
+          round true = λ i d at.
+              let found = in_map (begins (greatest 0 (v before).crew)) (v before).crew i d at in
+              subst (λ (y : ActorCrew Carried). MemberOpens later y.member) found.2 (next_member found.0.member (more_member found.0.member (h i found.0 found.1)))
+
+          by : (t : Turn) → turn ≡ t → WorldOpens later (after_turn values t (v before))
+          by (Turn.Step actor) is_turn = step_next actor is_turn (slice_get (v before).crew actor) refl
+          by Turn.Round is_turn = round (all_over (v before).crew)
+
+  not_connected : (o : Option ℕ) → is_connected (first_state o) ≡ false
+  not_connected None = refl
+  not_connected (Some tick) = refl
+
+  not_passive : (o : Option ℕ) → is_passive (first_state o) ≡ false
+  not_passive None = refl
+  not_passive (Some tick) = refl
+
+  opened_so : WorldOpens [] (opened_world start)
+  opened_so = opened_actors (λ actor c. MemberOpens [] c.member) start tt tt (λ number plan there. path number plan)
+    where
+      path : (number : ℕ) (plan : PathPlan) → MemberOpens [] (new_path start number plan).member
+      path number plan = begun (path_of {C = Carried} (begins_turn (waiting_path (path_begins start number plan) start.lines)))
+        where
+          begun : (n : ℕ) → PathOpens (Opened [] n) (Answered [] n) (begins_turn (waiting_path (path_begins start number plan) start.lines))
+          begun n =
+              begins_so (Opened [] n) (Answered [] n) (waiting_path (path_begins start number plan) start.lines)
+              (record { copies = Every-nil (FlightTells (Opened [] n) (Answered [] n)); heard = λ is. absurd (both_ways _ (not_connected (joins_at number plan.join)) is); active = not_passive (joins_at number plan.join); next = λ is. refl; born = refl })
+
+  opens_from : (rest before : List Turn) → WorldOpens before (v before) → WorldOpens (before ++ rest) (v (before ++ rest))
+  opens_from [] before h = subst (λ (ts : List Turn). WorldOpens ts (v ts)) (sym (append-nil before)) h
+  opens_from (turn ∷ rest) before h =
+      subst (λ (ts : List Turn). WorldOpens ts (v ts)) (append_assoc before (turn ∷ []) rest)
+      (opens_from rest (before ++ turn ∷ [])
+      (subst (WorldOpens (before ++ turn ∷ [])) (sym (run_append before (turn ∷ []) (opened_world start))) (turn_next before turn (learns_at start size fit before).met h)))
+
+  -- at every moment
+  pub opens_at : (turns : List Turn) → WorldOpens turns (v turns)
+  opens_at turns = opens_from turns [] opened_so
