@@ -2,8 +2,8 @@
 --
 -- `givers_step` and `workers_step` find the seat's place once; what is left of a step is a table by cases of what the other one knows.
 use Rattle.berth.proofs.Words.{◌≡◌, refl, sym, ◌∙◌, ap, subst, ℕ, zero, suc, ◌⊎◌, inl, inr, Bool, true, false, List, [], ◌∷◌, Option, Some, None, eqb, ◌≢◌, ne_eqb, set, ◌++◌, arith}
-use Rattle.berth.proofs.Words.{slice_index, some, none, some-injective, some-ne-none, get_elem?, either, State, Me, Act, keeps, takes, gives, Allows, Valid, homes_after, carried_after, opening, Splits, exchanged, rest, given, HasDone, HasJob}
-use Rattle.berth.proofs.Words.{View, Both, Rests, Opened, Awaits, Free, Works, Mine, Home, OpenedWhere, IsOpened, IsGiven, FetchedWhere, IsFetched, AtRest, IsSame, TakenWhere, IsTaken, IsFree, IsGivers, IsWorkers, IsWork, IsDone, Stands, AreSeated, IsBerthed}
+use Rattle.berth.proofs.Words.{slice_index, some, none, some-injective, some-ne-none, get_elem?, either, Act, keeps, takes, gives, Allows, Valid, homes_after, carried_after, opening, Splits, exchanged, rest, given, HasDone, HasJob}
+use Rattle.berth.proofs.Words.{View, Both, Rests, Opened, Awaits, Free, Works, Mine, Home, OpenedWhere, IsOpened, IsGiven, RecalledWhere, IsRecalled, HasBack, FetchedWhere, IsFetched, AtRest, IsSame, TakenWhere, IsTaken, IsFree, IsGivers, IsWorkers, IsWork, IsDone, Stands, AreSeated, IsBerthed}
 
 module _ {W : Type 0} where
   giver_cases : (P : View W → Type 0) → P Rests → P Opened → ((job : W) → P (Awaits job)) → (v : View W) → IsGivers v → P v
@@ -158,6 +158,49 @@ module _ {W : Type 0} where
         (λ same stands. (Awaits job, keeps, home, tt, tt, refl, stands, subst (λ b. FetchedWhere {W = W} does b (Awaits job, []) (Awaits job, [])) (sym (ap (λ n. eqb n 2) stands.1)) refl))
         w own))
 
+    recalls_where : (job : W) (word : ℕ) (home : Home W) → IsWork may does word home job ⊎ IsDone may does word home job
+        → GiverStep (Awaits job, []) (λ n. either (eqb n 1) 0 n) (IsRecalled (Awaits job, [])) word home Free
+    recalls_where job word home (inl work) =
+        let rests : either (eqb word 1) 0 word ≡ 0 = ap (λ n. either (eqb n 1) 0 n) work.one in (
+          Opened,
+          takes 0 (Some job),
+          none,
+          tt,
+          ap (λ h. get_elem? (h ∷ []) 0) work.slot,
+          refl,
+          (refl, λ one. omega (arith, rests, one)),
+          subst (λ b. RecalledWhere {W = W} b (Awaits job, []) (Opened, (0, Some job) ∷ [])) (sym (ap (λ n. eqb n 1) work.one)) refl,
+        )
+    recalls_where job word home (inr is) = (
+      Awaits job,
+      keeps,
+      home,
+      tt,
+      tt,
+      refl,
+      exchanged word 1 0 (λ n. Stands may does n home (Awaits job) Free) (λ one. absurd (omega (arith, is.two, one))) (λ other. inr is),
+      subst (λ b. RecalledWhere {W = W} b (Awaits job, []) (Awaits job, [])) (sym (ap (λ n. eqb n 1) is.two)) refl,
+    )
+
+    -- the job is taken back, where nobody has begun it
+    pub recalls : (slots seat : ℕ) (me : Mine W) (job : W) → me ≡ (Awaits job, [])
+        → Allows (IsBerthed may does) slots seat me 0 (λ n. either (eqb n 1) 0 n) (IsRecalled me)
+    recalls slots seat me job is = subst (λ m. Allows (IsBerthed may does) slots seat m 0 (λ n. either (eqb n 1) 0 n) (IsRecalled m)) (sym is)
+        (givers_step slots seat (Awaits job, []) (λ n. either (eqb n 1) 0 n) (IsRecalled (Awaits job, [])) tt (λ word home w own. worker_cases
+        (λ w. Stands may does word home (Awaits job) w → GiverStep (Awaits job, []) (λ n. either (eqb n 1) 0 n) (IsRecalled (Awaits job, [])) word home w)
+        (λ stands. recalls_where job word home stands)
+        (λ same stands. (
+          Awaits job,
+          keeps,
+          home,
+          tt,
+          tt,
+          refl,
+          exchanged word 1 0 (λ n. Stands may does n home (Awaits job) (Works same)) (λ one. absurd (omega (arith, stands.1, one))) (λ other. stands),
+          subst (λ b. RecalledWhere {W = W} b (Awaits job, []) (Awaits job, [])) (sym (ap (λ n. eqb n 1) stands.1)) refl,
+        ))
+        w own))
+
     -- the empty slot is given back
     pub rests : (slots seat : ℕ) (me : Mine W) → me ≡ (Opened, (0, None) ∷ []) → Allows (IsBerthed may does) slots seat me 0 (λ _. 0) (λ _. AtRest)
     rests slots seat me is = subst (λ m. Allows (IsBerthed may does) slots seat m 0 (λ _. 0) (λ _. AtRest)) (sym is)
@@ -200,7 +243,7 @@ module _ {W : Type 0} where
         )))
 
     takes_where : (job : W) (word : ℕ) (home : Home W) → IsWork may does word home job ⊎ IsDone may does word home job
-        → WorkerStep (Free, []) (λ n. n) (IsTaken may (Free, [])) word home (Awaits job)
+        → WorkerStep (Free, []) (λ n. either (eqb n 1) 5 n) (IsTaken may (Free, [])) word home (Awaits job)
     takes_where job word home (inl work) = (
       Works job,
       takes 0 (Some job),
@@ -208,19 +251,41 @@ module _ {W : Type 0} where
       tt,
       ap (λ h. get_elem? (h ∷ []) 0) work.slot,
       refl,
-      (refl, work.one, refl),
+      (refl, ap (λ n. either (eqb n 1) 5 n) work.one, refl),
       subst (λ b. TakenWhere {W = W} may b (Free, []) (Works job, (0, Some job) ∷ [])) (sym (ap (λ n. eqb n 1) work.one)) (job, work.can, refl),
     )
-    takes_where job word home (inr is) =
-        (Free, keeps, home, tt, tt, refl, inr is, subst (λ b. TakenWhere {W = W} may b (Free, []) (Free, [])) (sym (ap (λ n. eqb n 1) is.two)) refl)
+    takes_where job word home (inr is) = (
+      Free,
+      keeps,
+      home,
+      tt,
+      tt,
+      refl,
+      exchanged word 1 5 (λ n. Stands may does n home (Awaits job) Free) (λ one. absurd (omega (arith, is.two, one))) (λ other. inr is),
+      subst (λ b. TakenWhere {W = W} may b (Free, []) (Free, [])) (sym (ap (λ n. eqb n 1) is.two)) refl,
+    )
 
-    -- it is looked whether there is work
-    pub takes_work : (slots seat : ℕ) (me : Mine W) → me ≡ (Free, []) → Allows (IsBerthed may does) slots seat me 0 (λ n. n) (IsTaken may me)
-    takes_work slots seat me is = subst (λ m. Allows (IsBerthed may does) slots seat m 0 (λ n. n) (IsTaken may m)) (sym is)
-        (workers_step slots seat (Free, []) (λ n. n) (IsTaken may (Free, [])) tt (λ word home u own. giver_cases
-        (λ u. Stands may does word home u Free → WorkerStep (Free, []) (λ n. n) (IsTaken may (Free, [])) word home u)
-        (λ stands. (Free, keeps, home, tt, tt, refl, stands, subst (λ b. TakenWhere {W = W} may b (Free, []) (Free, [])) (sym (ne_eqb word 1 stands.1)) refl))
-        (λ stands. (Free, keeps, home, tt, tt, refl, stands, subst (λ b. TakenWhere {W = W} may b (Free, []) (Free, [])) (sym (ne_eqb word 1 stands.1)) refl))
+    -- there is no work to begin
+    no_work : (word : ℕ) (home : Home W) (u : View W) → word ≢ 1 → Stands may does word home u Free
+        → WorkerStep (Free, []) (λ n. either (eqb n 1) 5 n) (IsTaken may (Free, [])) word home u
+    no_work word home u idle stands = (
+      Free,
+      keeps,
+      home,
+      tt,
+      tt,
+      refl,
+      exchanged word 1 5 (λ n. Stands may does n home u Free) (λ one. absurd (idle one)) (λ other. stands),
+      subst (λ b. TakenWhere {W = W} may b (Free, []) (Free, [])) (sym (ne_eqb word 1 idle)) refl,
+    )
+
+    -- the work is begun, where there is some
+    pub takes_work : (slots seat : ℕ) (me : Mine W) → me ≡ (Free, []) → Allows (IsBerthed may does) slots seat me 0 (λ n. either (eqb n 1) 5 n) (IsTaken may me)
+    takes_work slots seat me is = subst (λ m. Allows (IsBerthed may does) slots seat m 0 (λ n. either (eqb n 1) 5 n) (IsTaken may m)) (sym is)
+        (workers_step slots seat (Free, []) (λ n. either (eqb n 1) 5 n) (IsTaken may (Free, [])) tt (λ word home u own. giver_cases
+        (λ u. Stands may does word home u Free → WorkerStep (Free, []) (λ n. either (eqb n 1) 5 n) (IsTaken may (Free, [])) word home u)
+        (λ stands. no_work word home Rests stands.1 stands)
+        (λ stands. no_work word home Opened stands.1 stands)
         (λ job stands. takes_where job word home stands)
         u own))
 
@@ -318,6 +383,12 @@ module _ {W : Type 0} where
 
   pub looked_same : (does : W → W → Type 0) (found : ℕ) (me after : Mine W) → eqb found 2 ≡ false → IsFetched does me found after → after ≡ me
   looked_same does found me after is told = subst (λ b. FetchedWhere {W = W} does b me after) is told
+
+  pub looked_back : (found : ℕ) (me after : Mine W) → eqb found 1 ≡ true → IsRecalled me found after → HasBack me.0 after
+  looked_back found me after is told = subst (λ b. RecalledWhere {W = W} b me after) is told
+
+  pub looked_begun : (found : ℕ) (me after : Mine W) → eqb found 1 ≡ false → IsRecalled me found after → after ≡ me
+  looked_begun found me after is told = subst (λ b. RecalledWhere {W = W} b me after) is told
 
   pub looked_work : (may : W → Type 0) (found : ℕ) (me after : Mine W) → eqb found 1 ≡ true → IsTaken may me found after → HasJob may after
   looked_work may found me after is told = subst (λ b. TakenWhere {W = W} may b me after) is told

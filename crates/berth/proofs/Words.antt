@@ -8,4 +8,4 @@ pub use Rattle.atomic_table.specs.Table.{State, Me, Act, keeps, takes, gives, Al
 pub use Rattle.atomic_table.proofs.Lists.{exchanged}
 pub use Rattle.berth.specs.declared.rule.View.{View}
 pub use Rattle.berth.specs.declared.rule.View.TheVariants.{Both, Rests, Opened, Awaits, Free, Works}
-pub use Rattle.berth.specs.Rule.{Mine, Home, OpenedWhere, IsOpened, IsGiven, FetchedWhere, IsFetched, AtRest, IsSame, TakenWhere, IsTaken, IsFree, HasDone, HasJob, IsGivers, IsWorkers, IsWork, IsDone, Stands, AreSeated, IsBerthed, giver, worker, job_of, given}
+pub use Rattle.berth.specs.Rule.{Mine, Home, OpenedWhere, IsOpened, IsGiven, RecalledWhere, IsRecalled, HasBack, FetchedWhere, IsFetched, AtRest, IsSame, TakenWhere, IsTaken, IsFree, HasDone, HasJob, IsGivers, IsWorkers, IsWork, IsDone, Stands, AreSeated, IsBerthed, giver, worker, job_of, given}

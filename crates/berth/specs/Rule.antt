@@ -1,5 +1,5 @@
 -- A berth: the word and the slot between one that gives jobs and a worker. The word is 4 until the worker has come, 0 at rest, 1
--- while there is work to do, 2 once it is done, and 3 when no more work comes.
+-- while there is work that nobody has begun, 5 while the worker does it, 2 once it is done, and 3 when no more work comes.
 use Rattle.std.specs.Prelude.{◌≡◌, ◌≢◌, ℕ, ◌⊎◌, ◌==◌, Bool, true, false, List, [], ◌∷◌, Option, Some, None}
 use mathlib.Core.Option as plain
 use Rattle.atomic_table.specs.Table.{State, Me}
@@ -49,6 +49,19 @@ module _ {W : Type 0} where
   -- the job that lay in the giver's slot is out
   abbrev pub IsGiven : Mine W → ℕ → Mine W → Type 0
   IsGiven me found after = after ≡ (given me.1, [])
+
+  -- the giver's slot has the job as it was given
+  abbrev pub HasBack : View W → Mine W → Type 0
+  HasBack (Awaits job) after = after ≡ (Opened, (0, Some job) ∷ [])
+  HasBack view after = ⊥
+
+  abbrev pub RecalledWhere : Bool → Mine W → Mine W → Type 0
+  RecalledWhere true me after = HasBack me.0 after
+  RecalledWhere false me after = after ≡ me
+
+  -- where nobody has begun the job, the giver has it back
+  abbrev pub IsRecalled : Mine W → ℕ → Mine W → Type 0
+  IsRecalled me found after = RecalledWhere (found == 1) me after
 
   -- the giver's slot has what the worker made of the job
   abbrev pub HasDone : (W → W → Type 0) → View W → Mine W → Type 0
@@ -100,7 +113,7 @@ module _ {W : Type 0} where
   IsWorkers view = ⊥
 
   module _ (may : W → Type 0) (does : W → W → Type 0) where
-    -- there is work: this job, which may be given
+    -- there is work that nobody has begun: this job, which may be given
     pub record IsWork (word : ℕ) (home : Home W) (job : W) : Type 0 where
       pub one : word ≡ 1
       pub slot : home ≡ plain.some (Some job)
@@ -118,7 +131,7 @@ module _ {W : Type 0} where
     Stands word home Rests Free = (home ≡ plain.some None) × (word ≢ 1) × (word ≢ 2)
     Stands word home Opened Free = (home ≡ plain.none) × (word ≢ 1)
     Stands word home (Awaits job) Free = IsWork word home job ⊎ IsDone word home job
-    Stands word home (Awaits job) (Works same) = (home ≡ plain.none) × (word ≡ 1) × (same ≡ job)
+    Stands word home (Awaits job) (Works same) = (home ≡ plain.none) × (word ≡ 5) × (same ≡ job)
     Stands word home giver worker = ⊥
 
     -- one seat before the berth is used, then the giver's and the worker's

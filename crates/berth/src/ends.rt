@@ -1,5 +1,5 @@
 //! The two ends of a berth: who gives jobs, and the worker.
-ghost use Rattle.std.specs.Prelude.{◌≡◌, None, Some, IfOk, IfErr, IfSome, OnOk};
+ghost use Rattle.std.specs.Prelude.{◌≡◌, None, Some, IfOk, IfErr, IfSome, OnOk, OnSome};
 
 use crate::rule::{Deed, Ends};
 use crate::table::{Berth, BerthSeat, NOBODY};
@@ -13,7 +13,12 @@ use std::sync::{Arc, Wait};
 pub struct Giver<W: Drop, D: Deed<W>> {
     berth: Berth<W, D>,
     seat: BerthSeat<W>,
+    // How many jobs were taken back since the worker last did one.
+    recalled: u32,
 }
+
+// A worker that came too late for its last job is woken for each 256th only.
+const SELDOM: u32 = 256;
 
 impl<W: Drop, D: Deed<W>> Model for Giver<W, D> {
     ghost use Rattle.std.specs.Prelude.{◌≡◌, Option};
@@ -60,6 +65,7 @@ pub fn open_berth<W: Drop, D: Deed<W>>(
         Giver {
             berth: Berth { table },
             seat: gives,
+            recalled: 0,
         },
         Worker {
             berth: Berth { table: theirs },
@@ -69,6 +75,18 @@ pub fn open_berth<W: Drop, D: Deed<W>>(
 }
 
 impl<W: Drop, D: Deed<W>> Giver<W, D> {
+    /// Waits until the worker has come, for two seconds at most: whether it has. One for which no thread could be made doesn't come.
+    pub fn meet<R: Wait>(&self, rt: &R) -> bool {
+        self.berth.wait_until_come(rt)
+    }
+
+    // The worker is woken, unless it came too late for its last job.
+    fn wake(&self) {
+        if self.recalled % SELDOM == 0 {
+            self.berth.wake();
+        }
+    }
+
     /// Gives the worker a job. Where the worker has not come yet, the job comes back as it was.
     pub fn offer(&mut self, job: W) -> Result<(), W>
         requires rests { self.old ≡ None }
@@ -79,6 +97,7 @@ impl<W: Drop, D: Deed<W>> Giver<W, D> {
     {
         if self.berth.open_slot(&mut self.seat) {
             self.berth.give(&mut self.seat, job);
+            self.wake();
             Ok(())
         } else {
             Err(job)
@@ -92,14 +111,34 @@ impl<W: Drop, D: Deed<W>> Giver<W, D> {
         ensures rests { self.new ≡ None }
     {
         self.berth.wait_until_done(rt, &mut self.seat);
+        self.recalled = 0;
         self.berth.take_back(&mut self.seat)
+    }
+
+    /// The job that is out, as it was given, where the worker hasn't begun it.
+    pub fn recall(&mut self) -> Option<W>
+        requires { (job : W) × (self.old ≡ Some job) }
+        ensures back { IfSome result (λ job. self.old ≡ Some job) }
+        ensures rests { OnSome result (self.new ≡ None) }
+        ensures still { result ≡ None → self.new ≡ self.old }
+    {
+        if self.berth.is_recalled(&mut self.seat) {
+            self.recalled = self.recalled.saturating_add(1);
+            Some(self.berth.take_back(&mut self.seat))
+        } else {
+            None
+        }
     }
 
     /// No more work comes, and the worker is told so.
     pub fn dismiss(self)
         requires { self ≡ None }
     {
-        let Giver { berth, mut seat } = self;
+        let Giver {
+            berth,
+            mut seat,
+            recalled: _,
+        } = self;
         berth.end(&mut seat);
     }
 }

@@ -1,7 +1,7 @@
 //! The rule of a berth's table: who has the slot, and what lies in it.
 //!
-//! The table has one word and one slot. The word is 4 until the worker has come, 0 at rest, 1 while there is work to do, 2 once
-//! it is done, and 3 when no more work comes.
+//! The table has one word and one slot. The word is 4 until the worker has come, 0 at rest, 1 while there is work that nobody has
+//! begun, 5 while the worker does it, 2 once it is done, and 3 when no more work comes.
 
 use atomic_table::{Play, Split, TableRule};
 use std::marker::PhantomData;
@@ -71,6 +71,15 @@ impl<W> Play<Option<W>, View<W>> for Give {
     ghost use Rattle.berth.specs.Rule.{IsGiven};
 
     ghost then = { λ step. IsGiven };
+}
+
+/// The giver takes the job back where nobody has begun it, and has the slot then.
+pub struct Recall;
+
+impl<W> Play<Option<W>, View<W>> for Recall {
+    ghost use Rattle.berth.specs.Rule.{IsRecalled};
+
+    ghost then = { λ step. IsRecalled };
 }
 
 /// The giver looks whether the job is done, and has the slot then.

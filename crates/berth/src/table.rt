@@ -2,11 +2,12 @@
 ghost use Rattle.std.specs.Prelude.{◌≡◌, ◌∷◌, [], true, false, Some, None};
 ghost use Rattle.berth.specs.declared.rule.View.TheVariants.{Awaits, Free, Opened, Rests, Works};
 
-use crate::rule::{Berthed, Deed, Fetch, Finish, Give, Open, Rest, Stay, Take, View};
+use crate::rule::{Berthed, Deed, Fetch, Finish, Give, Open, Recall, Rest, Stay, Take, View};
 use atomic_table::{Seat, Table};
 use std::alloc::Global;
 use std::marker::Model;
 use std::sync::{Arc, Wait};
+use std::time::Duration;
 
 /// Until the worker has come.
 pub(crate) const NOBODY: u64 = 4;
@@ -18,6 +19,8 @@ const WORK: u64 = 1;
 const DONE: u64 = 2;
 
 const OVER: u64 = 3;
+
+const BEGUN: u64 = 5;
 
 /// A seat at the table of a berth.
 pub(crate) type BerthSeat<W> = Seat<Option<W>, View<W>>;
@@ -44,7 +47,7 @@ impl<W: Drop, D: Deed<W>> Model for Berth<W, D> {
 }
 
 impl<W: Drop, D: Deed<W>> Berth<W, D> {
-    ghost use Rattle.berth.specs.Rule.{HasDone, HasJob};
+    ghost use Rattle.berth.specs.Rule.{HasBack, HasDone, HasJob};
 
     /// Whether the worker is at rest. Then the giver has the slot.
     pub(crate) fn open_slot(&self, seat: &mut BerthSeat<W>) -> bool
@@ -57,7 +60,7 @@ impl<W: Drop, D: Deed<W>> Berth<W, D> {
         self.table.shared.load::<Open>(seat, 0) == REST
     }
 
-    /// Gives the job, and wakes the worker.
+    /// Gives the job.
     pub(crate) fn give(&self, seat: &mut BerthSeat<W>, job: W)
         requires table { seat.old.table_id ≡ self.now }
         requires opened { seat.old.me ≡ (Opened, (0, None) ∷ []) }
@@ -67,7 +70,26 @@ impl<W: Drop, D: Deed<W>> Berth<W, D> {
     {
         self.table.shared.exchange(seat, 0, Some(job));
         self.table.shared.store::<Give>(seat, 0, WORK);
+    }
+
+    /// Wakes the other one, if it sleeps.
+    pub(crate) fn wake(&self) {
         self.table.shared.wake_one(0);
+    }
+
+    /// Takes the job that is out back, where nobody has begun it. Then the giver has the slot.
+    pub(crate) fn is_recalled(&self, seat: &mut BerthSeat<W>) -> bool
+        requires table { seat.old.table_id ≡ self.now }
+        requires awaits { (job : W) × (seat.old.me ≡ (Awaits job, [])) }
+        ensures table { seat.new.table_id ≡ seat.old.table_id }
+        ensures back { result ≡ true → HasBack seat.old.me.0 seat.new.me }
+        ensures still { result ≡ false → seat.new.me ≡ seat.old.me }
+    {
+        let found = self
+            .table
+            .shared
+            .compare_exchange::<Recall>(seat, 0, WORK, REST);
+        found == WORK
     }
 
     /// Whether the job that is out is done. Then the giver has the slot.
@@ -81,7 +103,7 @@ impl<W: Drop, D: Deed<W>> Berth<W, D> {
         self.table.shared.load::<Fetch<D>>(seat, 0) == DONE
     }
 
-    /// Takes what the worker made out of the slot.
+    /// Takes what lies in the slot.
     pub(crate) fn take_back(&self, seat: &mut BerthSeat<W>) -> W
         requires table { seat.old.table_id ≡ self.now }
         requires done { (done : W) × (seat.old.me ≡ (Opened, (0, Some done) ∷ [])) }
@@ -104,10 +126,10 @@ impl<W: Drop, D: Deed<W>> Berth<W, D> {
         requires rests { seat.old.me ≡ (Rests, []) }
     {
         self.table.shared.store::<Stay>(seat, 0, OVER);
-        self.table.shared.wake_one(0);
+        self.wake();
     }
 
-    /// The worker has come, unless no more work comes.
+    /// The worker has come, unless no more work comes. Wakes the giver.
     pub(crate) fn arrive(&self, seat: &mut BerthSeat<W>)
         requires table { seat.old.table_id ≡ self.now }
         requires free { seat.old.me ≡ (Free, []) }
@@ -117,9 +139,22 @@ impl<W: Drop, D: Deed<W>> Berth<W, D> {
         self.table
             .shared
             .compare_exchange::<Stay>(seat, 0, NOBODY, REST);
+        self.wake();
     }
 
-    /// Whether there is work. Then the worker has the job.
+    /// Whether the worker has come.
+    pub(crate) fn has_come(&self) -> bool {
+        self.table.shared.peek(0) != NOBODY
+    }
+
+    /// Sleeps while the worker hasn't come, for a hundredth of a second at most; it may also return for no reason.
+    pub(crate) fn sleep_until_come<R: Wait>(&self, rt: &R) {
+        self.table
+            .shared
+            .park_timeout(rt, 0, NOBODY as u32, Duration::from_millis(10));
+    }
+
+    /// Begins the work, where there is some. Then the worker has the job.
     pub(crate) fn is_work(&self, seat: &mut BerthSeat<W>) -> bool
         requires table { seat.old.table_id ≡ self.now }
         requires free { seat.old.me ≡ (Free, []) }
@@ -127,7 +162,11 @@ impl<W: Drop, D: Deed<W>> Berth<W, D> {
         ensures work { result ≡ true → HasJob D.may seat.new.me }
         ensures still { result ≡ false → seat.new.me ≡ (Free, []) }
     {
-        self.table.shared.load::<Take<D>>(seat, 0) == WORK
+        let found = self
+            .table
+            .shared
+            .compare_exchange::<Take<D>>(seat, 0, WORK, BEGUN);
+        found == WORK
     }
 
     /// Takes the job out of the slot.
@@ -153,7 +192,7 @@ impl<W: Drop, D: Deed<W>> Berth<W, D> {
     {
         self.table.shared.exchange(seat, 0, Some(done));
         self.table.shared.store::<Finish>(seat, 0, DONE);
-        self.table.shared.wake_one(0);
+        self.wake();
     }
 
     /// Whether no more work comes.
@@ -161,9 +200,16 @@ impl<W: Drop, D: Deed<W>> Berth<W, D> {
         self.table.shared.peek(0) == OVER
     }
 
-    /// Sleeps while the work isn't done; it may also return for no reason.
+    /// Sleeps while the work isn't done; it may also return for no reason. A worker that hasn't begun it is woken.
     pub(crate) fn sleep_until_done<R: Wait>(&self, rt: &R) {
-        self.table.shared.park(rt, 0, WORK as u32);
+        let word = self.table.shared.peek(0);
+        if word == WORK {
+            self.wake();
+            self.table.shared.park(rt, 0, WORK as u32);
+        }
+        if word == BEGUN {
+            self.table.shared.park(rt, 0, BEGUN as u32);
+        }
     }
 
     /// Sleeps while there is no news for the worker; it may also return for no reason.

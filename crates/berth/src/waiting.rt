@@ -11,6 +11,9 @@ use std::sync::Wait;
 // How often who waits looks before it sleeps.
 const LOOKS: u32 = 64;
 
+// How often the giver looks whether the worker has come; it sleeps a hundredth of a second after each.
+const VISITS: u32 = 200;
+
 impl<W: Drop, D: Deed<W>> Berth<W, D> {
     // A turn of the giver's waiting: how many turns it waited.
     fn rest_until_done<R: Wait>(&self, rt: &R, turns: u32) -> u32 {
@@ -32,6 +35,17 @@ impl<W: Drop, D: Deed<W>> Berth<W, D> {
             self.sleep_until_work(rt);
             turns
         }
+    }
+
+    /// Waits until the worker has come, for two seconds at most: whether it has.
+    pub(crate) fn wait_until_come<R: Wait>(&self, rt: &R) -> bool {
+        for _ in 0..VISITS {
+            if self.has_come() {
+                return true;
+            }
+            self.sleep_until_come(rt);
+        }
+        false
     }
 
     /// Waits until the job that is out is done. Then the giver has the slot.

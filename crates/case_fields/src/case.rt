@@ -1,19 +1,24 @@
 //! A case that is being answered: the fields that are still to be read, and what was answered so far.
 
 use crate::fields::{CaseFault, digits, octets_of};
-use std::alloc::Global;
+use std::alloc::{AllocError, Global};
 use std::fmt::{Debug, Display};
-use std::str::FromStr;
+use std::str::{FromStr, from_utf8};
+
+/// A line that is never given back, so that the fields of a case last.
+pub fn kept_line(line: String) -> &'static str {
+    from_utf8(line.into_bytes().leak()).unwrap_or("")
+}
 
 /// A case. Its fields are read one after the other, and its answer is put word by word.
 ///
 /// A field that isn't there, or is out of form or out of range, is read as 0, as an empty word or as no octets, and the case has no
 /// answer. What is read or put afterwards changes nothing of that.
 #[derive(Drop)]
-pub struct Case<'a> {
+pub struct Case {
     pub alloc: Global,
     /// The fields that are still to be read.
-    rest: Option<&'a str>,
+    rest: Option<&'static str>,
     /// What stands between two fields.
     between: &'static str,
     answer: String,
@@ -21,9 +26,9 @@ pub struct Case<'a> {
     fault: Option<CaseFault>,
 }
 
-impl<'a> Case<'a> {
+impl Case {
     /// A case of fields with one blank between them, of which nothing is answered yet.
-    pub fn new(alloc: Global, fields: &'a str) -> Self {
+    pub fn new(alloc: Global, fields: &'static str) -> Self {
         Case {
             alloc,
             rest: Some(fields),
@@ -64,13 +69,13 @@ impl<'a> Case<'a> {
     }
 
     /// From here on the fields of this text are read, with this between them.
-    pub fn read(&mut self, fields: &'a str, between: &'static str) {
+    pub fn read(&mut self, fields: &'static str, between: &'static str) {
         self.rest = Some(fields);
         self.between = between;
     }
 
     /// All fields that are still to be read, as they stand.
-    pub fn rest(&mut self) -> &'a str {
+    pub fn rest(&mut self) -> &'static str {
         self.rest.take().unwrap_or("")
     }
 
@@ -80,7 +85,7 @@ impl<'a> Case<'a> {
     }
 
     /// The next field, if there is one.
-    pub fn next_word(&mut self) -> Option<&'a str> {
+    pub fn next_word(&mut self) -> Option<&'static str> {
         let rest = self.rest.take()?;
         match rest.split_once(self.between) {
             Some((word, behind)) => {
@@ -92,7 +97,7 @@ impl<'a> Case<'a> {
     }
 
     /// The next field.
-    pub fn word(&mut self) -> &'a str {
+    pub fn word(&mut self) -> &'static str {
         match self.next_word() {
             Some(word) => word,
             None => {
@@ -100,6 +105,23 @@ impl<'a> Case<'a> {
                 ""
             }
         }
+    }
+
+    /// What a name stands for in a table; else `other`, and the case has no answer.
+    pub fn named<T: Copy>(&mut self, name: &str, table: &[(&str, T)], other: T) -> T {
+        for (known, value) in table {
+            if *known == name {
+                return *value;
+            }
+        }
+        self.refuse();
+        other
+    }
+
+    /// What the next field stands for in a table; else `other`, and the case has no answer.
+    pub fn one_of<T: Copy>(&mut self, table: &[(&str, T)], other: T) -> T {
+        let name = self.word();
+        self.named(name, table, other)
     }
 
     /// The number of the next field.
@@ -186,6 +208,41 @@ impl<'a> Case<'a> {
     pub fn say<T: Display>(&mut self, value: &T) {
         if write!(self.answer, "{value}").is_err() {
             self.fail();
+        }
+    }
+
+    /// Puts a word, and behind it a value as `Debug` prints it.
+    pub fn tell_behind<T: Debug>(&mut self, word: &str, value: &T) {
+        self.put(word);
+        self.tell(value);
+    }
+
+    /// Puts a word, and behind it a value as `Display` prints it.
+    pub fn say_behind<T: Display>(&mut self, word: &str, value: &T) {
+        self.put(word);
+        self.say(value);
+    }
+
+    /// Puts what was made as `Debug` prints it; the case has no answer where there was no memory for it.
+    pub fn tell_made<T: Debug + Drop>(&mut self, made: Result<T, AllocError>) {
+        match made {
+            Ok(value) => self.tell(&value),
+            Err(_) => self.fail(),
+        }
+    }
+
+    /// The case has no answer where there was no memory for what was done.
+    pub fn note(&mut self, done: Result<(), AllocError>) {
+        if done.is_err() {
+            self.fail();
+        }
+    }
+
+    /// Puts the text that octets are.
+    pub fn put_text(&mut self, octets: &[u8]) {
+        match String::from_utf8_lossy(self.alloc, octets) {
+            Ok(text) => self.put(text.as_str()),
+            Err(_) => self.fail(),
         }
     }
 

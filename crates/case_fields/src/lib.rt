@@ -14,7 +14,7 @@ mod recorder;
 mod report;
 mod task;
 
-pub use case::Case;
+pub use case::{Case, kept_line};
 pub use fails::failing;
 pub use fields::{CaseFault, digits, octets_of};
 pub use files::{content, lines_in, with_line_ends};

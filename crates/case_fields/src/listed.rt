@@ -52,7 +52,7 @@ fn file_of(alloc: Global, field: &str) -> Result<NamedFile, AllocError> {
 }
 
 /// The files that the fields tell which are still to be read.
-pub fn files_of(case: &mut Case<'_>) -> Result<Vec<NamedFile>, AllocError> {
+pub fn files_of(case: &mut Case) -> Result<Vec<NamedFile>, AllocError> {
     let mut files = Vec::new(case.alloc);
     for field in case.rest().split(" | ") {
         files.push(file_of(case.alloc, field)?)?;

@@ -29,7 +29,7 @@ impl Gate for CountingGate {
 }
 
 /// The book of the next two fields.
-fn book_of(case: &mut Case<'_>) -> Object {
+fn book_of(case: &mut Case) -> Object {
     let (kind, side) = (case.word(), case.word());
     let side = if side == "a" { Side::A } else { Side::B };
     match kind {
@@ -40,7 +40,7 @@ fn book_of(case: &mut Case<'_>) -> Object {
 }
 
 /// Actors, each with the book whose lock it holds.
-fn places_of(case: &mut Case<'_>) -> Result<Vec<(u8, Object)>, AllocError> {
+fn places_of(case: &mut Case) -> Result<Vec<(u8, Object)>, AllocError> {
     let mut places = Vec::new(case.alloc);
     for _ in 0..16 {
         if case.has_more() {
@@ -52,7 +52,7 @@ fn places_of(case: &mut Case<'_>) -> Result<Vec<(u8, Object)>, AllocError> {
 }
 
 /// The numbers of actors.
-fn actors_of(case: &mut Case<'_>) -> Result<Vec<u8>, AllocError> {
+fn actors_of(case: &mut Case) -> Result<Vec<u8>, AllocError> {
     let mut actors = Vec::new(case.alloc);
     for _ in 0..16 {
         if case.has_more() {
@@ -65,7 +65,7 @@ fn actors_of(case: &mut Case<'_>) -> Result<Vec<u8>, AllocError> {
 /// The gate at which the actors meet that the fields tell which are still to be read: `turns` and numbers of actors, which meet at the
 /// beginning of their turns; or `holds` and of each actor its number, the kind of a book, `send`, `reassembly` or `control`, and its side,
 /// `a` or `b`: each holds the lock of that book while they meet.
-pub fn gate_of(case: &mut Case<'_>) -> Result<CountingGate, AllocError> {
+pub fn gate_of(case: &mut Case) -> Result<CountingGate, AllocError> {
     let meets = if case.word() == "turns" {
         let actors = actors_of(case)?;
         MeetGate::turns(case.alloc, &actors, TRIES)?
@@ -86,14 +86,12 @@ fn rounds_in(log: &[u8]) -> u64 {
 }
 
 /// Puts whether all met, and by the log of their run how many turns there are in each round; 0 where that is no whole number.
-pub fn put_meeting(case: &mut Case<'_>, gate: &CountingGate, log: &[u8]) {
+pub fn put_meeting(case: &mut Case, gate: &CountingGate, log: &[u8]) {
     let (turns, rounds) = (gate.turns.load(Ordering::SeqCst), rounds_in(log));
     let each = match turns.checked_rem(rounds) {
         Some(0) => turns.checked_div(rounds).unwrap_or(0),
         _ => 0,
     };
-    case.put("\n  met ");
-    case.say(&gate.meets.met());
-    case.put("\n  turns in each round ");
-    case.say(&each);
+    case.say_behind("\n  met ", &gate.meets.met());
+    case.say_behind("\n  turns in each round ", &each);
 }

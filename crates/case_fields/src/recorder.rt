@@ -8,6 +8,8 @@ use std::alloc::Global;
 pub struct Recorder {
     outside: MemoryOutside,
     calls: String,
+    /// Whether memory for a line was wanting.
+    is_cut: bool,
 }
 
 /// The word of a port.
@@ -25,6 +27,7 @@ impl Recorder {
         Recorder {
             outside,
             calls: String::new(alloc),
+            is_cut: false,
         }
     }
 
@@ -33,9 +36,13 @@ impl Recorder {
         self.outside.port(port)
     }
 
-    /// The calls that were made: each on a line of its own, with LF before it.
-    pub fn calls(&self) -> &str {
-        self.calls.as_str()
+    /// The calls that were made: each on a line of its own, with LF before it. None where memory for a line was wanting.
+    pub fn calls(&self) -> Option<&str> {
+        if self.is_cut {
+            None
+        } else {
+            Some(self.calls.as_str())
+        }
     }
 }
 
@@ -53,23 +60,17 @@ impl Outside for Recorder {
     } };
 
     fn load(&mut self, alloc: Global, name: &str, limit: u64) -> Result<Vec<u8>, LoadFault> {
-        if write!(self.calls, "\n    load {name} {limit}").is_err() {
-            return Err(LoadFault::Memory);
-        }
+        self.is_cut |= write!(self.calls, "\n    load {name} {limit}").is_err();
         self.outside.load(alloc, name, limit)
     }
 
     fn bind(&mut self, port: Port, name: &str) -> Result<(), PutFault> {
-        if write!(self.calls, "\n    bind {} {name}", port_word(port)).is_err() {
-            return Err(PutFault::Memory);
-        }
+        self.is_cut |= write!(self.calls, "\n    bind {} {name}", port_word(port)).is_err();
         self.outside.bind(port, name)
     }
 
     fn put(&mut self, port: Port, piece: &[u8]) -> Result<(), PutFault> {
-        if write!(self.calls, "\n    put {} {}", port_word(port), piece.len()).is_err() {
-            return Err(PutFault::Memory);
-        }
+        self.is_cut |= write!(self.calls, "\n    put {} {}", port_word(port), piece.len()).is_err();
         self.outside.put(port, piece)
     }
 }

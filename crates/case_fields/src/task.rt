@@ -29,22 +29,22 @@ pub enum Shown {
 
 /// A run: the words of its command line, and what its names hold.
 #[derive(Clone, Copy)]
-pub struct Task<'a> {
-    words: &'a str,
+pub struct Task {
+    words: &'static str,
     /// Whether the lines of both files go as messages.
     pub has_messages: bool,
-    script: &'a str,
-    file_a: &'a str,
-    file_b: &'a str,
-    order: &'a str,
-    fails: &'a str,
+    script: &'static str,
+    file_a: &'static str,
+    file_b: &'static str,
+    order: &'static str,
+    fails: &'static str,
     /// What is shown of it.
     pub shown: Shown,
 }
 
-impl<'a> Task<'a> {
+impl Task {
     /// The run that the fields of a case tell.
-    pub fn read(case: &mut Case<'a>) -> Self {
+    pub fn read(case: &mut Case) -> Self {
         let words = case.word();
         let behind = words.strip_prefix("messages ");
         Task {
@@ -55,12 +55,12 @@ impl<'a> Task<'a> {
             file_b: case.word(),
             order: case.word(),
             fails: case.word(),
-            shown: shown_of(case),
+            shown: case.one_of(&SHOWN, Shown::Sums),
         }
     }
 
     /// The run by threads that the next fields of a case tell: `SCRIPT | FILE_A | FILE_B`.
-    pub fn by_threads(case: &mut Case<'a>) -> Self {
+    pub fn by_threads(case: &mut Case) -> Self {
         Task {
             words: "--mode run",
             has_messages: false,
@@ -117,17 +117,12 @@ impl<'a> Task<'a> {
     }
 }
 
-fn shown_of(case: &mut Case<'_>) -> Shown {
-    match case.word() {
-        "sums" => Shown::Sums,
-        "read" => Shown::Read,
-        "calls" => Shown::Calls,
-        _ => {
-            case.refuse();
-            Shown::Sums
-        }
-    }
-}
+/// What is shown, by its name.
+const SHOWN: [(&str, Shown); 3] = [
+    ("sums", Shown::Sums),
+    ("read", Shown::Read),
+    ("calls", Shown::Calls),
+];
 
 fn push_file(
     alloc: Global,

@@ -3,11 +3,19 @@
 ghost use Rattle.std.specs.Prelude.{◌≡◌, ◌<◌, ◌≤◌, All, IfOk, OnOk, length};
 ghost use Rattle.path_core.specs.Octets.{octets};
 ghost use Rattle.world_core.specs.Rounds.{RoundTo};
+ghost use Rattle.world_core.specs.Steps.{is_made};
 ghost use Rattle.connection_table.specs.ManyRounds.{Changes, EachRound, IsSerialEnd, Made, RoundIfGoing, RoundMade, Runs, StepMade, TurnMade, TurnsMade};
 
 use crate::table::ConnectionTable;
 use std::alloc::AllocError;
 use world_core::Stepped;
+
+// Whether a step was made. What drops a note stands here alone.
+fn was_made(stepped: Stepped) -> bool
+    ensures { result ≡ is_made stepped }
+{
+    matches!(stepped, Stepped::Made(_))
+}
 
 /// Makes a step of an actor of a connection, and answers whether its turn hadn't ended.
 fn go(table: &mut ConnectionTable, connection: u8, actor: u8) -> Result<bool, AllocError>
@@ -17,8 +25,7 @@ fn go(table: &mut ConnectionTable, connection: u8, actor: u8) -> Result<bool, Al
         (λ went. Changes (StepMade actor went) connection table.old table.new) }
 {
     match table.step(connection, actor) {
-        Ok(Stepped::Made(_)) => Ok(true),
-        Ok(Stepped::Ended) => Ok(false),
+        Ok(stepped) => Ok(was_made(stepped)),
         Err(fault) => Err(fault),
     }
 }

@@ -49,7 +49,7 @@ fn put_in_order<A>(
 }
 
 /// A round by threads, up to its end, over these books: the books after it, and the actors of its steps, by stamp, then
-/// actor. Each actor takes its turn at a worker, as far as there are workers that have come; the others do one after the other. The
+/// actor. Each actor takes its turn at a worker, as far as workers have come and begin in time; the others do one after the other. The
 /// books lie in tables for as long as the round takes, so each call that an actor notes stands in the called book's journal.
 ///
 /// After an error actors and books are of no use, but they are as many.

@@ -1,6 +1,6 @@
 //! The lines that speak of one direction of a link.
 
-ghost use Rattle.std.specs.Prelude.{◌≡◌, map};
+ghost use Rattle.std.specs.Prelude.{◌≡◌, ◌∷◌, [], map};
 ghost use Rattle.link_script.specs.Lines.{direction_of, rate_line, loss_line, jitter_line};
 
 use crate::fault::ScriptKind;
@@ -20,18 +20,34 @@ fn read_direction_of(path: &[u8], from: &[u8]) -> Result<Direction, ScriptKind>
     Ok(Direction { path, from })
 }
 
+#[tactic(auto, unfolding(crate::specs::Lines::rate_line))]
+fn rate(path: &[u8], from: &[u8], octets: &[u8], queue: &[u8]) -> Result<Line, ScriptKind>
+    ensures { result ≡ rate_line (path.now ∷ from.now ∷ octets.now ∷ queue.now ∷ []) }
+{
+    let direction = read_direction_of(path, from)?;
+    let octets = read_number(octets, RATES)? as u32;
+    let queue = read_number(queue, QUEUES)? as u32;
+    let impairment = Impairment::Rate { octets, queue };
+    Ok(Line::Event(ScriptLine::OnDirection(direction, impairment)))
+}
+
 /// `rate I DIR N QUEUE`
 #[tactic(auto, unfolding(crate::specs::Lines::rate_line))]
 pub fn read_rate(words: &[&[u8]]) -> Result<Line, ScriptKind>
     ensures { result ≡ rate_line (map (λ word. word.now) words.now) }
 {
-    let [path, from, octets, queue] = words else {
-        return Err(ScriptKind::Word);
-    };
+    match words {
+        [path, from, octets, queue] => rate(path, from, octets, queue),
+        _ => Err(ScriptKind::Word),
+    }
+}
+
+#[tactic(auto, unfolding(crate::specs::Lines::loss_line))]
+fn loss(path: &[u8], from: &[u8], parts: &[u8]) -> Result<Line, ScriptKind>
+    ensures { result ≡ loss_line (path.now ∷ from.now ∷ parts.now ∷ []) }
+{
     let direction = read_direction_of(path, from)?;
-    let octets = read_number(octets, RATES)? as u32;
-    let queue = read_number(queue, QUEUES)? as u32;
-    let impairment = Impairment::Rate { octets, queue };
+    let impairment = Impairment::Loss(read_number(parts, LOSS_PARTS)? as u32);
     Ok(Line::Event(ScriptLine::OnDirection(direction, impairment)))
 }
 
@@ -40,11 +56,18 @@ pub fn read_rate(words: &[&[u8]]) -> Result<Line, ScriptKind>
 pub fn read_loss(words: &[&[u8]]) -> Result<Line, ScriptKind>
     ensures { result ≡ loss_line (map (λ word. word.now) words.now) }
 {
-    let [path, from, parts] = words else {
-        return Err(ScriptKind::Word);
-    };
+    match words {
+        [path, from, parts] => loss(path, from, parts),
+        _ => Err(ScriptKind::Word),
+    }
+}
+
+#[tactic(auto, unfolding(crate::specs::Lines::jitter_line))]
+fn jitter(path: &[u8], from: &[u8], ticks: &[u8]) -> Result<Line, ScriptKind>
+    ensures { result ≡ jitter_line (path.now ∷ from.now ∷ ticks.now ∷ []) }
+{
     let direction = read_direction_of(path, from)?;
-    let impairment = Impairment::Loss(read_number(parts, LOSS_PARTS)? as u32);
+    let impairment = Impairment::Jitter(read_number(ticks, JITTERS)? as u32);
     Ok(Line::Event(ScriptLine::OnDirection(direction, impairment)))
 }
 
@@ -53,10 +76,8 @@ pub fn read_loss(words: &[&[u8]]) -> Result<Line, ScriptKind>
 pub fn read_jitter(words: &[&[u8]]) -> Result<Line, ScriptKind>
     ensures { result ≡ jitter_line (map (λ word. word.now) words.now) }
 {
-    let [path, from, ticks] = words else {
-        return Err(ScriptKind::Word);
-    };
-    let direction = read_direction_of(path, from)?;
-    let impairment = Impairment::Jitter(read_number(ticks, JITTERS)? as u32);
-    Ok(Line::Event(ScriptLine::OnDirection(direction, impairment)))
+    match words {
+        [path, from, ticks] => jitter(path, from, ticks),
+        _ => Err(ScriptKind::Word),
+    }
 }

@@ -1,6 +1,6 @@
 //! The lines of the paths.
 
-ghost use Rattle.std.specs.Prelude.{◌≡◌, map};
+ghost use Rattle.std.specs.Prelude.{◌≡◌, ◌∷◌, map};
 ghost use Rattle.link_script.specs.Lines.{may_have, path_options, path_of, path_line};
 ghost use Rattle.link_script.specs.Steps.{Shows};
 
@@ -67,14 +67,19 @@ fn read_numbers(
     Ok(Line::Path { index, line })
 }
 
-/// `path I mss N delay N [join TICK] [backup]`
+/// A path with the words behind its number.
 #[tactic(auto, unfolding(crate::specs::Lines::path_line))]
-pub fn read_path(words: &[&[u8]]) -> Result<Line, ScriptKind>
-    ensures { result ≡ path_line (map (λ word. word.now) words.now) }
+fn path_with(
+    path: &[u8],
+    a: &[u8],
+    mss: &[u8],
+    b: &[u8],
+    delay: &[u8],
+    options: &[&[u8]],
+) -> Result<Line, ScriptKind>
+    ensures { result ≡ path_line
+        (path.now ∷ a.now ∷ mss.now ∷ b.now ∷ delay.now ∷ map (λ word. word.now) options.now) }
 {
-    let [path, a, mss, b, delay, options @ ..] = words else {
-        return Err(ScriptKind::Word);
-    };
     expect_word(a, b"mss")?;
     expect_word(b, b"delay")?;
     let (join, backup) = read_options(options)?;
@@ -82,4 +87,15 @@ pub fn read_path(words: &[&[u8]]) -> Result<Line, ScriptKind>
         return Err(ScriptKind::Word);
     }
     read_numbers(path, mss, delay, join, backup)
+}
+
+/// `path I mss N delay N [join TICK] [backup]`
+#[tactic(auto, unfolding(crate::specs::Lines::path_line))]
+pub fn read_path(words: &[&[u8]]) -> Result<Line, ScriptKind>
+    ensures { result ≡ path_line (map (λ word. word.now) words.now) }
+{
+    match words {
+        [path, a, mss, b, delay, options @ ..] => path_with(path, a, mss, b, delay, options),
+        _ => Err(ScriptKind::Word),
+    }
 }

@@ -1,6 +1,6 @@
 //! The lines that speak of one segment of a link.
 
-ghost use Rattle.std.specs.Prelude.{◌≡◌, map};
+ghost use Rattle.std.specs.Prelude.{◌≡◌, ◌∷◌, map};
 ghost use Rattle.link_script.specs.Lines.{ticks_word, with_ticks, segment, on_segment_line};
 ghost use Rattle.link_script.specs.Steps.{Shows};
 
@@ -44,18 +44,32 @@ fn read_segment(path: &[u8], from: Side, number: &[u8]) -> Result<Segment, Scrip
     Ok(Segment { path, from, number })
 }
 
-/// `I DIR N` of a segment to which this happens, and `TICKS` in the place of its own where it comes late or again.
 #[tactic(auto, unfolding(crate::specs::Lines::on_segment_line))]
-pub fn read_on_segment(happens: Happens, words: &[&[u8]]) -> Result<Line, ScriptKind>
-    ensures { result ≡ on_segment_line happens (map (λ word. word.now) words.now) }
+fn on_segment(
+    happens: Happens,
+    path: &[u8],
+    from: &[u8],
+    number: &[u8],
+    more: &[&[u8]],
+) -> Result<Line, ScriptKind>
+    ensures { result ≡ on_segment_line happens
+        (path.now ∷ from.now ∷ number.now ∷ map (λ word. word.now) more.now) }
 {
-    let [path, from, number, more @ ..] = words else {
-        return Err(ScriptKind::Word);
-    };
     let from = read_direction(from)?;
     let ticks = ticks_word(happens, more)?;
     let segment = read_segment(path, from, number)?;
     let ticks = read_number(ticks, LATENESSES)? as u32;
     let happens = with_ticks(ticks, happens);
     Ok(Line::Event(ScriptLine::OnSegment(segment, happens)))
+}
+
+/// `I DIR N` of a segment to which this happens, and `TICKS` in the place of its own where it comes late or again.
+#[tactic(auto, unfolding(crate::specs::Lines::on_segment_line))]
+pub fn read_on_segment(happens: Happens, words: &[&[u8]]) -> Result<Line, ScriptKind>
+    ensures { result ≡ on_segment_line happens (map (λ word. word.now) words.now) }
+{
+    match words {
+        [path, from, number, more @ ..] => on_segment(happens, path, from, number, more),
+        _ => Err(ScriptKind::Word),
+    }
 }

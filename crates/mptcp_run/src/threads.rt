@@ -16,7 +16,7 @@ use actor_turn::Gate;
 use journal_weave::woven_round;
 use outside_kit::Outside;
 use path_core::Path;
-use ruled_desk::{TurnGiver, dismiss_all, open_turns, serve_all};
+use ruled_desk::{TurnGiver, dismiss_all, meet_all, open_turns, serve_all};
 use run_outside::Status;
 use stamped_book::Refusal;
 use std::alloc::{AllocError, Global};
@@ -160,7 +160,7 @@ fn make_rounds<O: Outside, G: Gate, R: Wait>(
     (run, Ok(()))
 }
 
-/// The rounds of a run that waits here, after which no more turns come to the workers.
+/// The rounds of a run that waits here, once the workers have come; after them no more turns come to these.
 fn make_all<O: Outside, G: Gate, R: Wait>(
     rt: &R,
     alloc: Global,
@@ -178,6 +178,7 @@ fn make_all<O: Outside, G: Gate, R: Wait>(
 {
     match waits.take() {
         Some(run) => {
+            meet_all(rt, givers.as_slice());
             let made = make_rounds(rt, alloc, outside, run, most, gate, givers);
             dismiss_all(givers);
             made

@@ -176,7 +176,7 @@ module _ (start : Start) (plain : IsPlain start) (fit : NumbersFit start) (turns
   lanes_many B = events_count B k.events (first_duo links start) ∙ length-replicate (length start.paths) _
 
   -- each path has its actor
-  path_at : (n : ℕ) → n < length start.paths → (c : ActorCrew Carried) × (slice_get w.crew (suc (suc n)) ≡ Some c) × (p : PathState Carried) × (c.member ≡ Path p)
+  pub path_at : (n : ℕ) → n < length start.paths → (c : ActorCrew Carried) × (slice_get w.crew (suc (suc n)) ≡ Some c) × (p : PathState Carried) × (c.member ≡ Path p)
   path_at n below =
       let many : length w.crew ≡ suc (suc (length start.paths)) = crew_count turns (opened_world start) ∙ ap (λ (n : ℕ). suc (suc n)) (paths_count start 0 start.paths) in
       let whole : length w.crew ≡ suc (suc (length (map walking k.shows.cast.paths))) = ap (λ (v : WorldState Carried). length v.crew) k.shows.is in

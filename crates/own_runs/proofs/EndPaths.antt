@@ -400,6 +400,9 @@ any_sends : (p : PathState Carried) (o : Option ToSend) → SendsSo (λ s. Unit 
 any_sends p None = tt
 any_sends p (Some t) = λ is. tt
 
+pub settled_key : (ds : List Duty) (p : PathState Carried) → is_some p.a.modes.peer_key ≡ true → is_some (settled ds p).a.modes.peer_key ≡ true
+settled_key ds p has = (settles (λ s. Unit {0}) (HasKey p) ds p (any_path p)).a.key has
+
 pub takes_key : (r : Reply) (p : PathState Carried) → is_some p.a.modes.peer_key ≡ true → is_some (takes values r p).a.modes.peer_key ≡ true
 takes_key r p has = (takes_tell (λ s. Unit {0}) (HasKey p) r p (any_sends p (first_sends p.agenda p)) (any_path p)).a.key has
 

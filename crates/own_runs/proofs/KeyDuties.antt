@@ -15,7 +15,7 @@ use Rattle.sides.specs.declared.side.Side.{Side}
 use Rattle.world_laws.proofs.Keys.AnswerHeardFirst.{is_calm, is_key_duty}
 use Rattle.own_runs.proofs.DutiesFew.{answer_free, ask_free, dead_free, failing_free, fell_free, is_rare, leave_free, leaves_free, left_free, refuse_free, resets_free, stopped_free, told_free}
 
-rare : (x : Duty) → is_rare x ≡ false → is_key_duty x ≡ false
+pub rare : (x : Duty) → is_rare x ≡ false → is_key_duty x ≡ false
 rare (Duty.Ask (AskDuty.SynAnswered s)) is = absurd (false≢true (sym is))
 rare (Duty.Ask (AskDuty.PeerKey s)) is = absurd (false≢true (sym is))
 rare _ is = refl

@@ -352,12 +352,12 @@ module _ (U T : Type 0) where
 
 module _ (T : Type 0) where
   -- A's control book is told the peer's key alone
-  abbrev CallTells : ControlCall → Type 0
+  abbrev pub CallTells : ControlCall → Type 0
   CallTells (ControlCall.PeerKey key) = T
   CallTells (ControlCall.Keys own other) = T
   CallTells _ = Unit {0}
 
-  abbrev AskTells : Ask → Type 0
+  abbrev pub AskTells : Ask → Type 0
   AskTells (Ask.Control A call) = CallTells call
   AskTells _ = Unit {0}
 
@@ -381,7 +381,7 @@ module _ (T : Type 0) where
   abbrev pub BookTells : SixBooks → Type 0
   BookTells six = is_some six.control_a.keys.peer ≡ true → T
 
-  book_so : (x : Ask) (six : SixBooks) → AskTells x → BookTells six → BookTells (after_ask x six)
+  pub book_so : (x : Ask) (six : SixBooks) → AskTells x → BookTells six → BookTells (after_ask x six)
   book_so (Ask.Control A call) six told h is = call_so six.control_a call told h is
   book_so (Ask.Control B call) six told h is = h is
   book_so (Ask.Send A call) six told h is = h is
@@ -391,11 +391,11 @@ module _ (T : Type 0) where
   book_so (Ask.Local step) six told h is = h is
 
 -- A's control book is told a key alone
-abbrev is_key_told : Ask → Bool
+abbrev pub is_key_told : Ask → Bool
 is_key_told (Ask.Control A (ControlCall.PeerKey key)) = true
 is_key_told _ = false
 
-ask_tells : (T : Type 0) (six : SixBooks) (x : Ask) (key_a key_b : ℕ) → KeysAsk key_a key_b true six x → (is_key_told x ≡ true → T) → AskTells T x
+pub ask_tells : (T : Type 0) (six : SixBooks) (x : Ask) (key_a key_b : ℕ) → KeysAsk key_a key_b true six x → (is_key_told x ≡ true → T) → AskTells T x
 ask_tells T six (Ask.Control A (ControlCall.PeerKey key)) key_a key_b is told = told refl
 ask_tells T six (Ask.Control A (ControlCall.Keys own other)) key_a key_b is told = absurd is.2
 ask_tells T six (Ask.Control A (ControlCall.Look path)) key_a key_b is told = tt
@@ -446,7 +446,7 @@ module _ (p : PathState Carried) where
   key_tells T None none is = absurd (false≢true is)
   key_tells T (Some key) none is = absurd (false≢true (sym none))
 
-  duty_tells : (U T : Type 0) (d : Duty) (ds : List Duty) → Learns U T (d ∷ ds) p.a.treated.items → is_key_told (ask_for values d p) ≡ true → T
+  pub duty_tells : (U T : Type 0) (d : Duty) (ds : List Duty) → Learns U T (d ∷ ds) p.a.treated.items → is_key_told (ask_for values d p) ≡ true → T
   duty_tells U T (Duty.Ask (AskDuty.PeerKey A)) ds (inl calm) is = absurd (false≢true calm)
   duty_tells U T (Duty.Ask (AskDuty.PeerKey A)) ds (inr (inl none)) is = key_tells T (key_heard p.a.treated.items) none is
   duty_tells U T (Duty.Ask (AskDuty.PeerKey A)) ds (inr (inr shown)) is = shown
@@ -476,7 +476,7 @@ app_untold AppDuty.FastClose a = stop_untold a.side
 app_untold AppDuty.Write a = refl
 app_untold _ a = refl
 
-app_tells : (T : Type 0) (ds : List AppDuty) (a : AppState) (x : Ask) → app_asks_first ds a ≡ Some x → is_key_told x ≡ true → T
+pub app_tells : (T : Type 0) (ds : List AppDuty) (a : AppState) (x : Ask) → app_asks_first ds a ≡ Some x → is_key_told x ≡ true → T
 app_tells T [] a x asks is = cc
 app_tells T (d ∷ ds) a x asks is = absurd (both_ways _ (app_untold d a) (ap is_key_told (same_Some _ x asks) ∙ is))
 

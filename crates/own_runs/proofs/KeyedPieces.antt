@@ -87,7 +87,7 @@ EndBears p = Every (Needs (MayBear p)) p.a.tcp.send.records
 takes_may : (r : Reply) (p : PathState Carried) → MayBear p → MayBear (takes values r p)
 takes_may r p h = (takes_key r p h.0, λ joins. (takes_clear values r p).a.0 (h.1 (ap is_joined (sym (takes_keeps values r p).1) ∙ joins)))
 
-next_profile : (p : PathState Carried) → (next_round p).profile ≡ p.profile
+pub next_profile : (p : PathState Carried) → (next_round p).profile ≡ p.profile
 next_profile p = (first_keeps (record p { clock = p.until; until = p.until + 100 })).1
 
 next_may : (p : PathState Carried) → MayBear p → MayBear (next_round p)
@@ -149,7 +149,7 @@ module _ (start : Start) where
   abbrev pub WorldKeyed : WorldState Carried → Type 0
   WorldKeyed w = (actor : ℕ) (c : ActorCrew Carried) → slice_get w.crew actor ≡ Some c → MemberKeyed c.member
 
-  abbrev MemberKnows : SixBooks → Actor Carried → Type 0
+  abbrev pub MemberKnows : SixBooks → Actor Carried → Type 0
   MemberKnows six (App a) = Unit {0}
   MemberKnows six (Path p) = PathKnows start.key_a start.key_b true NoMore six p
 

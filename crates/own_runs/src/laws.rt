@@ -2,7 +2,7 @@
 ghost use Rattle.judge_rules.specs.declared.finding.Rule.TheVariants.{AddressHmac, DataAck, DataFin, DssSum, Fail, FastCloseKey, Form, Infinite, JoinHmac, Keys, Mapping, PlaceContent, Token, Within};
 ghost use Rattle.own_runs.specs.Arrivals.{EachAckIsCarried, EachAckRises, WhatCameWasSent};
 ghost use Rattle.own_runs.specs.Fitting.{TracesFit};
-ghost use Rattle.own_runs.specs.KeysShown.{EachShowsKeysSo};
+ghost use Rattle.own_runs.specs.KeysShown.{EachComesBehindKeys, EachShowsKeysSo};
 ghost use Rattle.own_runs.specs.Packets.{CapturesAreTheirPackets};
 ghost use Rattle.own_runs.specs.Runs.{DataFinsEndTheFiles, NoRunBreaks, NoWholeRunBreaks, StreamsBeginTheFiles, WholeStreamsAreTheFiles};
 ghost use Rattle.own_runs.specs.Segments.{SegmentsAreFound, WrittenSegmentsAreFound};
@@ -107,7 +107,9 @@ pub fn data_acks_never_fall()
 
 /// A law: MP_CAPABLE with both keys goes out from A alone, on a segment without SYN and RST, and with data on path 0 alone (RFC 8684,
 /// section 3.1): no segment of a path that joins tells a data-level length by it. And each SYN of B on path 0 shows B's key. It holds after every
-/// list of turns where the script alters no payload and takes no options away, and the numbers of the start fit.
+/// list of turns where the script alters no payload and takes no options away, and the numbers of the start fit (`shows`). Then each segment of A
+/// that maps octets or tells the DATA_FIN comes behind one of A on path 0 that shows both keys (`behind`).
 pub fn the_opener_shows_both_keys()
-    ensures { EachShowsKeysSo }
+    ensures shows { EachShowsKeysSo }
+    ensures behind { EachComesBehindKeys }
 {}

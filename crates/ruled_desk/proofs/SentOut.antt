@@ -2,8 +2,7 @@
 use Rattle.ruled_desk.proofs.Words.{◌≡◌, refl, sym, ◌∙◌, ap, subst, ℕ, zero, suc, ◌<◌, List, [], ◌∷◌, ◌++◌, length, Option, Some, None, arith, All, slice_index_or}
 use Rattle.ruled_desk.proofs.Words.{Ask, Reply, Rider, HasPass, Rode, SixLocked, AllHave, AllRode, IsSent}
 use Rattle.std.specs.Arc.{arc_value}
-use Rattle.std.specs.Prelude.{IfSome, Box}
-use Rattle.std.specs.Box.{box_value}
+use Rattle.std.specs.Prelude.{IfSome}
 use Rattle.ruled_desk.specs.declared.errands.Errand.{Errand}
 
 module _ {A : Type 0} where
@@ -55,11 +54,11 @@ module _ {A : Type 0} where
     rode_each (o ∷ olds) (n ∷ news) all zero d within = all.0
     rode_each (o ∷ olds) (n ∷ news) all (suc i) d within = rode_each olds news all.1 i d (omega (arith, within))
 
-module _ {A Z : Type 0} where
+module _ {A : Type 0} where
   -- ---- a rider that is out, or was kept
 
-  pub sent_out : (desk : SixLocked) (rider : Rider A) (out : Option (Box (Errand A) Z)) (kept : Option (Rider A)) → kept ≡ None → IsSent desk rider kept out
-      → (errand : Box (Errand A) Z) × (out ≡ Some errand) × ((box_value errand).rider ≡ rider) × (arc_value (box_value errand).desk ≡ desk)
+  pub sent_out : (desk : SixLocked) (rider : Rider A) (out : Option (Errand A)) (kept : Option (Rider A)) → kept ≡ None → IsSent desk rider kept out
+      → (errand : Errand A) × (out ≡ Some errand) × (errand.rider ≡ rider) × (arc_value errand.desk ≡ desk)
   sent_out desk rider None None is sent = absurd sent
   sent_out desk rider (Some errand) None is sent = (errand, refl, sent.0, sent.1)
   sent_out desk rider out (Some same) is sent = absurd (some_none is)
@@ -67,7 +66,7 @@ module _ {A Z : Type 0} where
       some_none : Some same ≡ None → ⊥
       some_none e = cc
 
-  pub not_sent : (desk : SixLocked) (rider same : Rider A) (out : Option (Box (Errand A) Z)) (kept : Option (Rider A)) → kept ≡ Some same → IsSent desk rider kept out
+  pub not_sent : (desk : SixLocked) (rider same : Rider A) (out : Option (Errand A)) (kept : Option (Rider A)) → kept ≡ Some same → IsSent desk rider kept out
       → (out ≡ None) × (same ≡ rider)
   not_sent desk rider same None None is sent = absurd sent
   not_sent desk rider same (Some errand) None is sent = absurd (none_some is)
@@ -78,15 +77,19 @@ module _ {A Z : Type 0} where
   not_sent desk rider same (Some errand) (Some other) is sent = absurd sent
 
   -- what comes back of a rider that was out
-  pub fetched : (asks : A → Option Ask) (takes : Reply → A → A) (desk : SixLocked) (rider : Rider A) (out : Option (Box (Errand A) Z)) (kept : Option (Rider A)) (back : Rider A)
-      → kept ≡ None → IsSent desk rider kept out → IfSome out (λ errand. Rode asks takes (arc_value (box_value errand).desk) (box_value errand).rider back) → Rode asks takes desk rider back
+  pub fetched : (asks : A → Option Ask) (takes : Reply → A → A) (desk : SixLocked) (rider : Rider A) (out : Option (Errand A)) (kept : Option (Rider A)) (back : Rider A)
+      → kept ≡ None → IsSent desk rider kept out → IfSome out (λ errand. Rode asks takes (arc_value errand.desk) errand.rider back) → Rode asks takes desk rider back
   fetched asks takes desk rider None None back is sent done = absurd sent
   fetched asks takes desk rider (Some errand) None back is sent done =
-      subst (λ d. Rode asks takes d rider back) sent.1 (subst (λ r. Rode asks takes (arc_value (box_value errand).desk) r back) sent.0 done)
+      subst (λ d. Rode asks takes d rider back) sent.1 (subst (λ r. Rode asks takes (arc_value errand.desk) r back) sent.0 done)
   fetched asks takes desk rider out (Some same) back is sent done = absurd (some_none is)
     where
       some_none : Some same ≡ None → ⊥
       some_none e = cc
+
+-- the one that is out
+pub same_out : {X : Type 0} (out : Option X) (one other : X) → out ≡ Some one → out ≡ Some other → one ≡ other
+same_out out one other is too = let both : Some one ≡ Some other = sym is ∙ too in cc
 
 -- of givers of which no turn is out, the first and the others
 pub first_rests : {X : Type 0} (all : List (Option X)) (first : Option X) (others : List (Option X)) → all ≡ first ∷ others → All (λ x. x ≡ None) all

@@ -1,6 +1,6 @@
 -- A round over six books, from what its desk promises of each rider.
 use Rattle.ruled_desk.proofs.Words.{◌≡◌, refl, sym, ◌∙◌, ap, subst, ℕ, zero, suc, ◌-◌, ◌^◌, ◌<◌, ◌≤◌, ◌⊎◌, ◌↔◌, inl, inr, Bool, true, false, ◌||◌, List, []}
-use Rattle.ruled_desk.proofs.Words.{◌∷◌, ◌++◌, length, map, take, drop, Option, Some, None, Result, Ok, Err, arith, get_or-map, length-map, append-nil, OnOk}
+use Rattle.ruled_desk.proofs.Words.{◌∷◌, ◌++◌, length, map, Option, Some, None, Result, Ok, Err, arith, get_or-map, length-map, map-append, append-nil, OnOk}
 use Rattle.ruled_desk.proofs.Words.{All, slice_index_or, list_any, Journaled, Entry, Refusal, Memory, Stamps, Ask, Note, Reply, send_note, reassembly_note}
 use Rattle.ruled_desk.proofs.Words.{control_note, Crew, is_refused, Turned, HasLastStamp, GainsJust, Rider, AreNumbered, HasPass, NotesFull, OneIsUsedUp, Rode}
 use Rattle.ruled_desk.proofs.Words.{all_joined, given_pass, is_rider_refused, known_with, pass_taken, SixLocked, SixKnown, Passed, nothing_known, AllGainJust}
@@ -20,6 +20,11 @@ module _ {A : Type 0} where
   pub crew_again : (crew : List (Crew A)) → crew_of (map without_pass crew) ≡ crew
   crew_again [] = refl
   crew_again (c ∷ crew) = ap (λ rest. c ∷ rest) (crew_again crew)
+
+  -- actors of whom some are riders
+  pub put_again : (crew all : List (Crew A)) (riders : List (Rider A)) → map without_pass crew ++ riders ≡ map without_pass all → crew ++ crew_of riders ≡ all
+  put_again crew all riders is =
+      ap (λ l. l ++ crew_of riders) (sym (crew_again crew)) ∙ sym (map-append (λ rider. rider.crew) (map without_pass crew) riders) ∙ ap (λ l. crew_of l) is ∙ crew_again all
 
   pub all_given : (desk : SixLocked) (riders : List (Rider A)) → All (HasPass desk) (map (given_pass desk) riders)
   all_given desk [] k d within = absurd (omega (arith, within))

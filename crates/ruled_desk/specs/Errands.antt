@@ -1,7 +1,6 @@
 -- Riders that are sent out to workers, and come back.
-use Rattle.std.specs.Prelude.{◌≡◌, List, [], ◌∷◌, Option, Some, None, Box}
+use Rattle.std.specs.Prelude.{◌≡◌, List, [], ◌∷◌, Option, Some, None}
 use Rattle.std.specs.Arc.{arc_value}
-use Rattle.std.specs.Box.{box_value}
 use Rattle.actor_desk.specs.declared.ask.Ask.{Ask}
 use Rattle.actor_desk.specs.declared.ask.Reply.{Reply}
 use Rattle.ruled_desk.specs.SixSeats.{SixLocked}
@@ -9,14 +8,13 @@ use Rattle.ruled_desk.specs.declared.errands.Errand.{Errand}
 use Rattle.ruled_desk.specs.declared.rider.Rider.{Rider}
 use Rattle.ruled_desk.specs.Riding.{HasPass, Rode}
 
-module _ {A Z : Type 0} where
+module _ {A : Type 0} where
   -- the rider is out at this desk, or was kept
-  abbrev pub IsSent : SixLocked → Rider A → Option (Rider A) → Option (Box (Errand A) Z) → Type 0
-  IsSent desk rider None (Some errand) = ((box_value errand).rider ≡ rider) × (arc_value (box_value errand).desk ≡ desk)
+  abbrev pub IsSent : SixLocked → Rider A → Option (Rider A) → Option (Errand A) → Type 0
+  IsSent desk rider None (Some errand) = (errand.rider ≡ rider) × (arc_value errand.desk ≡ desk)
   IsSent desk rider (Some kept) None = kept ≡ rider
   IsSent desk rider kept out = ⊥
 
-module _ {A : Type 0} where
   -- each rider has a pass of its own actor
   abbrev pub AllHave : SixLocked → List (Rider A) → Type 0
   AllHave desk [] = Unit {0}

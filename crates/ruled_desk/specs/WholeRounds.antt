@@ -1,5 +1,5 @@
 -- A round over six books, each in a table for as long as the round takes.
-use Rattle.std.specs.Prelude.{ℕ, suc, ◌≡◌, ◌-◌, ◌^◌, ◌<◌, ◌≤◌, ◌↔◌, ◌⊎◌, true, false, List, [], ◌∷◌, length, map, Option, None, Result, Err, All}
+use Rattle.std.specs.Prelude.{ℕ, suc, ◌≡◌, ◌-◌, ◌^◌, ◌<◌, ◌≤◌, ◌↔◌, true, false, List, [], ◌∷◌, length, map, Option, None, Result, Err, All}
 use Rattle.std.specs.List.{Contains, list_any, slice_index_or}
 use Rattle.stamped_book.specs.declared.stamped.Refusal.{Refusal}
 use Rattle.stamped_book.specs.declared.stamped.Refusal.TheVariants.{Memory, Stamps}

@@ -1,13 +1,13 @@
 //! Turns as jobs of workers that stay from round to round.
-ghost use Rattle.std.specs.Prelude.{◌≡◌, ◌≤◌, ◌<◌, ◌++◌, ◌∷◌, [], None, All, vec_len, vec_capacity};
+ghost use Rattle.std.specs.Prelude.{◌≡◌, ◌≤◌, None, Some, All, IfSome, vec_capacity};
 ghost use Rattle.std.specs.Arc.{arc_value};
-ghost use Rattle.std.specs.Box.{box_value};
+ghost use Rattle.ruled_desk.specs.declared.errands.Errand.{Errand};
 ghost use Rattle.ruled_desk.specs.declared.rider.Rider.{Rider};
 ghost use Rattle.ruled_desk.specs.Errands.{AllHave, AllRode, IsSent};
 ghost use Rattle.ruled_desk.specs.Riding.{HasPass, Rode};
 
 use crate::desk::RuledDesk;
-use crate::rider::Rider;
+use crate::rider::Mounted;
 use crate::rounds::ride;
 use actor_desk::Actor;
 use actor_turn::Gate;
@@ -21,7 +21,7 @@ use std::thread::Threads;
 /// A rider's turn as a job: the rider, with its pass, and the desk at which it rides.
 #[derive(Drop)]
 pub struct Errand<A> {
-    pub(crate) rider: Rider<A>,
+    pub(crate) rider: Mounted<A>,
     pub(crate) desk: Arc<RuledDesk, Global>,
 }
 
@@ -30,23 +30,21 @@ pub struct Riding<A> {
     actor: PhantomData<A>,
 }
 
-impl<A: Actor> Deed<Box<Errand<A>>> for Riding<A> {
+impl<A: Actor> Deed<Errand<A>> for Riding<A> {
     ghost use Rattle.std.specs.Arc.{arc_value};
-    ghost use Rattle.std.specs.Box.{box_value};
     ghost use Rattle.ruled_desk.specs.Riding.{HasPass, Rode};
 
-    ghost may = { λ errand. HasPass (arc_value (box_value errand).desk) (box_value errand).rider };
+    ghost may = { λ errand. HasPass (arc_value errand.desk) errand.rider };
 
     ghost does = { λ errand done. Rode A.asks A.takes
-        (arc_value (box_value errand).desk)
-        (box_value errand).rider (box_value done).rider };
+        (arc_value errand.desk) errand.rider done.rider };
 }
 
 /// Who gives turns to a worker.
-pub type TurnGiver<A> = Giver<Box<Errand<A>>, Riding<A>>;
+pub type TurnGiver<A> = Giver<Errand<A>, Riding<A>>;
 
 /// Who makes turns for a giver.
-pub type TurnWorker<A> = Worker<Box<Errand<A>>, Riding<A>>;
+pub type TurnWorker<A> = Worker<Errand<A>, Riding<A>>;
 
 // One berth more, where there is memory.
 fn add_berth<A: Actor + Drop>(
@@ -83,6 +81,15 @@ pub fn open_turns<A: Actor + Drop>(
     (givers, workers)
 }
 
+/// Waits until the workers have come, each for two seconds at most, and for none after one that hasn't.
+pub fn meet_all<A: Actor + Drop, R: Wait>(rt: &R, givers: &[TurnGiver<A>]) {
+    for giver in givers {
+        if !giver.meet(rt) {
+            return;
+        }
+    }
+}
+
 /// No more turns come to the workers.
 pub fn dismiss_all<A: Actor + Drop>(givers: &mut Vec<TurnGiver<A>>)
     requires { All (λ giver. giver ≡ None) givers.old.items }
@@ -112,7 +119,7 @@ fn serve_next<A: Actor + Drop, G: Gate, R: Wait>(
 {
     match worker.next(rt) {
         Some(mut errand) => {
-            run(rt, alloc, &mut *errand, gate);
+            run(rt, alloc, &mut errand, gate);
             worker.finish(errand);
             true
         }
@@ -159,7 +166,7 @@ pub fn serve_all<A: Actor + Drop + Send, G: Gate + Sync, R: Threads + Wait + Syn
 
 impl<A> Errand<A> {
     // The rider, without the desk.
-    fn into_rider(self) -> Rider<A>
+    fn into_rider(self) -> Mounted<A>
         ensures { result ≡ self.rider }
     {
         let Errand { rider, desk: _ } = self;
@@ -168,25 +175,23 @@ impl<A> Errand<A> {
 }
 
 // Offers an errand: its rider, where the worker has not come.
-fn offer<A: Actor + Drop>(giver: &mut TurnGiver<A>, errand: Box<Errand<A>>) -> Option<Rider<A>>
+fn offer<A: Actor + Drop>(giver: &mut TurnGiver<A>, errand: Errand<A>) -> Option<Mounted<A>>
     requires rests { giver.old ≡ None }
-    requires pass { HasPass (arc_value (box_value errand).desk) (box_value errand).rider }
-    ensures { IsSent (arc_value (box_value errand).desk) (box_value errand).rider result
-        giver.new }
+    requires pass { HasPass (arc_value errand.desk) errand.rider }
+    ensures { IsSent (arc_value errand.desk) errand.rider result giver.new }
 {
     match giver.offer(errand) {
         Ok(()) => None,
-        Err(errand) => Some(Box::into_inner(errand).into_rider()),
+        Err(errand) => Some(errand.into_rider()),
     }
 }
 
-// Sends a rider out, unless there is no memory, the worker has not come or the desk has too many owners.
+// Sends a rider out, unless the worker has not come or the desk has too many owners.
 fn send<A: Actor + Drop>(
-    alloc: Global,
     giver: &mut TurnGiver<A>,
-    rider: Rider<A>,
+    rider: Mounted<A>,
     desk: &Arc<RuledDesk, Global>,
-) -> Option<Rider<A>>
+) -> Option<Mounted<A>>
     requires rests { giver.old ≡ None }
     requires pass { HasPass (arc_value desk.now) rider }
     ensures { IsSent (arc_value desk.now) rider result giver.new }
@@ -194,21 +199,40 @@ fn send<A: Actor + Drop>(
     let Ok(desk) = Arc::try_clone(desk) else {
         return Some(rider);
     };
-    match Box::new(alloc, Errand { rider, desk }) {
-        Ok(errand) => offer(giver, errand),
-        Err(AllocFailed { value }) => Some(value.into_rider()),
+    offer(giver, Errand { rider, desk })
+}
+
+// The rider that is out: back from its worker, or after a turn here where the worker hasn't begun.
+fn come_home<A: Actor + Drop, G: Gate, R: Wait>(
+    rt: &R,
+    alloc: Global,
+    giver: &mut TurnGiver<A>,
+    gate: &G,
+) -> Mounted<A>
+    requires { (errand : Errand A) × (giver.old ≡ Some errand) ×
+        HasPass (arc_value errand.desk) errand.rider }
+    ensures rode { IfSome giver.old (λ errand.
+        Rode A.asks A.takes (arc_value errand.desk) errand.rider result) }
+    ensures rests { giver.new ≡ None }
+{
+    match giver.recall() {
+        Some(mut errand) => {
+            run(rt, alloc, &mut errand, gate);
+            errand.into_rider()
+        }
+        None => giver.fetch(rt).into_rider(),
     }
 }
 
-// The rider back from its worker, or after a turn here where it wasn't sent.
+// The rider back from its worker, or after a turn here where it wasn't sent, or the worker hasn't begun.
 fn back<A: Actor + Drop, G: Gate, R: Wait>(
     rt: &R,
     alloc: Global,
     giver: &mut TurnGiver<A>,
-    kept: Option<Rider<A>>,
+    kept: Option<Mounted<A>>,
     desk: &RuledDesk,
     gate: &G,
-) -> Rider<A>
+) -> Mounted<A>
     requires { (rider : Rider A) × IsSent desk.now rider kept giver.old × HasPass desk.now rider }
     ensures rode { (rider : Rider A) → IsSent desk.now rider kept giver.old →
         HasPass desk.now rider → Rode A.asks A.takes desk.now rider result }
@@ -219,7 +243,7 @@ fn back<A: Actor + Drop, G: Gate, R: Wait>(
             ride(rt, alloc, &mut rider, desk, gate);
             rider
         }
-        None => Box::into_inner(giver.fetch(rt)).into_rider(),
+        None => come_home(rt, alloc, giver, gate),
     }
 }
 
@@ -227,7 +251,7 @@ fn back<A: Actor + Drop, G: Gate, R: Wait>(
 fn ride_here<A: Actor + Drop, G: Gate, R: Wait>(
     rt: &R,
     alloc: Global,
-    riders: &mut Vec<Rider<A>>,
+    riders: &mut Vec<Mounted<A>>,
     desk: &RuledDesk,
     gate: &G,
 )
@@ -250,7 +274,7 @@ fn ride_apart<A: Actor + Drop, G: Gate, R: Wait>(
     rt: &R,
     alloc: Global,
     givers: &mut [TurnGiver<A>],
-    riders: &mut Vec<Rider<A>>,
+    riders: &mut Vec<Mounted<A>>,
     desk: &Arc<RuledDesk, Global>,
     gate: &G,
 )
@@ -273,7 +297,7 @@ fn ride_beside<A: Actor + Drop, G: Gate, R: Wait>(
     alloc: Global,
     giver: &mut TurnGiver<A>,
     others: &mut [TurnGiver<A>],
-    riders: &mut Vec<Rider<A>>,
+    riders: &mut Vec<Mounted<A>>,
     desk: &Arc<RuledDesk, Global>,
     gate: &G,
 )
@@ -288,7 +312,7 @@ fn ride_beside<A: Actor + Drop, G: Gate, R: Wait>(
     let Some(rider) = riders.pop() else {
         return;
     };
-    let kept = send(alloc, giver, rider, desk);
+    let kept = send(giver, rider, desk);
     ride_apart(rt, alloc, others, riders, desk, gate);
     riders.push_reserved(back(rt, alloc, giver, kept, &**desk, gate));
 }
@@ -308,12 +332,12 @@ fn unshared<R: Wait>(rt: &R, desk: Arc<RuledDesk, Global>) -> RuledDesk
     unreachable!()
 }
 
-/// The turns of all riders at a desk, which comes back: each at a worker, as far as these go and have come, and else here.
+/// The turns of all riders at a desk, which comes back: each at a worker, as far as these go and begin in time, and else here.
 pub(crate) fn ride_out<A: Actor + Drop, G: Gate, R: Wait>(
     rt: &R,
     alloc: Global,
     givers: &mut [TurnGiver<A>],
-    riders: &mut Vec<Rider<A>>,
+    riders: &mut Vec<Mounted<A>>,
     desk: RuledDesk,
     gate: &G,
 ) -> RuledDesk

@@ -25,7 +25,9 @@ mod seats;
 mod waiting;
 
 pub use desk::{OpenFault, RootPass, RuledDesk, RuledPass};
-pub use errands::{Errand, Riding, TurnGiver, TurnWorker, dismiss_all, open_turns, serve_all};
+pub use errands::{
+    Errand, Riding, TurnGiver, TurnWorker, dismiss_all, meet_all, open_turns, serve_all,
+};
 pub use laws::gaining_alike_stays_paired;
-pub use rider::Rider;
+pub use rider::{Mounted, Rider};
 pub use rounds::{RuledSeat, round_at_tables, ruled_round};

@@ -11,9 +11,13 @@ use actor_desk::Kept;
 use atomic_table::{Refused, Seat, Table};
 use stamped_book::{Book, Stamped};
 use std::alloc::Global;
+use std::hint;
 use std::marker::Model;
 use std::snapshot::Snapshot;
 use std::sync::{Mutex, MutexGuard, Wait};
+
+// How often who waits at a door looks before it sleeps. A call takes less time than that.
+const LOOKS: u32 = 300;
 
 /// A seat at the table of a book.
 pub(crate) type BookSeat<O> = Seat<Option<Held<O>>, BookView<O>>;
@@ -179,6 +183,12 @@ impl<O: Answering + Drop> RuledLock<O> {
 
     /// Waits until nobody else is past the door. A thread that runs may go before those that sleep there.
     pub(crate) fn pass_door<R: Wait>(&self, rt: &R) -> MutexGuard<'_, ()> {
+        for _ in 0..LOOKS {
+            if let Some(guard) = self.door.try_lock() {
+                return guard;
+            }
+            hint::spin_loop();
+        }
         self.door.lock(rt)
     }
 

@@ -22,7 +22,7 @@ use crate::desk::{OpenFault, RootPass, RuledDesk, RuledPass};
 use crate::errands::{TurnGiver, ride_out};
 use crate::mounting::{dismount, mount};
 use crate::refusing::outcome_of;
-use crate::rider::Rider;
+use crate::rider::Mounted;
 use actor_desk::{Actor, Ask, Books, Crew, Desk, Reply};
 use actor_turn::{Gate, turn};
 use control_book::{ControlCall, ControlReply};
@@ -264,13 +264,14 @@ fn turn_with<A: Actor, G: Gate, R: Wait>(
 pub(crate) fn ride<A: Actor, G: Gate, R: Wait>(
     rt: &R,
     alloc: Global,
-    rider: &mut Rider<A>,
+    rider: &mut Mounted<A>,
     desk: &RuledDesk,
     gate: &G,
 )
     requires { HasPass desk.now rider.old }
     ensures { Rode A.asks A.takes desk.now rider.old rider.new }
 {
+    let rider = &mut *rider.rider;
     match rider.pass.take() {
         Some(pass) => {
             rider.pass = Some(turn_with(rt, alloc, &mut rider.crew, pass, desk, gate));
@@ -279,8 +280,8 @@ pub(crate) fn ride<A: Actor, G: Gate, R: Wait>(
     }
 }
 
-/// A round: the turns of all riders, each at a worker with a seat of its pass, as far as there are workers that have come, or else
-/// one after the other here, where the last one always is. The steps that were made so far stand, whatever the answer, each rider
+/// A round: the turns of all riders, each at a worker with a seat of its pass, as far as workers have come and begin before this
+/// thread is free, or else one after the other here, where the last one always is. The steps that were made so far stand, whatever the answer, each rider
 /// has its pass again, no rider is out, and the desk comes back as it was.
 ///
 /// # Errors
@@ -290,7 +291,7 @@ pub(crate) fn ride<A: Actor, G: Gate, R: Wait>(
 pub fn ruled_round<A: Actor + Drop, G: Gate, R: Wait>(
     rt: &R,
     alloc: Global,
-    riders: &mut Vec<Rider<A>>,
+    riders: &mut Vec<Mounted<A>>,
     desk: RuledDesk,
     gate: &G,
     givers: &mut [TurnGiver<A>],
@@ -316,7 +317,7 @@ pub fn ruled_round<A: Actor + Drop, G: Gate, R: Wait>(
 }
 
 // A pass for each rider. The riders are the actors from 0 on, and no pass is out.
-fn give_passes<A>(desk: &RuledDesk, root: &mut RootPass, riders: &mut Vec<Rider<A>>)
+fn give_passes<A>(desk: &RuledDesk, root: &mut RootPass, riders: &mut Vec<Mounted<A>>)
     requires root { AreOf desk.now root.old.books }
     requires home { (actor : ℕ) → is_out root.old.out actor ≡ false }
     requires numbered { AreNumbered 0 riders.old.items }
@@ -329,7 +330,7 @@ fn give_passes<A>(desk: &RuledDesk, root: &mut RootPass, riders: &mut Vec<Rider<
 }
 
 // The pass of each rider comes back. The riders are the actors from 0 on, and no other pass is out.
-fn take_passes<A>(desk: &RuledDesk, root: &mut RootPass, riders: &mut Vec<Rider<A>>)
+fn take_passes<A>(desk: &RuledDesk, root: &mut RootPass, riders: &mut Vec<Mounted<A>>)
     requires root { AreOf desk.now root.old.books }
     requires passes { All (HasPass desk.now) riders.old.items }
     requires numbered { AreNumbered 0 riders.old.items }
@@ -348,7 +349,7 @@ fn take_passes<A>(desk: &RuledDesk, root: &mut RootPass, riders: &mut Vec<Rider<
 fn ride_at<A: Actor + Drop, G: Gate, R: Wait>(
     rt: &R,
     alloc: Global,
-    riders: &mut Vec<Rider<A>>,
+    riders: &mut Vec<Mounted<A>>,
     desk: RuledDesk,
     root: RootPass,
     gate: &G,
@@ -379,7 +380,7 @@ fn ride_at<A: Actor + Drop, G: Gate, R: Wait>(
 fn ride_all<A: Actor + Drop, G: Gate, R: Wait>(
     rt: &R,
     alloc: Global,
-    riders: &mut Vec<Rider<A>>,
+    riders: &mut Vec<Mounted<A>>,
     books: Books,
     gate: &G,
     givers: &mut [TurnGiver<A>],

@@ -6,8 +6,9 @@ ghost use Rattle.send_book.specs.Steps as sending;
 ghost use Rattle.reassembly_book.specs.Steps as arriving;
 ghost use Rattle.control_book.specs.Calls as controlling;
 ghost use Rattle.actor_desk.specs.declared.actor.Crew.{Crew};
-ghost use Rattle.actor_desk.specs.Bounds.{IsSmallSend, IsSmallReassembly, IsSmallControl};
-ghost use Rattle.actor_desk.specs.Kinds.{IsSendKind, IsReassemblyKind, IsControlKind};
+ghost use Rattle.actor_desk.specs.declared.ask.Ask.TheVariants as asks;
+ghost use Rattle.actor_desk.specs.Bounds.{IsBounded};
+ghost use Rattle.actor_desk.specs.Kinds.{IsOfKind};
 ghost use Rattle.actor_desk.specs.Noted.{Rises};
 ghost use Rattle.actor_turn.specs.Turns.{Turned, is_refused};
 ghost use Rattle.actor_turn.specs.Extending.{BooksExtend};
@@ -18,9 +19,9 @@ use crate::held::{Held, Start};
 use crate::refusing::outcome_of;
 use actor_desk::{Actor, Ask, Books, Crew, Desk, Reply};
 use actor_turn::{Gate, turn};
-use control_book::{ControlBook, ControlCall, ControlReply};
-use reassembly_book::{ReassemblyBook, ReassemblyCall, ReassemblyReply};
-use send_book::{SendBook, SendCall, SendReply};
+use control_book::{ControlBook, ControlCall};
+use reassembly_book::{ReassemblyBook, ReassemblyCall};
+use send_book::{SendBook, SendCall};
 use sides::{Object, Side};
 use stamped_book::{Pass, Refusal};
 use std::alloc::Global;
@@ -56,16 +57,16 @@ impl<N: Naming, G: Gate, R: Wait> LockedSeat<'_, N, G, R> {
         side: Side,
         pass: &mut Pass,
         call: &SendCall,
-    ) -> Result<SendReply, Refusal>
+    ) -> Result<Reply, Refusal>
         requires { sending.CanAsk call.now }
-        ensures kind { IfOk result (λ reply. IsSendKind call.now reply) }
-        ensures bounds { IfOk result (λ reply. IsSmallSend reply) }
+        ensures kind { IfOk result (λ reply. IsOfKind (asks.Send side call.now) reply) }
+        ensures bounds { IfOk result (λ reply. IsBounded (asks.Send side call.now) reply) }
         ensures rises { OnOk result (Rises pass.old pass.new) }
         ensures pass_err { OnErr result (pass.new ≡ pass.old) }
     {
         let mut held = lock.lock(self.rt);
         self.gate.held(pass.actor, Object::Send(side));
-        ask_send(&mut held, pass, call)
+        Ok(Reply::Send(ask_send(&mut held, pass, call)?))
     }
 
     // One call at a reassembly book, whose lock is held no longer than that.
@@ -75,16 +76,16 @@ impl<N: Naming, G: Gate, R: Wait> LockedSeat<'_, N, G, R> {
         side: Side,
         pass: &mut Pass,
         call: &ReassemblyCall,
-    ) -> Result<ReassemblyReply, Refusal>
+    ) -> Result<Reply, Refusal>
         requires { arriving.CanAsk call.now }
-        ensures kind { IfOk result (λ reply. IsReassemblyKind call.now reply) }
-        ensures bounds { IfOk result (λ reply. IsSmallReassembly reply) }
+        ensures kind { IfOk result (λ reply. IsOfKind (asks.Reassembly side call.now) reply) }
+        ensures bounds { IfOk result (λ reply. IsBounded (asks.Reassembly side call.now) reply) }
         ensures rises { OnOk result (Rises pass.old pass.new) }
         ensures pass_err { OnErr result (pass.new ≡ pass.old) }
     {
         let mut held = lock.lock(self.rt);
         self.gate.held(pass.actor, Object::Reassembly(side));
-        ask_reassembly(&mut held, pass, call)
+        Ok(Reply::Reassembly(ask_reassembly(&mut held, pass, call)?))
     }
 
     // One call at a control book, whose lock is held no longer than that.
@@ -94,16 +95,16 @@ impl<N: Naming, G: Gate, R: Wait> LockedSeat<'_, N, G, R> {
         side: Side,
         pass: &mut Pass,
         call: &ControlCall,
-    ) -> Result<ControlReply, Refusal>
+    ) -> Result<Reply, Refusal>
         requires { controlling.can_ask call.now }
-        ensures kind { IfOk result (λ reply. IsControlKind call.now reply) }
-        ensures bounds { IfOk result (λ reply. IsSmallControl call.now reply) }
+        ensures kind { IfOk result (λ reply. IsOfKind (asks.Control side call.now) reply) }
+        ensures bounds { IfOk result (λ reply. IsBounded (asks.Control side call.now) reply) }
         ensures rises { OnOk result (Rises pass.old pass.new) }
         ensures pass_err { OnErr result (pass.new ≡ pass.old) }
     {
         let mut held = lock.lock(self.rt);
         self.gate.held(pass.actor, Object::Control(side));
-        ask_control(&mut held, pass, call)
+        Ok(Reply::Control(ask_control(&mut held, pass, call)?))
     }
 }
 
@@ -143,30 +144,32 @@ impl<N: Naming, G: Gate, R: Wait> Desk for LockedSeat<'_, N, G, R> {
         ensures pass_err { OnErr result (pass.new ≡ pass.old) }
     {
         match ask {
-            Ask::Send(Side::A, call) => {
-                let reply = self.at_send(&self.desk.send_a, Side::A, pass, call)?;
-                Ok(Reply::Send(reply))
-            }
-            Ask::Send(Side::B, call) => {
-                let reply = self.at_send(&self.desk.send_b, Side::B, pass, call)?;
-                Ok(Reply::Send(reply))
-            }
-            Ask::Reassembly(Side::A, call) => {
-                let reply = self.at_reassembly(&self.desk.reassembly_a, Side::A, pass, call)?;
-                Ok(Reply::Reassembly(reply))
-            }
-            Ask::Reassembly(Side::B, call) => {
-                let reply = self.at_reassembly(&self.desk.reassembly_b, Side::B, pass, call)?;
-                Ok(Reply::Reassembly(reply))
-            }
-            Ask::Control(Side::A, call) => {
-                let reply = self.at_control(&self.desk.control_a, Side::A, pass, call)?;
-                Ok(Reply::Control(reply))
-            }
-            Ask::Control(Side::B, call) => {
-                let reply = self.at_control(&self.desk.control_b, Side::B, pass, call)?;
-                Ok(Reply::Control(reply))
-            }
+            Ask::Send(Side::A, call) => self.at_send(&self.desk.send_a, Side::A, pass, call),
+            Ask::Send(Side::B, call) => self.at_send(&self.desk.send_b, Side::B, pass, call),
+            Ask::Reassembly(Side::A, call) => self.at_reassembly(
+                &self.desk.reassembly_a,
+                Side::A,
+                pass,
+                call,
+            ),
+            Ask::Reassembly(Side::B, call) => self.at_reassembly(
+                &self.desk.reassembly_b,
+                Side::B,
+                pass,
+                call,
+            ),
+            Ask::Control(Side::A, call) => self.at_control(
+                &self.desk.control_a,
+                Side::A,
+                pass,
+                call,
+            ),
+            Ask::Control(Side::B, call) => self.at_control(
+                &self.desk.control_b,
+                Side::B,
+                pass,
+                call,
+            ),
             Ask::Local(_) => unreachable!(),
         }
     }

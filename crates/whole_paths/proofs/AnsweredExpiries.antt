@@ -13,6 +13,7 @@ use Rattle.link_model.specs.Steps.{changed, due_of, next_due, segments_sent}
 use Rattle.link_model.specs.declared.flight.Due.{Due}
 use Rattle.link_model.specs.declared.flight.Flight.{Flight}
 use Rattle.subflow_tcp.specs.States.{is_dead, is_waiting}
+use Rattle.subflow_tcp.specs.declared.dues.Due.{Due as Dues}
 use Rattle.subflow_tcp.specs.declared.handshake.State.{State as EndPhase}
 use Rattle.path_agenda.specs.Agenda.{emission}
 use Rattle.path_agenda.specs.declared.duty.Duty.{Duty}
@@ -23,6 +24,7 @@ use Rattle.path_agenda.specs.declared.duty.StepDuty.TheVariants as step_duties
 use Rattle.path_store.specs.declared.lines.LineLeft.{LineLeft}
 use Rattle.path_core.specs.Events.{before, earlier, earliest, next_copy, next_event, next_join, next_line, tick_of}
 use Rattle.path_core.specs.Handover.{handed}
+use Rattle.path_core.specs.OptionsOut.{ack_said}
 use Rattle.path_core.specs.State.{PathState, end_at}
 use Rattle.path_core.specs.Timer.{next_fire}
 use Rattle.path_core.specs.Values.{Carried, altered, as_arrived, carried_by, stripped, values}
@@ -34,9 +36,10 @@ use Rattle.world_laws.specs.Members.{HoldsOfKind}
 use Rattle.world_laws.specs.Openings.{Start}
 use Rattle.world_laws.specs.RoundDone.{reached}
 use Rattle.world_laws.specs.Worlds.{WorldState, Turn, after_turn}
+use Rattle.whole_paths.specs.AsFar.{IsActorAsFar, stage}
 use Rattle.whole_paths.specs.Answered.{HasAnswered, IsDone}
 use Rattle.whole_paths.specs.Answered.IsDone.{next, over}
-use Rattle.whole_paths.specs.AnsweredExpiries.{IsAnsweredAt, IsAnsweredInTime, IsHeardBy, IsLivingTurn, OpensOn, SegmentsMeanSo}
+use Rattle.whole_paths.specs.AnsweredExpiries.{IsAnsweredAt, IsAnsweredInTime, IsHeardBy, IsLivingTurn, IsOwed, OpensOn, SegmentsMeanSo}
 use Rattle.whole_paths.specs.AnsweredExpiries.{IsHeardBy as heard}
 use Rattle.whole_paths.specs.AnsweredExpiries.{OpensOn as opening}
 use Rattle.whole_paths.specs.Copies.{CopiesGoOn, GoesOnItsWay, IsUnderWay}
@@ -48,8 +51,10 @@ use Rattle.whole_paths.specs.Finish.{IsPathAt, harmed, is_harmed}
 use Rattle.whole_paths.specs.InTime.{ComesFrom}
 use Rattle.whole_paths.specs.Mending.{CopiesAreNumbered, IsSentSoon}
 use Rattle.whole_paths.specs.Mild.{LinkIsMild}
-use Rattle.whole_paths.specs.OwedGoes.{OwedGoes, Owes}
+use Rattle.whole_paths.specs.OwedGoes.{IsReply, OwedGoes}
+use Rattle.whole_paths.specs.OwedGoes.{IsReply as reply}
 use Rattle.whole_paths.specs.OwedGoes.{OwedGoes as owed}
+use Rattle.whole_paths.specs.Reasons.{IsOutstanding}
 use Rattle.whole_paths.specs.SetTimers.{RunsForASecond, TimersRunForASecond}
 use Rattle.whole_paths.specs.Timers.{TimersAreNear}
 use Rattle.whole_paths.specs.Finish.{harms_between, harms_of}
@@ -58,6 +63,7 @@ use Rattle.whole_paths.proofs.Arrivals.{sender_of}
 use Rattle.whole_paths.proofs.Copies.{copies_leave}
 use Rattle.whole_paths.proofs.Marking.{MarksTo, turn_marks}
 use Rattle.whole_paths.proofs.Flying.{Frames, FramesStay, frames_stay}
+use Rattle.whole_paths.proofs.GoesOn.{goes_on_so}
 use Rattle.whole_paths.proofs.InTime.{events_come_in_order, nothing_is_overdue}
 use Rattle.whole_paths.proofs.Mild.{links_are_mild}
 use Rattle.whole_paths.proofs.OwedGoes.{what_is_owed_goes}
@@ -67,6 +73,8 @@ use Rattle.whole_paths.proofs.RecordWaits.{path_is}
 use Rattle.whole_paths.proofs.Resending.{what_runs_out_goes_again}
 use Rattle.whole_paths.proofs.SentByTurns.{each_turn_sends_one_at_most}
 use Rattle.whole_paths.proofs.SentSoon.{what_is_sent_comes_soon}
+use Rattle.whole_paths.proofs.Straying.{end_far}
+use Rattle.whole_paths.proofs.TimerReasons.{each_timer_has_a_reason}
 use Rattle.whole_paths.proofs.SetTimers.{each_timer_runs_for_a_second}
 use Rattle.whole_paths.proofs.Timing.{timers_run_out}
 
@@ -102,7 +110,7 @@ module _ (p : PathState Carried) where
   round_of until None h = tt
   round_of until (Some event) h = elim (nat_lt (tick_of event) until) as (λ b. IsOfATimer (if b then Some event else None)) [ true ↦ h | false ↦ tt ]
 
-  timer_of : (s : Side) (tick : ℕ) → next_event p ≡ Some (happenings.Fires s tick) → (end_at s p).tcp.timing.timer ≡ Some tick
+  pub timer_of : (s : Side) (tick : ℕ) → next_event p ≡ Some (happenings.Fires s tick) → (end_at s p).tcp.timing.timer ≡ Some tick
   timer_of s tick is = subst IsOfATimer is (round_of p.until (earliest p)
       (earlier_of (next_join p.a.tcp.state p.joined_at) _ (join_of p.a.tcp.state p.joined_at)
       (earlier_of (next_line p.lines) _ (line_of p.lines)
@@ -165,6 +173,9 @@ module _ (start : Start) (turns : List Turn) (turn : Turn) (p q : PathState Carr
   runs : (s : Side) → RunsForASecond s p q
   runs = between TimersRunForASecond (each_timer_runs_for_a_second values start turns turn 2 t.before.crew t.before.there)
 
+  far : (s : Side) → stage (end_at s p).tcp.state ≤ stage (end_at s q).tcp.state
+  far s = (end_far p q (between IsActorAsFar (let found = (goes_on_so values w (turn ∷ [])).crew 2 t.before.crew t.before.there in (found.0, found.1, found.2.member))) s).subflow.state
+
   leaves : (f : Flight Carried) → IsUnderWay f p → GoesOnItsWay f p q
   leaves = between CopiesGoOn (copies_leave values w turn 2 t.before.crew t.before.there)
 
@@ -212,30 +223,33 @@ module _ (start : Start) (turns : List Turn) (turn : Turn) (p q : PathState Carr
     same_now same = inl (subst (IsAnsweredInTime Wants Ends Opens s) (sym same) h)
 
     -- what it sends again
-    sends_again : p.clock + 800 ≤ h.by → IsToSend s p → SendsAgain values s p q → Result
-    sends_again low is again = ⊎_elim
+    sends_again : p.clock + 800 ≤ h.by → IsToSend s p → IsOutstanding (end_at s p) → SendsAgain values s p q → Result
+    sends_again low is out again = ⊎_elim
         (λ harm. inr (inl (harm_counts s harm)))
-        (λ soon. still (heard.goes soon.copy soon.there soon.to (let tick = soon.soon in omega (arith, tick, low))
-        (subst (λ x. Wants s x q) (sym (arrives_whole s again.segment p q start.lines link soon)) (mean.goes_again turns turn p q t s is again))))
+        (λ soon. ⊎_elim
+        (λ wants. still (heard.goes soon.copy soon.there soon.to (let tick = soon.soon in omega (arith, tick, low)) (subst (λ x. Wants s x q) (sym (arrives_whole s again.segment p q start.lines link soon)) wants)))
+        over_now
+        (mean.goes_again turns turn p q t s is out again))
         (sent s again.segment again.taken)
 
     goes_again : PathsGoAgain values (Path p) (Path q)
     goes_again = between (PathsGoAgain values) (what_runs_out_goes_again values w turn 2 t.before.crew t.before.there)
 
-    resends_on : p.clock + 800 ≤ h.by → IsToSendAgain s p → Result
-    resends_on low (inl is) = ⊎_elim same_now
-        (λ next. still (heard.resends (let clock = frames.stands (duties.Ask (ask_duties.Return s)) (duties.Send (send_duties.Resend s) ∷ emission s) is refl in omega (arith, clock, low)) (inr next.0)))
+    resends_on : p.clock + 800 ≤ h.by → IsOutstanding (end_at s p) → IsToSendAgain s p → Result
+    resends_on low out (inl is) = ⊎_elim same_now
+        (λ next. still (heard.resends (let clock = frames.stands (duties.Ask (ask_duties.Return s)) (duties.Send (send_duties.Resend s) ∷ emission s) is refl in omega (arith, clock, low))
+        (record { next = inr next.0; outstanding = subst IsOutstanding (sym next.1) out })))
         (goes_again.gives_back s is)
-    resends_on low (inr is) = ⊎_elim same_now (λ again. sends_again low is again) (goes_again.sends s is)
+    resends_on low out (inr is) = ⊎_elim same_now (λ again. sends_again low is out again) (goes_again.sends s is)
 
     -- the peer's reply
     answered : HasAnswered p
     answered = of_path HasAnswered ((copies_are_answered values start turns).each 2 t.before.crew t.before.there)
 
-    owes_none : Owes (end_at (peer s) p) → IsDone p → ⊥
-    owes_none is done = let none = answered done (peer s) (t.lived (peer s)) in ⊎_elim (λ ack. both_ways _ none.ack ack) (λ syn_ack. both_ways _ none.syn_ack syn_ack) is
+    owes_none : IsOwed s p → IsDone p → ⊥
+    owes_none is done = let none = answered done (peer s) (t.lived (peer s)) in both_ways _ none.ack is.ack
 
-    stands_still : Owes (end_at (peer s) p) → (ds : List Duty) → p.agenda ≡ ds → q.clock ≡ p.clock
+    stands_still : IsOwed s p → (ds : List Duty) → p.agenda ≡ ds → q.clock ≡ p.clock
     stands_still is [] first = absurd (owes_none is (over first))
     stands_still is (d ∷ ds) first = by (is_event d) refl
       where
@@ -247,16 +261,23 @@ module _ (start : Start) (turns : List Turn) (turn : Turn) (p q : PathState Carr
         by true e = absurd (owes_none is (next ds (first ∙ ap (λ d. d ∷ ds) (event d e))))
         by false e = frames.stands d ds first e
 
-    owes_on : p.clock + 400 ≤ h.by → Owes (end_at (peer s) p) → Result
-    owes_on low is = by (what_is_owed_goes start turns turn mild p q t.before t.after t.lived (peer s) is)
+    owes_on : p.clock + 400 ≤ h.by → IsOwed s p → Result
+    owes_on low is = by (what_is_owed_goes start turns turn mild p q t.before t.after t.lived (peer s) (inl is.ack))
       where
+        acks : (x : PlainSegment) → IsReply p.profile (peer s) (end_at (peer s) p) x → x ≡ ack_said p.profile (peer s) (end_at (peer s) p).tcp.send.nxt None (end_at (peer s) p)
+        acks x (reply.acks none said) = said
+        acks x (reply.opens none said) = absurd (both_ways _ none is.ack)
+
         by : OwedGoes (peer s) p q → Result
-        by (owed.owes still_is) = still (heard.owes (let clock = stands_still is p.agenda refl in omega (arith, clock, low)) still_is)
+        by (owed.owes same) = still (heard.owes (let clock = stands_still is p.agenda refl in omega (arith, clock, low))
+            (record { opened = (let high = is.opened in let up = far s in omega (arith, high, up)); ack = ap (λ (d : Dues). d.ack) same ∙ is.ack }))
         by (owed.gone u dead) = absurd (both_ways _ (t.lives u) dead)
-        by (owed.goes x reply taken clock) = ⊎_elim
+        by (owed.goes x said taken clock) = ⊎_elim
             (λ harm. inr (inl (harm_counts (peer s) harm)))
-            (λ soon. still (heard.returns soon.copy soon.there (soon.to ∙ sender_of s) (let tick = soon.soon in omega (arith, tick, low))
-            (subst (λ x. Ends s x q) (sym (arrives_whole (peer s) x p q start.lines link soon)) (mean.replies turns turn p q t s x reply taken))))
+            (λ soon. ⊎_elim
+            (λ ends. still (heard.returns soon.copy soon.there (soon.to ∙ sender_of s) (let tick = soon.soon in omega (arith, tick, low)) (subst (λ x. Ends s x q) (sym (arrives_whole (peer s) x p q start.lines link soon)) ends)))
+            over_now
+            (mean.replies turns turn p q t s x is (acks x said)))
             (sent (peer s) x taken)
 
     opens_on : p.clock + 400 ≤ h.by → Opens s p → Result
@@ -264,7 +285,6 @@ module _ (start : Start) (turns : List Turn) (turn : Turn) (p q : PathState Carr
       where
         by : OpensOn Wants Ends Opens s p q → Result
         by (opening.opens clock still_is) = still (heard.opens (omega (arith, clock, low)) still_is)
-        by (opening.owes clock owes) = still (heard.owes (omega (arith, clock, low)) owes)
         by (opening.over none) = over_now none
         by (opening.goes x taken clock ends) = ⊎_elim
             (λ harm. inr (inl (harm_counts (peer s) harm)))
@@ -307,7 +327,7 @@ module _ (start : Start) (turns : List Turn) (turn : Turn) (p q : PathState Carr
     goes_so = by h.heard
       where
         by : IsHeardBy Wants Ends Opens s h.by p → Result
-        by (heard.resends low is) = resends_on low is
+        by (heard.resends low is) = resends_on low is.outstanding is.next
         by (heard.goes f there to low wants) = goes_on f there to low wants
         by (heard.owes low is) = owes_on low is
         by (heard.opens low is) = opens_on low is
@@ -340,6 +360,10 @@ module _ (Wants Ends : Side → PlainSegment → PathState Carried → Type 0) (
       t : IsLivingTurn start turns turn p q
       t = record { before = here; after = there; lived = lived; lives = lives; few = few }
 
+      -- what the timer ran for
+      reason : IsOutstanding (end_at s p)
+      reason = each_timer_has_a_reason start turns p here out.others out.first s (lived s) tick (timer_of p s tick out.next)
+
       timed : Expires s p q → in_a_row (end_at s p) < 5 → IsAnsweredAt Wants Ends Opens s (after_turn values turn (reached values start turns))
       timed expires less =
           let again = expires.again less in record {
@@ -347,7 +371,7 @@ module _ (Wants Ends : Side → PlainSegment → PathState Carried → Type 0) (
             here = there;
             in_time = record {
               by = q.clock + 800;
-              heard = heard.resends (le_refl (q.clock + 800)) again.next;
+              heard = heard.resends (le_refl (q.clock + 800)) (record { next = again.next; outstanding = again.outstanding reason });
               soon = le_refl (q.clock + 800);
               early = subst (λ o. IfSome o (λ tick. q.clock + 800 < tick)) (sym again.timer) (waits (end_at s p).tcp.timing.rtt.rto (least s));
             };
@@ -377,12 +401,12 @@ module _ (Wants Ends : Side → PlainSegment → PathState Carried → Type 0) (
           (happenings.Fires s tick) out.next
 
       by : IsHeardBy Wants Ends Opens s h.by p → ⊥
-      by (heard.resends low is) = not_to_send s out.others p is out.first
+      by (heard.resends low is) = not_to_send s out.others p is.next out.first
       by (heard.goes f there to low wants) = let late_so = late tick f p ordered there in let last = behind in omega (arith, late_so, last, low)
       by (heard.owes low is) =
           let none = subst (HoldsOfKind (λ app. Unit {0}) HasAnswered) here.is ((copies_are_answered values start turns).each 2 here.crew here.there) (next out.others out.first) (peer s) (lived (peer s)) in
-          ⊎_elim (λ ack. both_ways _ none.ack ack) (λ syn_ack. both_ways _ none.syn_ack syn_ack) is
-      by (heard.opens low is) = mean.opens_first turns p here s is out.others out.first
+          both_ways _ none.ack is.ack
+      by (heard.opens low is) = mean.opens_first turns p here lived s is out.others out.first
       by (heard.returns f there to low ends) = let late_so = late tick f p ordered there in let last = behind in omega (arith, late_so, last, low)
 
   living_at : (w : WorldState Carried) (p : PathState Carried) → RunsAlive start w → IsPathAt 0 w p → Living p

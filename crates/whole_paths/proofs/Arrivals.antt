@@ -1,8 +1,8 @@
 -- A piece that comes to an open end is taken in order, with its mapping, or came before.
-use Rattle.std.proofs.Common.{◌≡◌, refl, sym, subst, ap, ◌∙◌, ℕ, ◌+◌, ◌-◌, ◌^◌, ◌<◌, ◌≤◌, arith, min, nat_lt, nat_le, ◌==◌, Bool, true, false, true≢false, not, ◌&&◌, ◌||◌, if◌then◌else◌, Option, Some, is_none, List, [], ◌∷◌, ◌++◌, length, map}
+use Rattle.std.proofs.Common.{◌≡◌, refl, sym, subst, ap, ◌∙◌, ⊎_elim, ℕ, ◌+◌, ◌-◌, ◌^◌, ◌<◌, ◌≤◌, arith, min, nat_lt, nat_le, ◌==◌, Bool, true, false, true≢false, not, ◌&&◌, ◌||◌, if◌then◌else◌, Option, Some, None, is_none, is_some, List, [], ◌∷◌, ◌++◌, length, map}
 use Rattle.std.specs.Prelude.{option_map}
 use Rattle.std.specs.List.{list_any, flat_map}
-use Rattle.std.proofs.lemmas.Bool.{le-leb, lt-ltb, le-ltb, lt-leb, ne_eqb}
+use Rattle.std.proofs.lemmas.Bool.{and_parts, both_ways, eqb-true, le-leb, lt-ltb, le-ltb, lt-leb, ne_eqb}
 use Rattle.std.proofs.lemmas.List.Folds.{list_any-append}
 use Rattle.path_segments.specs.Heard.{HeardSegment}
 use Rattle.path_segments.specs.Laws.{meant, meant_option}
@@ -10,13 +10,17 @@ use Rattle.path_segments.specs.Options.{PlainOption}
 use Rattle.path_segments.specs.Spelled.{PlainSegment}
 use Rattle.path_segments.specs.declared.position.HeardPosition.TheVariants.{At}
 use Rattle.path_segments.specs.declared.segment.PathMapping.TheVariants.{Bytes}
-use Rattle.path_segments.specs.declared.segment.PathOption.TheVariants.{Dss}
+use Rattle.path_segments.specs.declared.segment.PathOption.TheVariants.{Capable, Dss}
+use Rattle.mptcp_options.specs.declared.capable.CapableKeys.TheVariants.{WithData}
 use Rattle.sides.specs.declared.side.Side.{Side}
 use Rattle.sides.specs.declared.side.Side.TheVariants.{A, B}
 use Rattle.sides.specs.Side.{peer}
 use Rattle.link_model.specs.Steps.{changed, due_of}
+use Rattle.dss_mapping.specs.Mappings.{run_of}
+use Rattle.dss_mapping.specs.Runs.{covers}
 use Rattle.dss_mapping.specs.declared.kept.KeptMapping.{KeptMapping}
 use Rattle.link_model.specs.declared.flight.Flight.{Flight}
+use Rattle.subflow_send.specs.Records.{Record}
 use Rattle.subflow_send.specs.Rules.{is_fin}
 use Rattle.subflow_tcp.specs.Emitting.{is_syn}
 use Rattle.subflow_tcp.specs.Judging.{meaning_of, meaning_at, meaning_connected, meaning_placed, meaning_within, meaning_acknowledging, meaning_outside, is_repeated_syn, is_in_window, ends_in_window, is_at_right_edge, is_acceptable, is_at}
@@ -29,10 +33,12 @@ use Rattle.subflow_tcp.specs.declared.verdicts.Meaning.{Meaning}
 use Rattle.subflow_tcp.specs.declared.verdicts.Meaning.TheVariants as means
 use Rattle.path_agenda.specs.declared.heard.Heard.TheVariants as says
 use Rattle.path_core.specs.Arrival.{copy_of, heard_in, acknowledged_in}
-use Rattle.path_core.specs.DssIn.{HeardOption, held_in, is_mapping, kept_of, checksum_heard, ack_items}
-use Rattle.path_core.specs.DssOut.{checksum_told, first_piece_options, infinite_or, mapped_options, place_numbered, plain_options}
+use Rattle.path_core.specs.Choices.{is_side_a}
+use Rattle.path_core.specs.DssIn.{HeardOption, ack_items, checksum_heard, held_if, held_in, is_mapping, kept_of}
+use Rattle.path_core.specs.DssOut.{checksum_told, first_piece_options, is_first_piece, infinite_or, mapped_options, place_numbered, plain_options}
 use Rattle.path_core.specs.End.{PathEnd}
 use Rattle.path_core.specs.Judged.{judged_of}
+use Rattle.path_core.specs.MpJoin.{is_joined}
 use Rattle.path_core.specs.OptionsIn.{items_in, items_of, options_heard}
 use Rattle.path_core.specs.OptionsOut.{record_options}
 use Rattle.path_core.specs.Profile.{Profile}
@@ -40,35 +46,80 @@ use Rattle.path_core.specs.State.{PathState, end_at}
 use Rattle.path_core.specs.Values.{carried_by, Carried, as_arrived, values}
 use Rattle.path_core.specs.declared.judged.Judged.TheVariants as judged
 use Rattle.whole_paths.specs.AsFar.{stage}
-use Rattle.whole_paths.specs.Arrivals.{IsPiece, EachMappedRecordIsAPiece, EachCopyArrives, Takes, CameBefore, Arrival, ComesInOrder, ComesAgain, EachPieceComesInOrder}
+use Rattle.whole_paths.specs.Arrivals.{Arrival, CameBefore, ComesAgain, ComesInOrder, EachCopyArrives, EachMappedRecordIsAPiece, EachPieceComesInOrder, HasItsMapping, IsFirstPiece, IsMappedPiece, IsPiece, Takes}
+use Rattle.whole_paths.specs.Arrivals.{IsMappedPiece as mapped_by}
 use Rattle.whole_paths.specs.Brought.{Comes, IsTo}
+use Rattle.whole_paths.specs.Expiries.{IsSaidAt, IsSegmentOf}
 use Rattle.whole_paths.specs.Mapped.{says_mapping}
 
 -- ---- the segment of a record
 
-pub each_mapped_record_is_a_piece : EachMappedRecordIsAPiece
-each_mapped_record_is_a_piece c s r e x m of_it says = record {
-  syn = of_it.syn ∙ ap is_syn m.kind;
-  fin = of_it.fin ∙ ap is_fin m.kind;
-  rst = of_it.rst;
-  some = subst (λ (octets : List ℕ). 0 < length octets) (sym of_it.payload) m.some;
-  next = e.receiving.next;
-  place = place_numbered c s r.mapping.number;
-  checksum = checksum_told c r.mapping.checksum;
-  options = says.options
+is_a : (s : Side) → is_side_a s ≡ true → s ≡ A
+is_a A is = refl
+is_a B is = absurd (true≢false (sym is))
+
+module _ (c : Profile) (s : Side) (r : Record) (e : PathEnd) (x : PlainSegment) (m : HasItsMapping c s r e) (of_it : IsSegmentOf r x) (says : IsSaidAt c s r e x) where
+  some_of : 0 < length x.payload
+  some_of = subst (λ (octets : List ℕ). 0 < length octets) (sym of_it.payload) m.some
+
+  mapped_so : x.options ≡ mapped_options c s r e
+  mapped_so = says.options
       ∙ ap (λ kind. record_options kind c s r e) m.kind
       ∙ ap (λ b. if b then plain_options r.pos e else infinite_or e.modes.own_infinite (mapped_options c s r e) e) m.mapped
       ∙ ap (λ o. infinite_or o (mapped_options c s r e) e) m.finite
-      ∙ ap (λ b. if b then first_piece_options c e.modes.peer_key r e else option_at r.pos r.mapping.length) m.told
-      ∙ ap (λ n. option_at r.pos n) (m.whole ∙ ap length (sym of_it.payload))
-      ∙ ap (λ n. option_at n (length x.payload)) (sym of_it.position);
-  behind_syn = subst (λ n. 0 < n) (sym of_it.position) m.behind_syn;
-  low = subst (λ (octets : List ℕ). place_numbered c s r.mapping.number + length octets ≤ 2 ^ 62) (sym of_it.payload) m.low;
-  short = subst (λ n. n + length x.payload < 2 ^ 64 - 1) (sym of_it.position) (subst (λ (octets : List ℕ). r.pos + length octets < 2 ^ 64 - 1) (sym of_it.payload) m.short);
-}
-  where
-    option_at : ℕ → ℕ → List PlainOption
-    option_at position len = Dss (Some e.receiving.next) (Some (Bytes (place_numbered c s r.mapping.number) position len false (checksum_told c r.mapping.checksum))) ∷ []
+
+  abbrev option_at : ℕ → ℕ → List PlainOption
+  option_at position len = Dss (Some e.receiving.next) (Some (Bytes (place_numbered c s r.mapping.number) position len false (checksum_told c r.mapping.checksum))) ∷ []
+
+  abbrev with_keys : ℕ → ℕ → List PlainOption
+  with_keys other len = Capable c.spelling.checksums false (WithData e.modes.own_key other len (checksum_told c r.mapping.checksum)) ∷ []
+
+  by_dss : is_first_piece s r e ≡ false → IsPiece x
+  by_dss later = record {
+    syn = of_it.syn ∙ ap is_syn m.kind;
+    fin = of_it.fin ∙ ap is_fin m.kind;
+    rst = of_it.rst;
+    some = some_of;
+    next = e.receiving.next;
+    place = place_numbered c s r.mapping.number;
+    checksum = checksum_told c r.mapping.checksum;
+    options = mapped_so
+        ∙ ap (λ b. if b then first_piece_options c e.modes.peer_key r e else option_at r.pos r.mapping.length) later
+        ∙ ap (λ n. option_at r.pos n) (m.whole ∙ ap length (sym of_it.payload))
+        ∙ ap (λ n. option_at n (length x.payload)) (sym of_it.position);
+    behind_syn = subst (λ n. 0 < n) (sym of_it.position) m.behind_syn;
+    low = subst (λ (octets : List ℕ). place_numbered c s r.mapping.number + length octets ≤ 2 ^ 62) (sym of_it.payload) m.low;
+    short = subst (λ n. n + length x.payload < 2 ^ 64 - 1) (sym of_it.position) (subst (λ (octets : List ℕ). r.pos + length octets < 2 ^ 64 - 1) (sym of_it.payload) m.short);
+  }
+
+  by_keys : is_first_piece s r e ≡ true → (o : Option ℕ) → e.modes.peer_key ≡ o → is_some o ≡ true → IsMappedPiece s x
+  by_keys is None key known = absurd (true≢false (sym known))
+  by_keys is (Some other) key known = mapped_by.first (is_a s parts.0) (record {
+    position = of_it.position ∙ eqb-true r.pos 1 (and_parts (not e.modes.clear) (r.pos == 1) parts.1).1;
+    some = some_of;
+    few = subst (λ (octets : List ℕ). length octets ≤ 65475) (sym of_it.payload) m.few;
+    sums = c.spelling.checksums;
+    own = e.modes.own_key;
+    other = other;
+    checksum = checksum_told c r.mapping.checksum;
+    options = mapped_so
+        ∙ ap (λ b. if b then first_piece_options c e.modes.peer_key r e else option_at r.pos r.mapping.length) is
+        ∙ ap (λ o. first_piece_options c o r e) key
+        ∙ ap (λ len. with_keys other len) (m.whole ∙ ap length (sym of_it.payload));
+  }) (of_it.syn ∙ ap is_syn m.kind) (of_it.fin ∙ ap is_fin m.kind) of_it.rst
+    where
+      parts : (is_side_a s ≡ true) × ((not e.modes.clear && r.pos == 1) ≡ true)
+      parts = and_parts (is_side_a s) (not e.modes.clear && r.pos == 1) is
+
+  mapped_piece : IsMappedPiece s x
+  mapped_piece = by (is_first_piece s r e) refl
+    where
+      by : (b : Bool) → is_first_piece s r e ≡ b → IsMappedPiece s x
+      by false later = mapped_by.piece (by_dss later)
+      by true is = ⊎_elim (λ later. absurd (both_ways (is_first_piece s r e) later is)) (λ known. by_keys is e.modes.peer_key refl known) m.told
+
+pub each_mapped_record_is_a_piece : EachMappedRecordIsAPiece
+each_mapped_record_is_a_piece c s r e x m of_it says = mapped_piece c s r e x m of_it says
 
 -- ---- a copy that was under way
 
@@ -180,9 +231,84 @@ module _ (c : Profile) (t : Side) (next place pos len : ℕ) (checksum : Option 
       or_true true = refl
       or_true false = refl
 
+-- ---- what a segment maps
+
+-- it has bytes behind the SYN
+pub record HasBytes (x : PlainSegment) : Type 0 where
+  pub syn : x.syn ≡ false
+  pub fin : x.fin ≡ false
+  pub rst : x.rst ≡ false
+  pub some : 0 < length x.payload
+  pub short : x.position + length x.payload < 2 ^ 64 - 1
+
+pub has_bytes : (s : Side) (x : PlainSegment) → IsMappedPiece s x → HasBytes x
+has_bytes s x (mapped_by.piece h) = record { syn = h.syn; fin = h.fin; rst = h.rst; some = h.some; short = h.short }
+has_bytes s x (mapped_by.first is h syn fin rst) = record { syn = syn; fin = fin; rst = rst; some = h.some; short = (let at = h.position in let few = h.few in omega (arith, at, few)) }
+
+-- its options say to the end of this side that all of them are mapped
+pub record SaysMapping (c : Profile) (to : Side) (x : PlainSegment) : Type 0 where
+  pub mapping : KeptMapping
+  pub held : flat_map (held_in c to) (map meant_option x.options) ≡ mapping ∷ []
+  pub says : (window : ℕ) → list_any says_mapping (flat_map (items_in false to window) (map meant_option x.options)) ≡ true
+  pub names : (pos : ℕ) → x.position ≤ pos → pos < x.position + length x.payload → covers pos (run_of mapping) ≡ true
+
+run_names : (n pos len : ℕ) → pos ≤ n → n < pos + len → pos + len < 2 ^ 64 - 1 → (nat_le pos n && nat_lt n (min (pos + len) (2 ^ 64 - 1))) ≡ true
+run_names n pos len from below short =
+    ap (λ b. b && nat_lt n (min (pos + len) (2 ^ 64 - 1))) (le-leb pos n from) ∙ lt-ltb n (min (pos + len) (2 ^ 64 - 1)) (omega (arith, below, short))
+
+module _ (c : Profile) (joined : is_joined c ≡ false) (x : PlainSegment) where
+  piece_says : (to : Side) → IsPiece x → SaysMapping c to x
+  piece_says to h = record {
+    mapping = kept_of c to h.place x.position (length x.payload) false (checksum_heard h.checksum);
+    held = ap (λ (os : List HeardOption). flat_map (held_in c to) os) said ∙ held_one c to h.next h.place x.position (length x.payload) h.checksum h.behind_syn h.low;
+    says = λ window. ap (λ (os : List HeardOption). list_any says_mapping (flat_map (items_in false to window) os)) said
+        ∙ says_one c to h.next h.place x.position (length x.payload) h.checksum h.behind_syn h.low window;
+    names = λ pos from below. run_names pos x.position (length x.payload) from below h.short;
+  }
+    where
+      said : map meant_option x.options ≡ Dss (Some (Some h.next)) (Some (Bytes (Some h.place) (Some x.position) (length x.payload) false h.checksum)) ∷ []
+      said = ap (λ os. map meant_option os) h.options
+
+  module _ (h : IsFirstPiece x) where
+    abbrev len : ℕ
+    len = length x.payload
+
+    said_keys : map meant_option x.options ≡ Capable h.sums false (WithData h.own h.other (length x.payload) h.checksum) ∷ []
+    said_keys = ap (λ os. map meant_option os) h.options
+
+    some_so : nat_lt 0 (length x.payload) ≡ true
+    some_so = lt-ltb 0 (length x.payload) h.some
+
+    fit : is_mapping 0 1 (length x.payload) ≡ true
+    fit = le-leb (0 + length x.payload) (2 ^ 62) (let few = h.few in omega (arith, few))
+
+    first_says : SaysMapping c B x
+    first_says = record {
+      mapping = kept_of c B 0 1 len false (checksum_heard h.checksum);
+      held = ap (λ (os : List HeardOption). flat_map (held_in c B) os) said_keys
+          ∙ ap (λ b. (if b then [] else (if nat_lt 0 len then held_if c B 0 1 len false h.checksum else [])) ++ []) joined
+          ∙ ap (λ b. (if b then held_if c B 0 1 len false h.checksum else []) ++ []) some_so
+          ∙ ap (λ b. (if b then kept_of c B 0 1 len false (checksum_heard h.checksum) ∷ [] else []) ++ []) fit;
+      says = λ window. ap (λ (os : List HeardOption). list_any says_mapping (flat_map (items_in false B window) os)) said_keys
+          ∙ ap (λ b. list_any says_mapping ((says.Keys h.other h.own ∷ (if b then (if is_mapping 0 1 len then says.Mapping false ∷ [] else []) else [])) ++ [])) some_so
+          ∙ ap (λ b. list_any says_mapping ((says.Keys h.other h.own ∷ (if b then says.Mapping false ∷ [] else [])) ++ [])) fit;
+      names = λ pos from below. run_names pos 1 len (subst (λ k. k ≤ pos) h.position from) (subst (λ k. pos < k + len) h.position below) (let few = h.few in omega (arith, few));
+    }
+
+  pub says_its_mapping : (to : Side) → IsMappedPiece (peer to) x → SaysMapping c to x
+  says_its_mapping to (mapped_by.piece h) = piece_says to h
+  says_its_mapping A (mapped_by.first is h syn fin rst) = (let apart : B ≡ A = is in cc)
+  says_its_mapping B (mapped_by.first is h syn fin rst) = first_says h
+
 -- ---- a copy
 
-module _ (x : PlainSegment) (p : PathState Carried) (a : Arrival x p) (piece : IsPiece x) where
+module _ (x : PlainSegment) (p : PathState Carried) (a : Arrival x p) (is_mapped : IsMappedPiece (peer a.due.to) x) where
+  pub piece : HasBytes x
+  piece = has_bytes (peer a.due.to) x is_mapped
+
+  pub maps : SaysMapping p.profile a.due.to x
+  maps = says_its_mapping p.profile a.joined x a.due.to is_mapped
+
   abbrev pub to : Side
   to = a.due.to
 
@@ -223,19 +349,18 @@ module _ (x : PlainSegment) (p : PathState Carried) (a : Arrival x p) (piece : I
       starts = takes.starts;
       some = piece.some;
       within = takes.within;
-      mapping = kept_of p.profile to piece.place x.position (length x.payload) false (checksum_heard piece.checksum);
+      mapping = maps.mapping;
       others = [];
-      held = ap (λ (os : List HeardOption). flat_map (held_in p.profile to) os) options ∙ held_one p.profile to piece.next piece.place x.position (length x.payload) piece.checksum piece.behind_syn piece.low;
+      held = ap (λ (os : List HeardOption). flat_map (held_in p.profile to) os) options ∙ maps.held;
       says = ap (λ j. list_any says_mapping (items_of j to said)) a.joined
           ∙ ap (λ (os : List HeardOption). list_any says_mapping (flat_map (items_in false to said.window) os)) options
-          ∙ says_one p.profile to piece.next piece.place x.position (length x.payload) piece.checksum piece.behind_syn piece.low said.window;
-      names = λ pos from below. ap (λ b. b && nat_lt pos (min (x.position + length x.payload) (2 ^ 64 - 1))) (le-leb x.position pos (let first = takes.starts in omega (arith, first, from)))
-          ∙ lt-ltb pos (min (x.position + length x.payload) (2 ^ 64 - 1)) (let short = piece.short in omega (arith, below, short));
+          ∙ maps.says said.window;
+      names = λ pos from below. maps.names pos (let start = takes.starts in omega (arith, start, from)) below;
     };
   }
     where
-      options : said.options ≡ Dss (Some (Some piece.next)) (Some (Bytes (Some piece.place) (Some x.position) (length x.payload) false piece.checksum)) ∷ []
-      options = ap (λ b. if b then [] else map meant_option x.options) takes.mapped ∙ ap (λ os. map meant_option os) piece.options
+      options : said.options ≡ map meant_option x.options
+      options = ap (λ b. if b then [] else map meant_option x.options) takes.mapped
 
       accepted : is_acceptable e.tcp.recv.edge x.position (copy_of said) ≡ true
       accepted = within_so e.tcp.recv.edge x.position (occupied (copy_of said)) (length x.payload)
@@ -252,4 +377,4 @@ module _ (x : PlainSegment) (p : PathState Carried) (a : Arrival x p) (piece : I
   }
 
 pub each_piece_comes_in_order : EachPieceComesInOrder
-each_piece_comes_in_order x p a piece = (in_order x p a piece, again x p a piece)
+each_piece_comes_in_order x p a is_mapped = (in_order x p a is_mapped, again x p a is_mapped)

@@ -2,7 +2,7 @@
 use Rattle.std.proofs.Common.{◌≡◌, refl, sym, subst, ap, ◌∙◌, ◌⊎◌, inl, inr, ⊎_elim, ℕ, ◌+◌, ◌≤◌, arith, nat_lt, nat_le, ◌==◌, Bool, true, false, true≢false, ◌&&◌, if◌then◌else◌, Option, Some, None, is_some, List, [], ◌∷◌, le_refl}
 use Rattle.std.specs.Prelude.{IfSome}
 use Rattle.std.specs.Option.{option_map}
-use Rattle.std.specs.List.{position}
+use Rattle.std.specs.List.{position, slice_get}
 use Rattle.std.proofs.lemmas.Bool.{and_parts}
 use Rattle.std.proofs.lemmas.Option.{same_Some}
 use Rattle.path_segments.specs.declared.position.HeardPosition.TheVariants.{At}
@@ -72,7 +72,7 @@ use Rattle.path_core.specs.Profile.{Profile}
 use Rattle.path_core.specs.Standing.{answered_ack_out, after_ack_out}
 use Rattle.path_core.specs.Start.{waiting_path}
 use Rattle.path_core.specs.State.{PathState, at_tick, end_at, goes_on, with_agenda}
-use Rattle.path_core.specs.Steps.{settled, takes, begins_turn, next_round}
+use Rattle.path_core.specs.Steps.{settled, takes, begins_turn}
 use Rattle.path_core.specs.Timer.{after_firing, timer_fired}
 use Rattle.path_core.specs.Treated.{Treated}
 use Rattle.path_core.specs.Treating.{item_passed, answered_heard, answered_item, item_of}
@@ -82,11 +82,12 @@ use Rattle.path_core.specs.declared.events.Event.TheVariants as happenings
 use Rattle.path_core.proofs.Judgements.{judged_taken}
 use Rattle.path_core.proofs.SegmentsTold.{each_segment_is_told}
 use Rattle.world_laws.specs.declared.member.Member.TheVariants.{App, Path}
-use Rattle.world_laws.specs.Actors.{Actor, member_takes, member_next}
+use Rattle.world_laws.specs.Actors.{Actor, ActorCrew, member_takes, member_next}
 use Rattle.world_laws.specs.Laws.{Always}
 use Rattle.world_laws.specs.Members.{HoldsOfKind}
 use Rattle.world_laws.specs.Openings.{PathPlan, Start, path_begins, opened_world}
 use Rattle.world_laws.specs.StampedBooks.{answer_to}
+use Rattle.world_laws.specs.Worlds.{Turn, world_run}
 use Rattle.world_laws.specs.Writes.{EndWrites, EndView, Writes, PathView, Only, OnlyAt, nothing, writes, side_of, copy_said}
 use Rattle.world_laws.proofs.Falls.FailedChecks.{infinite_came_so, fail_answered_so}
 use Rattle.world_laws.proofs.Keys.Held.{in_removed}
@@ -97,9 +98,6 @@ use Rattle.world_laws.proofs.Worlds.Finding.{find_every, one_side}
 use Rattle.world_laws.proofs.Writes.Paths.{writes_no_more, passes_no_more}
 use Rattle.world_laws.proofs.Writes.Steps.{Lasts, unwritten, both_ends, settled_lasts}
 use Rattle.whole_paths.specs.AgendaSteps.{is_gone}
-use Rattle.whole_paths.specs.Copies.{IsUnderWay}
-use Rattle.whole_paths.specs.UnaSaid.{EachUnaIsSaid, UnaFrom, UnasAreSaid}
-use Rattle.whole_paths.specs.UnaSaid.{UnaFrom as una_from}
 use Rattle.whole_paths.specs.Came.{AcksUpTo, AcksWhatCame, HasCome, WhatIsAcknowledgedCame}
 use Rattle.whole_paths.specs.EndSteps.{PathStep}
 use Rattle.whole_paths.specs.Saying.{SaysWhatCame}
@@ -110,7 +108,6 @@ use Rattle.whole_paths.proofs.Duties.{passed_steps, answered_steps}
 use Rattle.whole_paths.proofs.Pieces.{is_event}
 use Rattle.whole_paths.proofs.Saying.{ToSend, AllSay, duty_so}
 use Rattle.whole_paths.proofs.Settling.{sides}
-use Rattle.whole_paths.proofs.Turns.{turn_by}
 use Rattle.whole_paths.proofs.Waiting.{Far, far_then, same_far, gone_stays, path_far}
 
 -- ---- copies
@@ -159,9 +156,9 @@ sent_una _ now s = refl
 -- ---- what a duty makes of an end
 
 -- SND.UNA and the reset that answers a copy stay, or the end is dead
-record Rests (e f : PathEnd) : Type 0 where
-  una : (is_gone f ≡ true) ⊎ (f.tcp.send.una ≡ e.tcp.send.una)
-  answer : (f.treated.answer ≡ None) ⊎ (f.treated.answer ≡ e.treated.answer)
+pub record Rests (e f : PathEnd) : Type 0 where
+  pub una : (is_gone f ≡ true) ⊎ (f.tcp.send.una ≡ e.tcp.send.una)
+  pub answer : (f.treated.answer ≡ None) ⊎ (f.treated.answer ≡ e.treated.answer)
 
 rests : (e f : PathEnd) → f.tcp.send.una ≡ e.tcp.send.una → f.treated.answer ≡ e.treated.answer → Rests e f
 rests e f una answer = record { una = inr una; answer = inr answer }
@@ -187,20 +184,20 @@ send_some (send_duties.Update s) is = true≢false (ap is_some is)
 send_some d is = true≢false (ap is_some is)
 
 module _ {C : Type 0} where
-  record AllRest (p q : PathState C) : Type 0 where
-    a : Rests p.a q.a
-    b : Rests p.b q.b
+  pub record AllRest (p q : PathState C) : Type 0 where
+    pub a : Rests p.a q.a
+    pub b : Rests p.b q.b
 
-  at_end : {p q : PathState C} → AllRest p q → (t : Side) → Rests (end_at t p) (end_at t q)
+  pub at_end : {p q : PathState C} → AllRest p q → (t : Side) → Rests (end_at t p) (end_at t q)
   at_end x A = x.a
   at_end x B = x.b
 
   -- the end of this side becomes that one
-  side : (s : Side) (f : PathEnd) (p q : PathState C) → Rests (end_at s p) f → q.a ≡ pick s f p.a → q.b ≡ pick s p.b f → AllRest p q
+  pub side : (s : Side) (f : PathEnd) (p q : PathState C) → Rests (end_at s p) f → q.a ≡ pick s f p.a → q.b ≡ pick s p.b f → AllRest p q
   side A f p q x a b = record { a = subst (λ g. Rests p.a g) (sym a) x; b = subst (λ g. Rests p.b g) (sym b) (rests p.b p.b refl refl) }
   side B f p q x a b = record { a = subst (λ g. Rests p.a g) (sym a) (rests p.a p.a refl refl); b = subst (λ g. Rests p.b g) (sym b) x }
 
-  calm : (s : Side) (f : PathEnd) (p q : PathState C) → f.tcp.send.una ≡ (end_at s p).tcp.send.una → f.treated.answer ≡ (end_at s p).treated.answer → q.a ≡ pick s f p.a → q.b ≡ pick s p.b f → AllRest p q
+  pub calm : (s : Side) (f : PathEnd) (p q : PathState C) → f.tcp.send.una ≡ (end_at s p).tcp.send.una → f.treated.answer ≡ (end_at s p).treated.answer → q.a ≡ pick s f p.a → q.b ≡ pick s p.b f → AllRest p q
   calm s f p q una answer a b = side s f p q (rests (end_at s p) f una answer) a b
 
   dying : (s : Side) (f : PathEnd) (p q : PathState C) → is_gone f ≡ true → f.treated.answer ≡ None → q.a ≡ pick s f p.a → q.b ≡ pick s p.b f → AllRest p q
@@ -215,7 +212,7 @@ module _ {C : Type 0} where
   either true p q r x y = x
   either false p q r x y = y
 
-  stay : (p q : PathState C) → q.a ≡ p.a → q.b ≡ p.b → AllRest p q
+  pub stay : (p q : PathState C) → q.a ≡ p.a → q.b ≡ p.b → AllRest p q
   stay p q a b = record { a = subst (λ g. Rests p.a g) (sym a) (rests p.a p.a refl refl); b = subst (λ g. Rests p.b g) (sym b) (rests p.b p.b refl refl) }
 
   plain : (s : Side) (w : Writes) (p q : PathState C) → w.own.send ≡ false → w.own.copy ≡ false → w.other ≡ nothing → OnlyAt s w p q → AllRest p q
@@ -269,12 +266,12 @@ module _ {C : Type 0} where
   send_rests k (send_duties.Acknowledge s) p = sent occasions.Ack s _ p _ refl refl refl refl
   send_rests k (send_duties.DataFin s) p = sent occasions.Ack s _ p _ refl refl refl refl
 
-  begun_rests : (r : Reply) (dead living : List Duty) (p : PathState C) → AllRest p (join_begun r dead living p)
+  pub begun_rests : (r : Reply) (dead living : List Duty) (p : PathState C) → AllRest p (join_begun r dead living p)
   begun_rests r dead living p = either (is_never r) p (goes_on A (never_joined r p.a) dead p) (goes_on A (opened_by (keys_begun r) p.a) living p)
       (dying A (never_joined r p.a) p _ refl refl refl refl) (side A (opened_by (keys_begun r) p.a) p _ (opened_rests (keys_begun r) p.a) refl refl)
 
   -- of any duty but an event
-  answered_rest : (k : Codec C) (d : Duty) (r : Reply) (p : PathState C) → is_event d ≡ false → AllRest p (answered k d r p)
+  pub answered_rest : (k : Codec C) (d : Duty) (r : Reply) (p : PathState C) → is_event d ≡ false → AllRest p (answered k d r p)
   answered_rest k (duties.Step step_duties.Events) r p other = absurd (true≢false other)
   answered_rest k (duties.Ask ask_duties.JoinAgain) r p other = begun_rests r _ _ p
   answered_rest k (duties.Ask (ask_duties.LeaveNoted s)) r p other = dying s _ p _ refl refl refl refl
@@ -387,7 +384,7 @@ handed_copies t p said h = by t.from (says_up (end_at t.from p) (segment_sent p 
 -- ---- a copy that arrives
 
 -- what a copy is taken to acknowledge it acknowledges, and it is no reset
-abbrev Acks : Copy → Meaning → Type 0
+abbrev pub Acks : Copy → Meaning → Type 0
 Acks c (means.Accepts n) = (c.acknowledged ≡ Some n) × (c.rst ≡ false)
 Acks c (means.Taken pos n) = (c.acknowledged ≡ Some n) × (c.rst ≡ false)
 Acks c _ = Unit {0}
@@ -407,7 +404,7 @@ accepts_acks c s n is = opened (is_at_limit s) c.acknowledged refl is
     opened false None acks is = cc
     opened false (Some a) acks is = by a acks (nat_lt 0 a && nat_le a s.send.nxt) c.rst c.syn is
 
-acks_of : (c : Copy) (s : EndState) (m : Meaning) → m ≡ meaning_of c s → Acks c m
+pub acks_of : (c : Copy) (s : EndState) (m : Meaning) → m ≡ meaning_of c s → Acks c m
 acks_of c s (means.Accepts n) is =
     let fits : MeansIs c s (means.Accepts n) = subst (λ m. MeansIs c s m) (sym is) (means_so c s) in
     (accepts_acks c s n (is ∙ ap (λ state. meaning_at state c s) fits.0), fits.1.1)
@@ -415,16 +412,20 @@ acks_of c s (means.Taken pos n) is =
     let fits : MeansIs c s (means.Taken pos n) = subst (λ m. MeansIs c s m) (sym is) (means_so c s) in (fits.1.1.1.1, fits.1.1.0)
 acks_of c s _ is = tt
 
--- SND.UNA stays, is what the copy acknowledges, or the end is dead
-data Unas (c : Copy) (e f : PathEnd) : Type 0 where
-  unmoved : f.tcp.send.una ≡ e.tcp.send.una → Unas c e f
-  acked : (n : ℕ) → c.acknowledged ≡ Some n → c.rst ≡ false → f.tcp.send.una ≡ n → Unas c e f
-  killed : is_gone f ≡ true → Unas c e f
+-- the copy is taken, or accepted
+abbrev pub IsHeardAs : ℕ → Meaning → Type 0
+IsHeardAs n m = ((pos : ℕ) × (m ≡ means.Taken pos n)) ⊎ (m ≡ means.Accepts n)
 
-acked_so : (n now : ℕ) (c : Copy) (s : EndState) (e f : PathEnd) → c.acknowledged ≡ Some n → c.rst ≡ false → s.send ≡ e.tcp.send → f.tcp.send ≡ (after_acknowledgement n now s).send → Unas c e f
-acked_so n now c s e f acks rst from is = ⊎_elim
+-- SND.UNA stays, is what the copy acknowledges that means this, or the end is dead
+pub data Unas (c : Copy) (m : Meaning) (e f : PathEnd) : Type 0 where
+  unmoved : f.tcp.send.una ≡ e.tcp.send.una → Unas c m e f
+  acked : (n : ℕ) → c.acknowledged ≡ Some n → c.rst ≡ false → f.tcp.send.una ≡ n → IsHeardAs n m → Unas c m e f
+  killed : is_gone f ≡ true → Unas c m e f
+
+acked_so : (n now : ℕ) (c : Copy) (m : Meaning) (s : EndState) (e f : PathEnd) → c.acknowledged ≡ Some n → c.rst ≡ false → IsHeardAs n m → s.send ≡ e.tcp.send → f.tcp.send ≡ (after_acknowledgement n now s).send → Unas c m e f
+acked_so n now c m s e f acks rst as_one from is = ⊎_elim
     (λ stays. unmoved (ap (λ (v : SendState). v.una) is ∙ stays ∙ ap (λ (v : SendState). v.una) from))
-    (λ rises. acked n acks rst (ap (λ (v : SendState). v.una) is ∙ rises))
+    (λ rises. acked n acks rst (ap (λ (v : SendState). v.una) is ∙ rises) as_one)
     (ack_una n now s)
 
 pub held_send : (m : Meaning) (octets : List ℕ) (s : EndState) → (with_payload m octets s).send ≡ s.send
@@ -445,23 +446,24 @@ module _ (c : Profile) (s : Side) (now : ℕ) (x : HeardSegment) (e : PathEnd) w
   abbrev heard_as : Meaning → PathEnd
   heard_as m = copy_judged (is_joined c) (held_of c s x) (reset_for c s x) s now x m e
 
-  heard_una : (m : Meaning) → Acks (copy_of x) m → Unas (copy_of x) e (heard_as m)
+  pub heard_una : (m : Meaning) → Acks (copy_of x) m → Unas (copy_of x) m e (heard_as m)
   heard_una (means.Accepts n) acks =
-      acked_so n now (copy_of x) (record (after_hearing (after_payload 1 (hint_of (items_of (is_joined c) s x)) (copy_of x) e.tcp)) { state = phase.Established }) e (heard_as (means.Accepts n)) acks.0 acks.1 refl refl
+      acked_so n now (copy_of x) (means.Accepts n) (record (after_hearing (after_payload 1 (hint_of (items_of (is_joined c) s x)) (copy_of x) e.tcp)) { state = phase.Established }) e (heard_as (means.Accepts n)) acks.0 acks.1
+      (inr refl) refl refl
   heard_una (means.Taken pos n) acks =
       let m = means.Taken pos n in let hint = hint_of (items_of (is_joined c) s x) in
       let held = with_payload m x.payload e.tcp in let ready = after_established (after_hearing (after_payload pos hint (copy_of x) held)) in
-      acked_so n now (copy_of x) ready e (heard_as m) acks.0 acks.1 (held_send m x.payload e.tcp)
+      acked_so n now (copy_of x) m ready e (heard_as m) acks.0 acks.1 (inl (pos, refl)) (held_send m x.payload e.tcp)
       (owing_send (owes_by m (items_of (is_joined c) s x)) (after_taken pos n hint now (copy_of x) held) ∙ heard_send n hint now (copy_of x) ready)
   heard_una means.Kills acks = killed refl
   heard_una _ acks = unmoved refl
 
 -- the end that hears it
 own_came : (s : Side) (f : Flight Carried) (p : PathState Carried) → AcksUpTo (end_at (peer s) p).tcp.recv.edge f.carried.segment → PathCame p
-    → let e = end_at s p in let x = options_heard e (meant (as_arrived f.carried)) in (g : PathEnd) → Unas (copy_of x) e g → is_gone g ≡ false → Far e g → g.tcp.send.una ≤ (end_at (peer s) p).tcp.recv.edge
-own_came s f p up h g (unmoved is) living far = (let low = h.ends s (living_then (end_at s p) g far living) in omega (arith, is, low))
-own_came s f p up h g (killed dead) living far = absurd (true≢false (sym dead ∙ living))
-own_came s f p up h g (acked n acks rst is) living far = ⊎_elim
+    → let e = end_at s p in let x = options_heard e (meant (as_arrived f.carried)) in (m : Meaning) (g : PathEnd) → Unas (copy_of x) m e g → is_gone g ≡ false → Far e g → g.tcp.send.una ≤ (end_at (peer s) p).tcp.recv.edge
+own_came s f p up h m g (unmoved is) living far = (let low = h.ends s (living_then (end_at s p) g far living) in omega (arith, is, low))
+own_came s f p up h m g (killed dead) living far = absurd (true≢false (sym dead ∙ living))
+own_came s f p up h m g (acked n acks rst is as_one) living far = ⊎_elim
     (λ reset. absurd (true≢false (sym reset ∙ rst)))
     (λ low. (let few = by f.carried.segment.acknowledged low acks in omega (arith, is, few)))
     up
@@ -472,11 +474,11 @@ own_came s f p up h g (acked n acks rst is) living far = ⊎_elim
 
 -- ---- an event
 
-died_rests : (e : PathEnd) → Rests e (died_unless_dead e)
+pub died_rests : (e : PathEnd) → Rests e (died_unless_dead e)
 died_rests e = (elim (is_dead e.tcp.state) as (λ b. is_dead e.tcp.state ≡ b → Rests e (if b then e else died e))
     [ true ↦ λ dead. rests e e refl refl | false ↦ λ living. record { una = inl refl; answer = inl refl } ]) refl
 
-fired_rests : (now : ℕ) (e : PathEnd) → Rests e (after_firing now e)
+pub fired_rests : (now : ℕ) (e : PathEnd) → Rests e (after_firing now e)
 fired_rests now e = elim (is_sixth e.tcp) as (λ b. Rests e (record e { tcp = if b then after_death true e.tcp else after_expiry now e.tcp }))
     [ true ↦ record { una = inl refl; answer = inr refl } | false ↦ rests e _ refl refl ]
 
@@ -513,7 +515,7 @@ copy_came s f p up h far = record { ends = ends; copies = copies_later p q p.lin
     acks : Acks (copy_of x) m
     acks = judged_taken x.rst (items_of (is_joined p.profile) s x) (end_at s p) (λ n. Acks (copy_of x) n) tt (is_joined p.profile) (meaning_of (copy_of x) (end_at s p).tcp) (acks_of (copy_of x) (end_at s p).tcp _ refl)
 
-    unas : Unas (copy_of x) (end_at s p) g
+    unas : Unas (copy_of x) m (end_at s p) g
     unas = heard_una p.profile s p.clock x (end_at s p) m acks
 
     edge : (u : Side) → (end_at u p).tcp.recv.edge ≤ (end_at u q).tcp.recv.edge
@@ -532,7 +534,7 @@ copy_came s f p up h far = record { ends = ends; copies = copies_later p q p.lin
         by : (s ≡ t) ⊎ (peer s ≡ t) → (end_at t q).tcp.send.una ≤ (end_at (peer t) q).tcp.recv.edge
         by (inl own) = subst (λ t. is_gone (end_at t q) ≡ false → (end_at t q).tcp.send.una ≤ (end_at (peer t) q).tcp.recv.edge) own (λ living.
             (let is = own_end s g p.a p.b in
-            let low = own_came s f p up h g unas (sym (ap is_gone is) ∙ living) (subst (λ y. Far (end_at s p) y) is (far s)) in
+            let low = own_came s f p up h m g unas (sym (ap is_gone is) ∙ living) (subst (λ y. Far (end_at s p) y) is (far s)) in
             let same = ap (λ (y : PathEnd). y.tcp.send.una) is in let more = edge (peer s) in omega (arith, low, same, more))) living
         by (inr away) =
             let is = other s t p.a p.b g away in
@@ -598,9 +600,9 @@ duty_came (duties.Step step_duties.Events) ds r p h =
 duty_came d ds r p h = other_came d ds r p refl h
 
 -- duties that are passed
-record Both (e f : PathEnd) : Type 0 where
-  rest : Rests e f
-  far : Far e f
+pub record Both (e f : PathEnd) : Type 0 where
+  pub rest : Rests e f
+  pub far : Far e f
 
 both_then : (e f g : PathEnd) → Both e f → Both f g → Both e g
 both_then e f g x y = record {
@@ -611,10 +613,10 @@ both_then e f g x y = record {
   far = far_then e f g x.far y.far;
 }
 
-abbrev AllBoth : PathState Carried → PathState Carried → Type 0
+abbrev pub AllBoth : PathState Carried → PathState Carried → Type 0
 AllBoth p q = (t : Side) → Both (end_at t p) (end_at t q)
 
-both_last : Lasts AllBoth
+pub both_last : Lasts AllBoth
 both_last = record {
   agenda = λ ds p t. record { rest = rests (end_at t p) (end_at t p) refl refl; far = same_far (end_at t p) };
   chains = λ p q r x y t. both_then (end_at t p) (end_at t q) (end_at t r) (x t) (y t);
@@ -667,144 +669,20 @@ first_came number start plan = record { ends = λ s living. low s; copies = reco
     none A = tt
     none B = tt
 
+each_came : (start : Start) (turns : List Turn) → Every (λ (c : ActorCrew Carried). CameMember c.member) (world_run values turns (opened_world start)).crew
+each_came start turns = run_lifted values (λ c. CameMember c.member) (λ books c x asks h. member_takes_came (answer_to books x) c.member h) (λ stamp c over h. member_begins c.member h) turns (opened_world start)
+    (opened_lifted (λ c. CameMember c.member) start tt tt (λ number plan there. begins_came (waiting_path (path_begins start number plan) start.lines) (first_came number start plan)))
+
 pub what_is_acknowledged_came : Always values (λ start w. WhatIsAcknowledgedCame w)
-what_is_acknowledged_came start turns = record {
-  each = λ actor c there. member_so c.member ((run_lifted values (λ c. CameMember c.member) (λ books c x asks h. member_takes_came (answer_to books x) c.member h)
-      (λ stamp c over h. member_begins c.member h) turns (opened_world start)
-      (opened_lifted (λ c. CameMember c.member) start tt tt (λ number plan there. begins_came (waiting_path (path_begins start number plan) start.lines) (first_came number start plan)))).each actor c there);
-}
+what_is_acknowledged_came start turns = record { each = λ actor c there. member_so c.member ((each_came start turns).each actor c there) }
 
--- ---- SND.UNA by a turn
+-- what an end answers a copy by, where it is dead, is a reset
+abbrev pub AnswersReset : PathState Carried → Type 0
+AnswersReset p = (s : Side) → IfSome (end_at s p).treated.answer (λ (o : Outgoing). o.rst ≡ true)
 
-una_so : (s : Side) (p q : PathState Carried) → Rests (end_at s p) (end_at s q) → UnaFrom s p q
-una_so s p q rest = ⊎_elim (λ dead. una_from.gone dead) (λ same. una_from.stays same) rest.una
-
-una_then : (s : Side) (p q r : PathState Carried) → UnaFrom s p q → Both (end_at s q) (end_at s r) → UnaFrom s p r
-una_then s p q r (una_from.gone dead) more = una_from.gone (gone_stays (end_at s q) (end_at s r) more.far dead)
-una_then s p q r (una_from.stays same) more = ⊎_elim (λ dead. una_from.gone dead) (λ still. una_from.stays (still ∙ same)) more.rest.una
-una_then s p q r (una_from.comes copy there to rst acks) more =
-    ⊎_elim (λ dead. una_from.gone dead) (λ still. una_from.comes copy there to rst (acks ∙ ap (λ n. Some n) (sym still))) more.rest.una
-
-line_rest : (action : LineAction) (p : PathState Carried) → AllRest p (after_line action p)
-line_rest actions.Die p = record { a = died_rests p.a; b = died_rests p.b }
-line_rest (actions.Prio s backup) p = calm s (with_priority backup (end_at s p)) p _ refl refl refl refl
-line_rest (actions.Announce s id) p = stay p _ refl refl
-line_rest (actions.Withdraw s id) p = stay p _ refl refl
-
--- a copy that arrives
-module _ (s : Side) (f : Flight Carried) (p : PathState Carried) where
-  abbrev arrived_at_end : HeardSegment
-  arrived_at_end = options_heard (end_at s p) (meant (as_arrived f.carried))
-
-  abbrev end_then : PathEnd
-  end_then = after_judged p.profile s p.clock arrived_at_end (judged_in (is_joined p.profile) s arrived_at_end (end_at s p)) (end_at s p)
-
-  una_heard : Unas (copy_of arrived_at_end) (end_at s p) end_then
-  una_heard = heard_una p.profile s p.clock arrived_at_end (end_at s p) (taken_as (judged_in (is_joined p.profile) s arrived_at_end (end_at s p)))
-      (judged_taken arrived_at_end.rst (items_of (is_joined p.profile) s arrived_at_end) (end_at s p) (λ n. Acks (copy_of arrived_at_end) n) tt (is_joined p.profile) (meaning_of (copy_of arrived_at_end) (end_at s p).tcp) (acks_of (copy_of arrived_at_end) (end_at s p).tcp _ refl))
-
-  abbrev path_then : PathState Carried
-  path_then = copy_heard s (Some (meant (as_arrived f.carried))) p
-
-  -- what the copy is taken to acknowledge it acknowledges
-  said_so : (n : ℕ) → (copy_of arrived_at_end).acknowledged ≡ Some n → f.carried.segment.acknowledged ≡ Some n
-  said_so n acks = by f.carried.segment.acknowledged acks
-    where
-      by : (o : Option ℕ) → acknowledged_in (option_map (λ n. At n) o) ≡ Some n → o ≡ Some n
-      by None is = cc
-      by (Some a) is = ap (λ n. Some n) (same_Some a n is)
-
-  copy_una : (q : PathState Carried) → IsUnderWay f q → f.to ≡ s → ((t : Side) → (end_at t p).tcp.send.una ≡ (end_at t q).tcp.send.una) → (t : Side) → UnaFrom t q path_then
-  copy_una q there to same t = by (sides t s)
-    where
-      other : (s t : Side) (a b g : PathEnd) → peer s ≡ t → pick t (pick s g a) (pick s b g) ≡ pick t a b
-      other A A a b g is = cc
-      other A B a b g is = refl
-      other B A a b g is = refl
-      other B B a b g is = cc
-
-      own : (end_at s path_then) ≡ end_then
-      own = own_end s end_then p.a p.b
-
-      of_own : Unas (copy_of arrived_at_end) (end_at s p) end_then → UnaFrom s q path_then
-      of_own (unmoved is) = una_from.stays (ap (λ (e : PathEnd). e.tcp.send.una) own ∙ is ∙ same s)
-      of_own (acked n acks rst is) = una_from.comes f there to rst (said_so n acks ∙ ap (λ n. Some n) (sym (ap (λ (e : PathEnd). e.tcp.send.una) own ∙ is)))
-      of_own (killed dead) = una_from.gone (ap is_gone own ∙ dead)
-
-      by : (s ≡ t) ⊎ (peer s ≡ t) → UnaFrom t q path_then
-      by (inl is) = subst (λ t. UnaFrom t q path_then) is (of_own una_heard)
-      by (inr away) = una_from.stays (ap (λ (e : PathEnd). e.tcp.send.una) (other s t p.a p.b end_then away) ∙ same t)
-
-event_una : (o : Option Event) (r : Reply) (p : PathState Carried) (s : Side) → UnaFrom s p (happens_if values o r p)
-event_una None r p s = una_so s p (happens_if values None r p) (at_end (stay p (happens_if values None r p) refl refl) s)
-event_una (Some (happenings.Joins tick)) r p s =
-    let begun = begun_rests r (leaves A) (emission A) (record (at_tick tick p) { joined_at = None }) in
-    una_so s p (happens_if values (Some (happenings.Joins tick)) r p) (by begun s)
+pub answers_reset : (start : Start) (turns : List Turn) (actor : ℕ) (c : ActorCrew Carried) → slice_get (world_run values turns (opened_world start)).crew actor ≡ Some c → HoldsOfKind (λ app. Unit {0}) AnswersReset c.member
+answers_reset start turns actor c there = by c.member ((each_came start turns).each actor c there)
   where
-    by : AllRest (record (at_tick tick p) { joined_at = None }) (happens_if values (Some (happenings.Joins tick)) r p) → (s : Side) → Rests (end_at s p) (end_at s (happens_if values (Some (happenings.Joins tick)) r p))
-    by begun A = begun.a
-    by begun B = begun.b
-event_una (Some (happenings.Takes line)) r p s = una_so s p (happens_if values (Some (happenings.Takes line)) r p) (by (line_rest line.action (record (at_tick line.tick p) { lines = tail_of p.lines })) s)
-  where
-    by : AllRest (record (at_tick line.tick p) { lines = tail_of p.lines }) (happens_if values (Some (happenings.Takes line)) r p) → (s : Side) → Rests (end_at s p) (end_at s (happens_if values (Some (happenings.Takes line)) r p))
-    by rest A = rest.a
-    by rest B = rest.b
-event_una (Some (happenings.Arrives due)) r p s = by (arriving due p.link) refl
-  where
-    x : PathState Carried
-    x = record (at_tick due.tick p) { link = after_delivery due p.link }
-
-    same : (t : Side) → (end_at t x).tcp.send.una ≡ (end_at t p).tcp.send.una
-    same A = refl
-    same B = refl
-
-    each_there : Every (λ g. IsUnderWay g p) p.link.under_way
-    each_there = record { each = λ i g there. record { at = i; item = g; there = there; holds = refl } }
-
-    nothing : (t : Side) → UnaFrom t p (copy_heard due.to None x)
-    nothing A = una_so A p (copy_heard due.to None x) (stay x (copy_heard due.to None x) refl refl).a
-    nothing B = una_so B p (copy_heard due.to None x) (stay x (copy_heard due.to None x) refl refl).b
-
-    by : (o : Option (Flight Carried)) → arriving due p.link ≡ o → UnaFrom s p (copy_heard due.to (heard_in values due.to o p) x)
-    by None is = nothing s
-    by (Some f) is =
-        let found = find_every (λ g. IsUnderWay g p) (is_due due) p.link.under_way f each_there is in
-        let parts = and_parts (f.tick == due.tick) (same_side f.to due.to && f.number == due.copy) found.1 in
-        let to = one_side f.to due.to (and_parts (same_side f.to due.to) (f.number == due.copy) parts.1).0 in
-        copy_una due.to f x p found.0 to same s
-event_una (Some (happenings.Fires t tick)) r p s =
-    una_so s p (timer_fired t (at_tick tick p)) (at_end (side t (after_firing (at_tick tick p).clock (end_at t p)) p (timer_fired t (at_tick tick p)) (fired_rests (at_tick tick p).clock (end_at t p)) refl refl) s)
-
-duty_una : (d : Duty) (ds : List Duty) (r : Reply) (p : PathState Carried) (s : Side) → UnaFrom s (with_agenda (d ∷ ds) p) (answered values d r (with_agenda (d ∷ ds) p))
-duty_una (duties.Step step_duties.Events) ds r p s = let x : PathState Carried = with_agenda (duties.Step step_duties.Events ∷ ds) p in event_una (next_event x) r x s
-duty_una d ds r p s = let x : PathState Carried = with_agenda (d ∷ ds) p in una_so s x (answered values d r x) (at_end (answered_rest values d r x refl) s)
-
-takes_una : (r : Reply) (p : PathState Carried) (s : Side) → UnaFrom s p (takes values r p)
-takes_una r p s = by p.agenda
-  where
-    by : (ds : List Duty) → UnaFrom s (with_agenda ds p) (takes values r (with_agenda ds p))
-    by [] = una_from.stays refl
-    by (d ∷ ds) =
-        let x : PathState Carried = with_agenda (d ∷ ds) p in
-        let q : PathState Carried = answered values d r x in
-        una_then s x q (settled q.agenda q) (duty_una d ds r p s) (settled_lasts AllBoth both_last q.agenda q s)
-
-next_una : (p : PathState Carried) (s : Side) → UnaFrom s p (next_round p)
-next_una p s = let x : PathState Carried = with_agenda start_of_turn (record p { clock = p.until; until = p.until + 100 }) in
-    una_then s p x (settled start_of_turn x) (una_from.stays refl) (settled_lasts AllBoth both_last start_of_turn x s)
-
-member_una : (r : Reply) (m : Actor Carried) → UnasAreSaid m (member_takes values r m)
-member_una r (App a) = tt
-member_una r (Path p) = λ s. takes_una r p s
-
-member_una_next : (m : Actor Carried) → UnasAreSaid m (member_next m)
-member_una_next (App a) = tt
-member_una_next (Path p) = λ s. next_una p s
-
-member_una_stays : (m : Actor Carried) → UnasAreSaid m m
-member_una_stays (App a) = tt
-member_una_stays (Path p) = λ s. una_from.stays refl
-
-pub each_una_is_said : EachUnaIsSaid
-each_una_is_said w turn = turn_by values (λ books c d. UnasAreSaid c.member d.member) (λ books c. member_una_stays c.member)
-    (λ books ask c asks. member_una (answer_to books ask) c.member) (λ books stamp c over. member_una_next c.member) turn w
+    by : (m : Actor Carried) → CameMember m → HoldsOfKind (λ app. Unit {0}) AnswersReset m
+    by (App a) h = tt
+    by (Path p) h = h.answers

@@ -28,6 +28,7 @@ use Rattle.whole_paths.proofs.RecordWaits.{path_is}
 use Rattle.whole_paths.proofs.RoundSteps.{Between, between, carried, early, open_first, open_last, over_after, rounds_later, silent}
 use Rattle.whole_paths.proofs.SegmentRounds.{four_rounds_tell}
 use Rattle.whole_paths.proofs.WellOctets.{all_comes_up_to_lost}
+use Rattle.whole_paths.proofs.OpenTurns.{begun}
 
 module _ (start : Start) (plan : PathPlan) (x : BeginsWithOnePath start plan) (v u : List Turn) (rounds : Rounds start 4 v u) (s : Side) (p q : PathState Carried)
     (here : IsPathAt 0 (reached values start v) p) (there : IsPathAt 0 (reached values start u) q) where
@@ -85,7 +86,7 @@ lost_records_stay start turns [] mild stays s none p q here there lost but =
     subst (AreWellBut s lost) (path_is (reached values start turns) p q here (subst (λ t. IsPathAt 0 (reached values start t) q) (append-nil turns) there)) but
 lost_records_stay start turns (turn ∷ more) mild stays s none p q here there lost but =
     lost_records_stay start (turns ++ turn ∷ []) more mild stays.1 s none.1 next.path q next.here (subst (λ t. IsPathAt 0 (reached values start t) q) (sym (append_assoc turns (turn ∷ []) more)) there) lost
-    ((harms_alone_lose_records start turns turn (record { mild = mild; before = stays.0; after = next }) s).unharmed (none.0 stays.0 next) lost (subst (AreWellBut s lost) (path_is (reached values start turns) p stays.0.path here stays.0.here) but))
+    ((harms_alone_lose_records start turns turn (begun start turns turn (record { mild = mild; before = stays.0; after = next })) s).unharmed (none.0 stays.0 next) lost (subst (AreWellBut s lost) (path_is (reached values start turns) p stays.0.path here stays.0.here) but))
   where
     next : IsOpenAfter start (turns ++ turn ∷ [])
     next = open_first start (turns ++ turn ∷ []) more stays.1

@@ -96,7 +96,7 @@ refused_at t (duties.Send (send_duties.ResetAnswer s)) = same_side s t
 refused_at t _ = false
 
 -- any of them, at any end
-abbrev is_sign : Duty → Bool
+abbrev pub is_sign : Duty → Bool
 is_sign (duties.Send (send_duties.ResetAnswer s)) = true
 is_sign (duties.Ask (ask_duties.Opened s)) = true
 is_sign (duties.Ask (ask_duties.SynAnswered s)) = true
@@ -104,15 +104,15 @@ is_sign (duties.Ask (ask_duties.PeerKey s)) = true
 is_sign (duties.Step (step_duties.Heard s index)) = true
 is_sign _ = false
 
-abbrev IsSign : (Duty → Bool) → Type 0
+abbrev pub IsSign : (Duty → Bool) → Type 0
 IsSign test = (d : Duty) → test d ≡ true → is_sign d ≡ true
 
-clears_sign : (t : Side) → IsSign (clears_at t)
+pub clears_sign : (t : Side) → IsSign (clears_at t)
 clears_sign t (duties.Ask (ask_duties.Opened s)) is = refl
 clears_sign t (duties.Step (step_duties.Heard s index)) is = refl
 clears_sign t _ is = absurd (true≢false (sym is))
 
-answered_sign : (t : Side) → IsSign (answered_at t)
+pub answered_sign : (t : Side) → IsSign (answered_at t)
 answered_sign t (duties.Ask (ask_duties.SynAnswered s)) is = refl
 answered_sign t (duties.Ask (ask_duties.PeerKey s)) is = refl
 answered_sign t _ is = absurd (true≢false (sym is))
@@ -134,14 +134,14 @@ module _ (test : Duty → Bool) (sign : IsSign test) where
   any_sign [] is = is
   any_sign (d ∷ ds) is = ⊎_elim (λ here. or_left (is_sign d) (list_any is_sign ds) (sign d here)) (λ there. or_right (is_sign d) (list_any is_sign ds) (any_sign ds there)) (or_cases (test d) (list_any test ds) is)
 
-  no_sign : (ds : List Duty) → list_any is_sign ds ≡ false → list_any test ds ≡ true → ⊥
+  pub no_sign : (ds : List Duty) → list_any is_sign ds ≡ false → list_any test ds ≡ true → ⊥
   no_sign ds none is = both_ways (list_any is_sign ds) none (any_sign ds is)
 
   one_more : (e d : Duty) (ds : List Duty) → (is_sign e ≡ true → ⊥) → list_any test (e ∷ ds) ≡ true → list_any test (d ∷ ds) ≡ true
   one_more e d ds never is = ⊎_elim (λ here. absurd (never (sign e here))) (λ there. or_right (test d) (list_any test ds) there) (or_cases (test e) (list_any test ds) is)
 
   -- what is to be done was so before
-  back : (s : Side) (gone : Bool) (d : Duty) (ds es : List Duty) → Follows s gone d ds es → list_any test es ≡ true → list_any test (d ∷ ds) ≡ true
+  pub back : (s : Side) (gone : Bool) (d : Duty) (ds es : List Duty) → Follows s gone d ds es → list_any test es ≡ true → list_any test (d ∷ ds) ≡ true
   back s gone d ds es follows.goes_on is = or_right (test d) (list_any test ds) is
   back s gone d ds es follows.again is = is
   back s gone d ds es (follows.told treats e own other named silent) is = one_more e d ds (told_unsigned e named) is
@@ -249,7 +249,7 @@ unwanted_dead c e = by e.state
     by phase.SynSent is = absurd (both_ways (is_unwanted (meaning_opening c e)) (neither (is_at_limit e) means.Ignored (meaning_answering c.acknowledged c e) refl (answering_wanted c.acknowledged c e)) is)
     by _ is = absurd (both_ways (is_unwanted (meaning_connected c e)) (connected_wanted c e) is)
 
-answers_heard : (t s : Side) (from count : ℕ) (ds : List Duty) → list_any (answered_at t) ds ≡ false → list_any (answered_at t) (heard_and s from count ds) ≡ false
+pub answers_heard : (t s : Side) (from count : ℕ) (ds : List Duty) → list_any (answered_at t) ds ≡ false → list_any (answered_at t) (heard_and s from count ds) ≡ false
 answers_heard t s from zero ds none = none
 answers_heard t s from (suc count) ds none = answers_heard t s (from + 1) count ds none
 
@@ -261,7 +261,7 @@ others_heard : (t s : Side) → same_side s t ≡ false → (from count : ℕ) (
 others_heard t s apart from zero ds none = none
 others_heard t s apart from (suc count) ds none = or_from (same_side s t) (list_any (clears_at t) (heard_and s (from + 1) count ds)) apart (others_heard t s apart (from + 1) count ds none)
 
-judged_clear : (told : List KeptMapping) (answer : Outgoing) (s : Side) (now : ℕ) (h : HeardSegment) (m : Meaning) (e : PathEnd) → (copy_judged false told answer s now h m e).modes.clear ≡ e.modes.clear
+pub judged_clear : (told : List KeptMapping) (answer : Outgoing) (s : Side) (now : ℕ) (h : HeardSegment) (m : Meaning) (e : PathEnd) → (copy_judged false told answer s now h m e).modes.clear ≡ e.modes.clear
 judged_clear told answer s now h means.Opens e = refl
 judged_clear told answer s now h _ e = refl
 
@@ -322,15 +322,15 @@ other_clears t s apart ds e count _ h = fresh t e e (omega arith) ds _ refl refl
 
 -- ---- a path
 
-opened_clear : (keys : Option KeyPair) (e : PathEnd) → (opened_by keys e).modes.clear ≡ e.modes.clear
+pub opened_clear : (keys : Option KeyPair) (e : PathEnd) → (opened_by keys e).modes.clear ≡ e.modes.clear
 opened_clear None e = refl
 opened_clear (Some keys) e = refl
 
-died_clear : (b : Bool) (e : PathEnd) → (if b then e else died e).modes.clear ≡ e.modes.clear
+pub died_clear : (b : Bool) (e : PathEnd) → (if b then e else died e).modes.clear ≡ e.modes.clear
 died_clear true e = refl
 died_clear false e = refl
 
-fired_unsigned : (b : Bool) (s : Side) → list_any is_sign (template_fired b s) ≡ false
+pub fired_unsigned : (b : Bool) (s : Side) → list_any is_sign (template_fired b s) ≡ false
 fired_unsigned true s = refl
 fired_unsigned false s = refl
 
@@ -374,13 +374,13 @@ module _ {C : Type 0} where
       let only : Only nothing (end_at (peer s) p) (end_at (peer s) q) = subst (λ v. Only v (end_at (peer s) p) (end_at (peer s) q)) none (record { same = ap (λ (v : PathView C). v.other) x.same }) in
       unwritten false (end_at (peer s) p).modes.clear (end_at (peer s) q).modes.clear refl (ap (λ (v : EndView). v.clear) only.same)
 
-  same_clear : (t : Side) (d : Duty) (p q : PathState C) → is_event d ≡ false → OnlyAt (side_of d) (writes d) p q → clears_at t d ≡ false → (end_at t q).modes.clear ≡ (end_at t p).modes.clear
+  pub same_clear : (t : Side) (d : Duty) (p q : PathState C) → is_event d ≡ false → OnlyAt (side_of d) (writes d) p q → clears_at t d ≡ false → (end_at t q).modes.clear ≡ (end_at t p).modes.clear
   same_clear t d p q other x = ⊎_elim
       (λ own. subst (λ u. clears_at u d ≡ false → (end_at u q).modes.clear ≡ (end_at u p).modes.clear) own (own_same d p q other x))
       (λ away. subst (λ u. clears_at u d ≡ false → (end_at u q).modes.clear ≡ (end_at u p).modes.clear) away (λ none. other_same (side_of d) (writes d) p q (none_other d other) x))
       (sides t (side_of d))
 
-  passed_same : (t : Side) (d : Duty) (p : PathState C) → clears_at t d ≡ false → (end_at t (passed d p)).modes.clear ≡ (end_at t p).modes.clear
+  pub passed_same : (t : Side) (d : Duty) (p : PathState C) → clears_at t d ≡ false → (end_at t (passed d p)).modes.clear ≡ (end_at t p).modes.clear
   passed_same t (duties.Step step_duties.Events) p none = refl
   passed_same t d p none = same_clear t d p (passed d p) refl (passes_no_more d p) none
 

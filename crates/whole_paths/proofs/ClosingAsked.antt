@@ -44,7 +44,7 @@ module _ (c : Profile) (s : Side) (e : PathEnd) (place : ℕ) (h : OwesItsEnd pl
       else ack_said c s (e.tcp.send.una - 1) None e)) h.close
       ∙ ap (λ b. if b then ack_said c s e.tcp.send.nxt e.sending.known_end e else ack_said c s (e.tcp.send.una - 1) None e) h.owed
 
-  options_so : said.options ≡ Dss (Some e.receiving.next) (Some (End place (checksum_told c (checksum_in c (bare_mapping c s place 0 1) [])))) ∷ []
+  pub options_so : said.options ≡ Dss (Some e.receiving.next) (Some (End place (checksum_told c (checksum_in c (bare_mapping c s place 0 1) [])))) ∷ []
   options_so =
       ap (λ b. if b then [] else (if e.modes.clear then Dss (Some e.receiving.next) (data_fin_mapping c s e.sending.known_end) ∷ fail_beside e.sending.known_end e.modes else opening_options c s e)) h.mapped
       ∙ ap (λ b. if b then Dss (Some e.receiving.next) (data_fin_mapping c s e.sending.known_end) ∷ fail_beside e.sending.known_end e.modes else opening_options c s e) h.clear

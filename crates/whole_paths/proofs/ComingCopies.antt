@@ -47,7 +47,7 @@ use Rattle.whole_paths.specs.OwedGoes.{Owes}
 use Rattle.whole_paths.proofs.Agendas.{own_end}
 use Rattle.whole_paths.proofs.Bringing.{coming_by, comes_so, first_so}
 use Rattle.whole_paths.proofs.ExpiriesInARow.{BothSame, same_lasts}
-use Rattle.whole_paths.proofs.OwedGoes.{BothDue, due_lasts, owes_still}
+use Rattle.whole_paths.proofs.OwedGoes.{BothDue, due_lasts, due_still, owes_still}
 use Rattle.whole_paths.proofs.Turns.{turn_each}
 
 -- ---- the row
@@ -90,29 +90,49 @@ answer_owing false d = inl refl
 syn_occupies : (c : Copy) → c.syn ≡ true → nat_lt 0 (occupied c) ≡ true
 syn_occupies c syn = lt-ltb 0 (occupied c) (let one = ap one_if syn in omega (arith, one))
 
+accepted_acks : (n : ℕ) (hint : Hint) (now : ℕ) (c : Copy) (s : EndState) → c.syn ≡ true → (after_arrival (means.Accepts n) hint now c s).due.ack ≡ true
+accepted_acks n hint now c s syn = acks (nat_lt 0 (occupied c)) _ (syn_occupies c syn)
+  where
+    acks : (b : Bool) (d : Due) → b ≡ true → (if b then owing_ack d else d).ack ≡ true
+    acks true d is = refl
+    acks false d is = absurd (true≢false (sym is))
+
 arrived_owes : (m : Meaning) (hint : Hint) (now : ℕ) (c : Copy) (s : EndState) → MeansIs c s m → is_answered m ≡ true → IsOwing (after_arrival m hint now c s).due
 arrived_owes means.RepeatedSyn hint now c s fits is = inr refl
 arrived_owes means.Outside hint now c s fits is = answer_owing _ s.due
 arrived_owes means.Challenged hint now c s fits is = answer_owing _ s.due
 arrived_owes means.Ahead hint now c s fits is = answer_owing _ s.due
-arrived_owes (means.Accepts n) hint now c s fits is = inl (acks (nat_lt 0 (occupied c)) _ (syn_occupies c fits.1.0))
-  where
-    acks : (b : Bool) (d : Due) → b ≡ true → (if b then owing_ack d else d).ack ≡ true
-    acks true d is = refl
-    acks false d is = absurd (true≢false (sym is))
+arrived_owes (means.Accepts n) hint now c s fits is = inl (accepted_acks n hint now c s fits.1.0)
 arrived_owes _ hint now c s fits is = absurd (true≢false (sym is))
 
 owing_owes : (b : Bool) (s : EndState) → IsOwing s.due → IsOwing (owing_if b s).due
 owing_owes true s h = inl refl
 owing_owes false s h = h
 
+-- at an end whose SYN is acknowledged
+answer_acks : (half : Bool) (d : Due) → half ≡ false → (owing_answer half d).ack ≡ true
+answer_acks true d whole = absurd (true≢false whole)
+answer_acks false d whole = refl
+
+answer_syn_acks : (half : Bool) (d : Due) → half ≡ true → (owing_answer half d).syn_ack ≡ true
+answer_syn_acks true d half = refl
+answer_syn_acks false d half = absurd (true≢false (sym half))
+
+owing_syn_acks : (b : Bool) (s : EndState) → s.due.syn_ack ≡ true → (owing_if b s).due.syn_ack ≡ true
+owing_syn_acks true s h = h
+owing_syn_acks false s h = h
+
+owing_acks : (b : Bool) (s : EndState) → s.due.ack ≡ true → (owing_if b s).due.ack ≡ true
+owing_acks true s h = refl
+owing_acks false s h = h
+
 -- ---- an end
 
 module _ (c : Profile) (s : Side) (now : ℕ) (x : HeardSegment) (e : PathEnd) where
-  abbrev heard_as : Meaning → PathEnd
+  abbrev pub heard_as : Meaning → PathEnd
   heard_as m = copy_judged (is_joined c) (held_of c s x) (reset_for c s x) s now x m e
 
-  as_ends : (m : Meaning) → ends_row m ≡ true → in_a_row (heard_as m) ≡ 0
+  pub as_ends : (m : Meaning) → ends_row m ≡ true → in_a_row (heard_as m) ≡ 0
   as_ends m is = owing_ended (owes_by m (items_of (is_joined c) s x)) (after_arrival m (hint_of (items_of (is_joined c) s x)) now (copy_of x) (with_payload m x.payload e.tcp))
       (arrived_ends m (hint_of (items_of (is_joined c) s x)) now (copy_of x) (with_payload m x.payload e.tcp) is)
 
@@ -126,6 +146,29 @@ module _ (c : Profile) (s : Side) (now : ℕ) (x : HeardSegment) (e : PathEnd) w
       by means.Challenged fits is = answer_owing (is_half_open e.tcp.state) e.tcp.due
       by means.Ahead fits is = answer_owing (is_half_open e.tcp.state) e.tcp.due
       by (means.Accepts n) fits is = arrived_owes (means.Accepts n) (hint_of (items_of (is_joined c) s x)) now (copy_of x) e.tcp fits is
+      by _ fits is = absurd (true≢false (sym is))
+
+  as_acks : (m : Meaning) → MeansIs (copy_of x) e.tcp m → is_answered m ≡ true → (m ≡ means.RepeatedSyn → ⊥) → is_half_open e.tcp.state ≡ false → (heard_as m).tcp.due.ack ≡ true
+  as_acks m fits is other whole = owing_acks (owes_by m (items_of (is_joined c) s x)) (after_arrival m (hint_of (items_of (is_joined c) s x)) now (copy_of x) (with_payload m x.payload e.tcp)) (by m fits is other)
+    where
+      by : (m : Meaning) → MeansIs (copy_of x) e.tcp m → is_answered m ≡ true → (m ≡ means.RepeatedSyn → ⊥)
+          → (after_arrival m (hint_of (items_of (is_joined c) s x)) now (copy_of x) (with_payload m x.payload e.tcp)).due.ack ≡ true
+      by means.RepeatedSyn fits is other = absurd (other refl)
+      by means.Outside fits is other = answer_acks (is_half_open e.tcp.state) e.tcp.due whole
+      by means.Challenged fits is other = answer_acks (is_half_open e.tcp.state) e.tcp.due whole
+      by means.Ahead fits is other = answer_acks (is_half_open e.tcp.state) e.tcp.due whole
+      by (means.Accepts n) fits is other = accepted_acks n (hint_of (items_of (is_joined c) s x)) now (copy_of x) e.tcp fits.1.0
+      by _ fits is other = absurd (true≢false (sym is))
+
+  as_syn_acks : (m : Meaning) → MeansIs (copy_of x) e.tcp m → is_answered m ≡ true → is_half_open e.tcp.state ≡ true → (heard_as m).tcp.due.syn_ack ≡ true
+  as_syn_acks m fits is half = owing_syn_acks (owes_by m (items_of (is_joined c) s x)) (after_arrival m (hint_of (items_of (is_joined c) s x)) now (copy_of x) (with_payload m x.payload e.tcp)) (by m fits is)
+    where
+      by : (m : Meaning) → MeansIs (copy_of x) e.tcp m → is_answered m ≡ true → (after_arrival m (hint_of (items_of (is_joined c) s x)) now (copy_of x) (with_payload m x.payload e.tcp)).due.syn_ack ≡ true
+      by means.RepeatedSyn fits is = refl
+      by means.Outside fits is = answer_syn_acks (is_half_open e.tcp.state) e.tcp.due half
+      by means.Challenged fits is = answer_syn_acks (is_half_open e.tcp.state) e.tcp.due half
+      by means.Ahead fits is = answer_syn_acks (is_half_open e.tcp.state) e.tcp.due half
+      by (means.Accepts n) fits is = absurd (true≢false (sym half ∙ ap is_half_open fits.0))
       by _ fits is = absurd (true≢false (sym is))
 
 -- ---- a path
@@ -170,6 +213,10 @@ module _ (ds : List Duty) (r : Reply) (p : PathState Carried) where
   abbrev Owing : Duty → Type 0
   Owing d = (c : Comes values (from d)) (m : Meaning) → IsTo values (from d) c (judged.As m) → is_answered m ≡ true → Owes (end_at c.due.to (takes values r (from d)))
 
+  abbrev Acking : Duty → Type 0
+  Acking d = (c : Comes values (from d)) (m : Meaning) → IsTo values (from d) c (judged.As m) → is_answered m ≡ true → (m ≡ means.RepeatedSyn → ⊥) → is_half_open (end_at c.due.to p).tcp.state ≡ false
+      → (end_at c.due.to (takes values r (from d))).tcp.due.ack ≡ true
+
   ends : Ends by_event
   ends c m is row =
       let q : PathState Carried = answered values by_event r (from by_event) in
@@ -182,23 +229,43 @@ module _ (ds : List Duty) (r : Reply) (p : PathState Carried) where
       owes_still c.due.to q (takes values r (from by_event)) (settled_lasts BothDue due_lasts q.agenda q)
       (comes_to Owes c m is (λ fits. as_owes p.profile c.due.to (coming_by ds p c).clock (options_heard (end_at c.due.to p) c.segment) (end_at c.due.to p) m fits answers))
 
+  acks : Acking by_event
+  acks c m is answers other whole =
+      let q : PathState Carried = answered values by_event r (from by_event) in
+      ap (λ (d : Due). d.ack) (due_still c.due.to q (takes values r (from by_event)) (settled_lasts BothDue due_lasts q.agenda q))
+      ∙ comes_to (λ f. f.tcp.due.ack ≡ true) c m is (λ fits. as_acks p.profile c.due.to (coming_by ds p c).clock (options_heard (end_at c.due.to p) c.segment) (end_at c.due.to p) m fits answers other whole)
+
+  abbrev SynAcking : Duty → Type 0
+  SynAcking d = (c : Comes values (from d)) (m : Meaning) → IsTo values (from d) c (judged.As m) → is_answered m ≡ true → is_half_open (end_at c.due.to p).tcp.state ≡ true
+      → (end_at c.due.to (takes values r (from d))).tcp.due.syn_ack ≡ true
+
+  syn_acks : SynAcking by_event
+  syn_acks c m is answers half =
+      let q : PathState Carried = answered values by_event r (from by_event) in
+      ap (λ (d : Due). d.syn_ack) (due_still c.due.to q (takes values r (from by_event)) (settled_lasts BothDue due_lasts q.agenda q))
+      ∙ comes_to (λ f. f.tcp.due.syn_ack ≡ true) c m is (λ fits. as_syn_acks p.profile c.due.to (coming_by ds p c).clock (options_heard (end_at c.due.to p) c.segment) (end_at c.due.to p) m fits answers half)
+
   answer_counts : (d : Duty) → CopiesCount (from d) (takes values r (from d))
   answer_counts d = record {
     ends = λ c m is row. inr (subst Ends (sym (first_so d by_event ds c.others c.first)) ends c m is row);
     owes = λ c m is answers. inr (subst Owing (sym (first_so d by_event ds c.others c.first)) owes c m is answers);
+    acks = λ c m is answers other whole. inr (subst Acking (sym (first_so d by_event ds c.others c.first)) acks c m is answers other whole);
+    syn_acks = λ c m is answers half. inr (subst SynAcking (sym (first_so d by_event ds c.others c.first)) syn_acks c m is answers half);
   }
 
 takes_counts : (r : Reply) (p : PathState Carried) → CopiesCount p (takes values r p)
 takes_counts r p = by p.agenda
   where
     by : (ds : List Duty) → let x : PathState Carried = with_agenda ds p in CopiesCount x (takes values r x)
-    by [] = record { ends = λ c m is row. inl refl; owes = λ c m is answers. inl refl }
+    by [] = record { ends = λ c m is row. inl refl; owes = λ c m is answers. inl refl; acks = λ c m is answers other whole. inl refl; syn_acks = λ c m is answers half. inl refl }
     by (d ∷ ds) = answer_counts ds r p d
 
 next_counts : (p : PathState Carried) → is_nil p.agenda ≡ true → CopiesCount p (next_round p)
 next_counts p over = record {
   ends = λ c m is row. absurd (true≢false (sym over ∙ ap is_nil c.first));
   owes = λ c m is answers. absurd (true≢false (sym over ∙ ap is_nil c.first));
+  acks = λ c m is answers other whole. absurd (true≢false (sym over ∙ ap is_nil c.first));
+  syn_acks = λ c m is answers half. absurd (true≢false (sym over ∙ ap is_nil c.first));
 }
 
 -- ---- the world
@@ -213,7 +280,8 @@ member_begins (Path p) over = next_counts p over
 
 member_stays : (m : Actor Carried) → PathsHear m m
 member_stays (App a) = tt
-member_stays (Path p) = record { ends = λ c m is row. inl refl; owes = λ c m is answers. inl refl }
+member_stays (Path p) =
+    record { ends = λ c m is row. inl refl; owes = λ c m is answers. inl refl; acks = λ c m is answers other whole. inl refl; syn_acks = λ c m is answers half. inl refl }
 
 pub each_copy_that_comes_counts : EachCopyThatComesCounts
 each_copy_that_comes_counts w turn = turn_each values (λ c d. PathsHear c.member d.member) (λ c. member_stays c.member) (λ ask books c. member_counts (answer_to books ask) c.member)

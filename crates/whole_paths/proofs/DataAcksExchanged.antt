@@ -100,7 +100,7 @@ use Rattle.whole_paths.proofs.Paying.{AnswersComeSo, GoesSo, TurnedTo, answers_c
 use Rattle.whole_paths.proofs.Reached.{EndsAreReached, each_is_reached, none_left}
 use Rattle.whole_paths.proofs.Sent.{what_came_was_sent}
 
-item_wants : (index place : ℕ) (items : List Heard) → item_at index items ≡ Some (says.DataFin place) → list_any wants_ack items ≡ true
+pub item_wants : (index place : ℕ) (items : List Heard) → item_at index items ≡ Some (says.DataFin place) → list_any wants_ack items ≡ true
 item_wants index place [] at = cc
 item_wants zero place (item ∷ items) at = ap (λ i. wants_ack i || list_any wants_ack items) (same_Some item (says.DataFin place) at)
 item_wants (suc n) place (item ∷ items) at = more (wants_ack item) (list_any wants_ack items) (item_wants n place items at)

@@ -1,5 +1,5 @@
 -- Once all of a stream is read its writer closes it, and its end, of which nothing waits to be acknowledged, sends the DATA_FIN.
-use Rattle.std.proofs.Common.{◌≡◌, refl, sym, subst, ap, ◌∙◌, inl, ⊎_elim, ℕ, ◌≤◌, arith, Bool, true, false, true≢false, is_some, Option, Some, List, [], ◌∷◌, length, length-append}
+use Rattle.std.proofs.Common.{◌≡◌, ◌⊎◌, refl, sym, subst, ap, ◌∙◌, inl, ⊎_elim, ℕ, ◌≤◌, arith, Bool, true, false, true≢false, is_some, Option, Some, List, [], ◌∷◌, length, length-append}
 use Rattle.std.specs.List.{slice_get}
 use Rattle.std.proofs.lemmas.Bool.{both_ways}
 use Rattle.sides.specs.declared.side.Side.{Side}
@@ -26,7 +26,7 @@ use Rattle.whole_paths.specs.EndRounds.{AnEndIsTold, EndIsKnown, FinIsSent, IsCl
 use Rattle.whole_paths.specs.Finish.{IsPathAt}
 use Rattle.whole_paths.specs.KnownEnds.{ClosedIsAcknowledged, EndIsAcknowledged, WaitsForNoEnd}
 use Rattle.whole_paths.specs.Mild.{EndsGoByMappings, GoesByMappings}
-use Rattle.whole_paths.specs.Mending.{IsMended}
+use Rattle.whole_paths.specs.Mending.{IsToldSoon}
 use Rattle.whole_paths.specs.OnePathScripts.{BeginsWithOnePath}
 use Rattle.whole_paths.specs.SegmentRounds.{IsRound, Rounds, read_after}
 use Rattle.whole_paths.specs.Writers.{GoesOnWriting}
@@ -43,7 +43,7 @@ known_so : (o : Option ℕ) (n : ℕ) → o ≡ Some n → is_some o ≡ true
 known_so o n is = ap (λ x. is_some x) is
 
 module _ (start : Start) (plan : PathPlan) (x : BeginsWithOnePath start plan) (s : Side) (v a b u : List Turn)
-    (first : Rounds start 5 v a) (second : Rounds start 2 a b) (third : Rounds start 4 b u) (p : PathState Carried) (here : IsPathAt 0 (reached values start v) p) (mended : IsMended p)
+    (first : Rounds start 5 v a) (second : Rounds start 2 a b) (third : Rounds start 4 b u) (p : PathState Carried) (here : IsPathAt 0 (reached values start v) p) (mended : IsToldSoon s p ⊎ IsAllThere s (reached values start v))
     (all_read : length (pick s start.file_a start.file_b) ≤ read_after start s v) (all_acked : length (pick s start.file_a start.file_b) ≤ acked_len (written_by s (reached values start a)).marks)
     (comes : FinIsSent start s b → EndIsKnown start s u) where
   abbrev total : ℕ
@@ -152,7 +152,7 @@ module _ (start : Start) (plan : PathPlan) (x : BeginsWithOnePath start plan) (s
   known_last = ⊎_elim
       (λ all. there_known (stays_there start plan x heard_at b s to_sent all))
       (λ una. if_may start plan x Goal b q sent_path.here sent_path.is_open s there_known (λ may. sent_or_known una may (λ sent. comes (λ z there. subst (λ (y : PathState Carried). (end_at s y).sending.fin_sent ≡ true) (path_is (reached values start b) q z sent_path.here there) sent))))
-      (tell start plan x v heard_at first.1.0 s p told_path.path here told_path.here (mended.told s))
+      (⊎_elim (λ told. tell start plan x v heard_at first.1.0 s p told_path.path here told_path.here told) (λ all. inl (stays_there start plan x v heard_at s to_heard all)) mended)
 
 pub an_end_is_told : AnEndIsTold
 an_end_is_told start plan x s v a b u first second third p here mended all_read all_acked comes = record {

@@ -59,7 +59,7 @@ use Rattle.world_laws.proofs.Numbers.TellSmall.{EndTells, RecordKindTells, Recor
 use Rattle.world_laws.proofs.Worlds.CastLifting.{each_actor, path_actor}
 use Rattle.world_laws.proofs.Worlds.Casts.{walking}
 use Rattle.whole_paths.specs.AgendaSteps.{event_side}
-use Rattle.whole_paths.specs.Arrivals.{Arrival, CameBefore, ComesAgain, ComesInOrder, HasItsMapping, IsPiece, Takes}
+use Rattle.whole_paths.specs.Arrivals.{Arrival, CameBefore, ComesAgain, ComesInOrder, HasItsMapping, IsMappedPiece, Takes}
 use Rattle.whole_paths.specs.Answered.{AcksGoFirst, IsBareAck}
 use Rattle.whole_paths.specs.Answered.{IsBareAck as bare}
 use Rattle.whole_paths.specs.AsFar.{stage}
@@ -169,7 +169,8 @@ module _ (p : PathState Carried) (known : Known p) (s : Side) where
           low = omega (arith, place, few_octets, number);
           mapped = identity;
           finite = finite;
-          told = told_before;
+          few = few_octets;
+          told = inl told_before;
         }
 
     sent_whole : IsFaithful p → at_side.modes.identity ≡ false → at_side.modes.own_infinite ≡ None → is_first_piece s r at_side ≡ false
@@ -482,8 +483,9 @@ module _ (p q : PathState Carried) (known : Known p) (faithful : IsFaithful p) (
       comes_now : Arrival copied p
       comes_now = each_copy_arrives s r p f copy sent.unstripped sent.unaltered there (numbered f there) known.alike others first next faithful.joined
 
-      piece : IsPiece copied
-      piece = each_mapped_record_is_a_piece p.profile s r copy.sender copied sent.mapped copy.of_it copy.says
+      piece : IsMappedPiece (peer comes_now.due.to) copied
+      piece = subst (λ y. IsMappedPiece y copied) (sym (ap peer (sym (ap event_side comes_now.next) ∙ ap event_side next ∙ copy.to) ∙ sender_of s))
+          (each_mapped_record_is_a_piece p.profile s r copy.sender copied sent.mapped copy.of_it copy.says)
 
       some_end : 0 < end_of r
       some_end = (let low = behind_syn p known s r is_first kind in omega (arith, end_is, low))

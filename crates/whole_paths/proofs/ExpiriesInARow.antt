@@ -338,7 +338,7 @@ module _ {C : Type 0} where
   answer_row d ds s p q r first (out at is next (counts_one few one)) same =
       row.one_more at (record { next = next; others = ds; first = first ∙ ap (λ x. x ∷ ds) is }) few (same ∙ one)
 
-  takes_row : (k : Codec C) (r : Reply) (p : PathState C) (s : Side) → RowGoesOn s p (takes k r p)
+  pub takes_row : (k : Codec C) (r : Reply) (p : PathState C) (s : Side) → RowGoesOn s p (takes k r p)
   takes_row k r p s = by p.agenda
     where
       by : (ds : List Duty) → let x = record p { agenda = ds } in RowGoesOn s x (takes k r x)

@@ -1,19 +1,18 @@
 -- Where each expiry is answered but for harmed segments, an end has at most one more in a row than segments were harmed.
-use Rattle.std.proofs.Common.{◌≡◌, refl, sym, subst, ap, ◌∙◌, ◌⊎◌, inl, inr, ⊎_elim, ℕ, suc, ◌+◌, ◌<◌, ◌≤◌, arith, Bool, true, false, Some, List, [], ◌∷◌}
-use Rattle.std.specs.List.{slice_get}
+use Rattle.std.proofs.Common.{◌≡◌, sym, subst, ◌∙◌, ⊎_elim, ℕ, ◌+◌, ◌<◌, ◌≤◌, arith, List, [], ◌∷◌}
 use Rattle.std.proofs.lemmas.Option.{same_Some}
 use Rattle.sides.specs.declared.side.Side.{Side}
+use Rattle.link_script.specs.declared.script.Script.{Script}
 use Rattle.path_core.specs.Codec.{Codec}
 use Rattle.path_core.specs.State.{PathState, end_at}
 use Rattle.world_laws.specs.declared.member.Member.TheVariants.{Path}
 use Rattle.world_laws.specs.Actors.{ActorCrew}
-use Rattle.world_laws.specs.Outcomes.{outcome_of}
 use Rattle.world_laws.specs.Worlds.{WorldState, Turn, after_turn, world_run}
 use Rattle.whole_paths.specs.Expiries.{RunsOut}
-use Rattle.whole_paths.specs.ExpiriesInARow.{in_a_row, ExpiriesAreAnswered, FewLossesEndNone, HoldsAlong, IsPaid, RowGoesOn, RowsGoOn}
+use Rattle.whole_paths.specs.ExpiriesInARow.{in_a_row, ExpiriesAreAnswered, HoldsAlong, IsPaid, RowGoesOn, RowsGoOn}
 use Rattle.whole_paths.specs.ExpiriesInARow.IsPaid.{paid, comes}
 use Rattle.whole_paths.specs.ExpiriesInARow.{RowGoesOn as row}
-use Rattle.whole_paths.specs.Finish.{FewLossesFinish, IsPathAt, OnePathEnds, Patience, harmed}
+use Rattle.whole_paths.specs.Finish.{FewLossesEndNoneWhere, FewLossesFinishWhere, IsPathAt, OnePathEndsWhere, Patience, harmed}
 use Rattle.whole_paths.proofs.ExpiriesInARow.{expiries_alone_count}
 
 module _ {C : Type 0} (k : Codec C) (Holds : WorldState C → Type 0) (Comes : Side → WorldState C → Type 0) (answers : ExpiriesAreAnswered k Holds Comes) where
@@ -64,8 +63,9 @@ module _ {C : Type 0} (k : Codec C) (Holds : WorldState C → Type 0) (Comes : S
   never_sixth harms w few now s p here (comes most on_its_way) tick out = absurd (answers.due w now s p here on_its_way tick out)
 
 -- the statement on few losses is that no end dies, and that over one path both files are delivered or an end died
-pub few_losses_finish_so : {C : Type 0} (k : Codec C) (enough : Patience) → OnePathEnds k enough → FewLossesEndNone k → FewLossesFinish k enough
-few_losses_finish_so k enough one none script path file_a file_b turns mild harmless few lawful rounds = ⊎_elim
+pub few_losses_finish_so : {C : Type 0} (k : Codec C) (Also : Script → List Turn → Type 0) (enough : Patience) → OnePathEndsWhere k Also enough → FewLossesEndNoneWhere k Also
+    → FewLossesFinishWhere k Also enough
+few_losses_finish_so k Also enough one none script path file_a file_b turns mild also harmless few lawful rounds = ⊎_elim
     (λ delivered. delivered)
-    (λ died. absurd (none script path file_a file_b turns mild harmless few died))
-    (one script path file_a file_b turns mild lawful rounds)
+    (λ died. absurd (none script path file_a file_b turns mild also harmless few died))
+    (one script path file_a file_b turns mild also lawful rounds)

@@ -1,32 +1,35 @@
--- Where each expiry is answered but for harmed segments, both files are delivered over one path with four harmed segments at most.
-use Rattle.std.proofs.Common.{⊎_elim}
-use Rattle.sides.specs.declared.side.Side.{Side}
-use Rattle.path_segments.specs.Spelled.{PlainSegment}
-use Rattle.path_core.specs.State.{PathState}
-use Rattle.path_core.specs.Values.{Carried, values}
-use Rattle.world_laws.specs.Openings.{PathPlan, Start, plan_of, start_of}
-use Rattle.world_laws.specs.Worlds.{WorldState}
-use Rattle.whole_paths.specs.AnsweredExpiries.{IsAnsweredAt, SegmentsMeanSo}
+-- Each expiry is answered but for harmed segments, so both files are delivered over one path with four harmed segments at most.
+use Rattle.std.proofs.Common.{arith}
+use Rattle.path_core.specs.Octets.{octets}
+use Rattle.path_core.specs.Values.{values}
+use Rattle.world_laws.specs.Openings.{PathPlan, Start}
+use Rattle.whole_paths.specs.AnsweredExpiries.{IsAnsweredAt}
 use Rattle.whole_paths.specs.ExpiriesInARow.{ExpiriesAreAnswered}
-use Rattle.whole_paths.specs.FewLossesDeliver.{BriefFewLossesFinish}
+use Rattle.whole_paths.specs.ExpiryMeanings.{EndsTheRow, IsOpenedFor, IsWanted}
 use Rattle.whole_paths.specs.FewLossesEnd.{RunsAlive}
+use Rattle.whole_paths.specs.Finish.{BriefLossesEndNone, BriefLossesFinish, IsBrief}
 use Rattle.whole_paths.specs.OnePathScripts.{BeginsWithOnePath}
+use Rattle.whole_paths.specs.OpeningCourses.{opening_patience}
 use Rattle.whole_paths.proofs.AnsweredExpiries.{expiries_are_answered_so}
+use Rattle.whole_paths.proofs.ExpiryAnswers.{segments_mean_so}
+use Rattle.whole_paths.proofs.FewLosses.{few_losses_finish_so}
 use Rattle.whole_paths.proofs.FewLossesEnd.{few_losses_end_none_so}
-use Rattle.whole_paths.proofs.OnePathScripts.{mild_scripts_begin_with_one_path}
-use Rattle.whole_paths.proofs.OpeningEnds.{delivers_within}
-use Rattle.whole_paths.specs.OnePathScripts.{for_all_news}
-use Rattle.whole_paths.specs.OnlyPaths.{news_within}
+use Rattle.whole_paths.proofs.OpeningEnds.{one_path_ends}
+use Rattle.whole_paths.proofs.OverOctets.{end_none_where, finish_where}
 
-pub few_losses_deliver_so : (Comes : Start → Side → WorldState Carried → Type 0) → ((start : Start) (plan : PathPlan) → BeginsWithOnePath start plan → ExpiriesAreAnswered values (RunsAlive start) (Comes start))
-    → BriefFewLossesFinish (for_all_news news_within)
-few_losses_deliver_so Comes answers script path file_a file_b turns h firm lawful brief few enough = ⊎_elim
-    (λ delivered. delivered)
-    (λ died. absurd (few_losses_end_none_so Comes answers script path file_a file_b turns h brief few died))
-    (delivers_within (start_of script file_a file_b) (plan_of script 0 path) turns 4 (mild_scripts_begin_with_one_path script path file_a file_b h.mild) firm lawful brief.few few enough)
+-- the exchange of each expiry
+answers : (start : Start) (plan : PathPlan) → BeginsWithOnePath start plan → ExpiriesAreAnswered values (RunsAlive start) (IsAnsweredAt IsWanted EndsTheRow IsOpenedFor)
+answers start plan begins =
+    expiries_are_answered_so IsWanted EndsTheRow IsOpenedFor start begins.mild (segments_mean_so start plan begins.one begins.mild (let room = begins.buffer in omega (arith, room)))
 
--- where the segments of its exchange mean to the ends what they should
-pub few_losses_deliver_by : (Wants Ends : Side → PlainSegment → PathState Carried → Type 0) (Opens : Side → PathState Carried → Type 0)
-    → ((start : Start) (plan : PathPlan) → BeginsWithOnePath start plan → SegmentsMeanSo Wants Ends Opens start)
-    → BriefFewLossesFinish (for_all_news news_within)
-few_losses_deliver_by Wants Ends Opens mean = few_losses_deliver_so (λ start. IsAnsweredAt Wants Ends Opens) (λ start plan begins. expiries_are_answered_so Wants Ends Opens start begins.mild (mean start plan begins))
+pub few_losses_end_none : BriefLossesEndNone values
+few_losses_end_none = few_losses_end_none_so (λ start. IsAnsweredAt IsWanted EndsTheRow IsOpenedFor) answers
+
+pub few_losses_finish : BriefLossesFinish values opening_patience
+few_losses_finish = few_losses_finish_so values IsBrief opening_patience one_path_ends few_losses_end_none
+
+pub few_losses_end_none_in_octets : BriefLossesEndNone octets
+few_losses_end_none_in_octets = end_none_where IsBrief few_losses_end_none
+
+pub few_losses_finish_in_octets : BriefLossesFinish octets opening_patience
+few_losses_finish_in_octets = finish_where IsBrief opening_patience few_losses_finish

@@ -26,8 +26,8 @@ use Rattle.world_laws.proofs.Weaving.WholeRounds.{run_append}
 use Rattle.world_laws.proofs.Writes.Steps.{begins_lasts}
 use Rattle.whole_paths.specs.ExpiriesInARow.{ExpiriesAreAnswered, HoldsAlong, IsPaid, RowsGoOn, in_a_row}
 use Rattle.whole_paths.specs.ExpiriesInARow.IsPaid.{paid}
-use Rattle.whole_paths.specs.FewLossesEnd.{BriefLossesEndNone, HarmsNoEnd, RunsAlive}
-use Rattle.whole_paths.specs.Finish.{AnEndDied, IsPathAt, harmed}
+use Rattle.whole_paths.specs.FewLossesEnd.{HarmsNoEnd, RunsAlive}
+use Rattle.whole_paths.specs.Finish.{AnEndDied, BriefLossesEndNone, IsPathAt, harmed}
 use Rattle.whole_paths.specs.OnePathScripts.{BeginsWithOnePath}
 use Rattle.whole_paths.proofs.Courses.{harmed_append}
 use Rattle.whole_paths.proofs.Deaths.{begins_living}
@@ -135,14 +135,14 @@ module _ (Comes : Start → Side → WorldState Carried → Type 0) (answers : (
 
 pub few_losses_end_none_so : (Comes : Start → Side → WorldState Carried → Type 0) → ((start : Start) (plan : PathPlan) → BeginsWithOnePath start plan → ExpiriesAreAnswered values (RunsAlive start) (Comes start))
     → BriefLossesEndNone values
-few_losses_end_none_so Comes answers script path file_a file_b turns h brief few died =
-    none_died Comes answers script path file_a file_b h [] turns runs runs brief.few few died
+few_losses_end_none_so Comes answers script path file_a file_b turns mild brief harmless few died =
+    none_died Comes answers script path file_a file_b (record { mild = mild; harmless = harmless }) [] turns runs runs brief.few few died
   where
     begun : Start
     begun = start_of script file_a file_b
 
     begins : BeginsWithOnePath begun (plan_of script 0 path)
-    begins = mild_scripts_begin_with_one_path script path file_a file_b h.mild
+    begins = mild_scripts_begin_with_one_path script path file_a file_b mild
 
     opens : PathState Carried
     opens = waiting_path (path_begins begun 0 (plan_of script 0 path)) begun.lines

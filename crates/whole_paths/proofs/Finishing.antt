@@ -63,29 +63,35 @@ fire_same now s = elim (is_sixth s) as (λ b. (if b then after_death true s else
 abbrev pub Finishes : EndState → EndState → Type 0
 Finishes s t = (t.send.finished ≡ s.send.finished) ⊎ (s.send.nxt < t.send.nxt)
 
-step_finishes : (now : ℕ) (s t : EndState) → SubflowStep now s t → Finishes s t
-step_finishes now s t (arrives m hint c is) = inl (arrival_same m hint now c s)
-step_finishes now s t (sends occasion) = inl (sending_same occasion now s)
-step_finishes now s t fires = inl (fire_same now s)
-step_finishes now s t dies = inl (acknowledged_same s.send.nxt s.send)
-step_finishes now s t finishes = inr (omega arith)
-step_finishes now s t (pushes piece mapping) = inl refl
-step_finishes now s t (holds pos octets) = inl refl
-step_finishes now s t owes = inl refl
-step_finishes now s t keeps = inl refl
-step_finishes now s t drops = inl refl
-step_finishes now s t (advances count) = inl refl
-step_finishes now s t (passes next) = inl refl
-step_finishes now s t (forgets pos) = inl refl
-step_finishes now s t (settles on restart) = inl refl
-step_finishes now s t (grows growth) = inl refl
-step_finishes now s t (begins is) = inl refl
-step_finishes now s t (joins window is) = inl refl
+-- whether the FIN was pushed stays, or it is pushed now
+abbrev Ends : EndState → EndState → Type 0
+Ends s t = (t.send.finished ≡ s.send.finished) ⊎ ((s.send.nxt < t.send.nxt) × (t.send.finished ≡ true))
+
+step_ends : (now : ℕ) (s t : EndState) → SubflowStep now s t → Ends s t
+step_ends now s t (arrives m hint c is) = inl (arrival_same m hint now c s)
+step_ends now s t (sends occasion) = inl (sending_same occasion now s)
+step_ends now s t fires = inl (fire_same now s)
+step_ends now s t dies = inl (acknowledged_same s.send.nxt s.send)
+step_ends now s t finishes = inr (omega arith, refl)
+step_ends now s t (pushes piece mapping) = inl refl
+step_ends now s t (holds pos octets) = inl refl
+step_ends now s t owes = inl refl
+step_ends now s t keeps = inl refl
+step_ends now s t drops = inl refl
+step_ends now s t (advances count) = inl refl
+step_ends now s t (passes next) = inl refl
+step_ends now s t (forgets pos) = inl refl
+step_ends now s t (settles on restart) = inl refl
+step_ends now s t (grows growth) = inl refl
+step_ends now s t (begins is) = inl refl
+step_ends now s t (joins window is) = inl refl
 
 -- SND.NXT never falls
 pub record Pushes (s t : EndState) : Type 0 where
   pub nxt : s.send.nxt ≤ t.send.nxt
   pub goes : Finishes s t
+  -- nor is the FIN taken back
+  pub kept : s.send.finished ≡ true → t.send.finished ≡ true
 
 pushes_then : (s t u : EndState) → Pushes s t → Pushes t u → Pushes s u
 pushes_then s t u x y = record {
@@ -94,11 +100,19 @@ pushes_then s t u x y = record {
       (λ same. ⊎_elim (λ again. inl (again ∙ same)) (λ rises. inr (let low = x.nxt in omega (arith, low, rises))) y.goes)
       (λ rises. inr (let high = y.nxt in omega (arith, rises, high)))
       x.goes;
+  kept = λ was. y.kept (x.kept was);
+}
+
+ends_push : (s t : EndState) → s.send.nxt ≤ t.send.nxt → Ends s t → Pushes s t
+ends_push s t low ends = record {
+  nxt = low;
+  goes = ⊎_elim (λ same. inl same) (λ now. inr now.0) ends;
+  kept = λ was. ⊎_elim (λ same. same ∙ was) (λ now. now.1) ends;
 }
 
 pub steps_push : (now : ℕ) (s t : EndState) → SubflowSteps now s t → Pushes s t
-steps_push now s t none = record { nxt = le_refl s.send.nxt; goes = inl refl }
-steps_push now s t (more u v steps step) = pushes_then s u t (steps_push now s u steps) (record { nxt = (steps_up now u t (more u t none step)).pushed; goes = step_finishes now u t step })
+steps_push now s t none = ends_push s s (le_refl s.send.nxt) (inl refl)
+steps_push now s t (more u v steps step) = pushes_then s u t (steps_push now s u steps) (ends_push u t (steps_up now u t (more u t none step)).pushed (step_ends now u t step))
 
 -- ---- a path, and the world
 
@@ -112,7 +126,7 @@ module _ {C : Type 0} where
 
   pushes_last : Lasts PathPushes
   pushes_last = record {
-    agenda = λ ds p s. record { nxt = le_refl (end_at s p).tcp.send.nxt; goes = inl refl };
+    agenda = λ ds p s. ends_push (end_at s p).tcp (end_at s p).tcp (le_refl (end_at s p).tcp.send.nxt) (inl refl);
     chains = λ p q r x y s. pushes_then (end_at s p).tcp (end_at s q).tcp (end_at s r).tcp (x s) (y s);
     passes = λ d p. path_pushes p (passed d p) (passed_steps d p);
   }
@@ -124,7 +138,7 @@ module _ {C : Type 0} where
 
   stays_so : (m : Actor C) → MemberFinishes m m
   stays_so (App a) = tt
-  stays_so (Path p) = λ s. record { nxt = le_refl (end_at s p).tcp.send.nxt; goes = inl refl }
+  stays_so (Path p) = λ s. ends_push (end_at s p).tcp (end_at s p).tcp (le_refl (end_at s p).tcp.send.nxt) (inl refl)
 
   takes_so : (k : Codec C) (r : Reply) (m : Actor C) → MemberFinishes m (member_takes k r m)
   takes_so k r (App a) = tt

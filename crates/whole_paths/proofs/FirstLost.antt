@@ -39,7 +39,7 @@ use Rattle.whole_paths.proofs.Flying.{Frames, FramesStay, frames_stay, timer_fro
 use Rattle.whole_paths.proofs.InTime.{nothing_is_overdue, timer_behind}
 use Rattle.whole_paths.proofs.Keeping.{what_waits_is_kept}
 use Rattle.whole_paths.proofs.Mends.{what_runs_out_is_mended}
-use Rattle.whole_paths.proofs.OpenTurns.{of_after, of_before, with_both}
+use Rattle.whole_paths.proofs.OpenTurns.{of_after, of_before, with_both, begun}
 use Rattle.whole_paths.proofs.Reached.{EndsAreReached, Joined, Line, each_is_reached}
 use Rattle.whole_paths.proofs.RecordsGo.{none_at}
 use Rattle.whole_paths.proofs.Resending.{what_runs_out_goes_again}
@@ -264,7 +264,7 @@ module _ (s : Side) (debts by_then : ℕ) (p q : PathState Carried) (records : R
         by : WaitsOn s by_then p q → Goes
         by (wait.runs runs) = runs_on runs
         by (wait.runs_out at out) = ran_out at out
-        by (wait.news news) = first_or_acked (λ first. mending.news h.first first news)
+        by (wait.news news) = first_or_acked (λ first. mending.news h.first h.is_first first news)
         by (wait.gone dead) = absurd (true≢false (sym dead ∙ living))
 
   -- ---- the first record goes again
@@ -304,7 +304,7 @@ module _ (s : Side) (debts by_then : ℕ) (p q : PathState Carried) (records : R
 -- ---- a turn of a connection
 
 pub lost_records_are_mended : LostRecordsAreMended
-lost_records_are_mended start turns turn h s debts by_then stands = first_mends s debts by_then p q (each_record_stays_well start turns turn h s) (harms_alone_lose_records start turns turn h s)
+lost_records_are_mended start turns turn h s debts by_then stands = first_mends s debts by_then p q (each_record_stays_well start turns turn (begun start turns turn h) s) (harms_alone_lose_records start turns turn (begun start turns turn h) s)
     (what_runs_out_is_mended start turns turn h s) (with_both start turns turn h (PathsGoAgain values) (what_runs_out_goes_again values w turn 2 crew there))
     (with_both start turns turn h TimersWaitOn ((no_timer_is_put_off values).waits w turn 2 crew there)) (with_both start turns turn h EndsKeepWhatWaits (what_waits_is_kept values w (turn ∷ []) 2 crew there) s)
     (with_both start turns turn h FramesStay (frames_stay values w turn 2 crew there)) (of_before start turns turn h (λ x. ComesFrom x.clock x) ((nothing_is_overdue values start turns).each 2 crew there))

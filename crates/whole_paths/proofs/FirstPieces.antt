@@ -99,7 +99,7 @@ unclosed _ high living = refl
 
 module _ (c : Profile) (r : Record) (e : PathEnd) (kind : r.kind ≡ Data) (at : r.pos ≡ 1) (mapped : e.modes.identity ≡ false) (finite : e.modes.own_infinite ≡ None) (unclear : e.modes.clear ≡ false)
     (high : 2 ≤ stage e.tcp.state) (some : 0 < e.tcp.recv.edge) (strips alters : Bool) (whole : strips ≡ false) (plain : alters ≡ false) where
-  by_key : (o : Option ℕ) → e.modes.peer_key ≡ o → is_some o ≡ true → ShowsBothKeys c r e strips alters
+  pub by_key : (o : Option ℕ) → e.modes.peer_key ≡ o → is_some o ≡ true → ShowsBothKeys c r e strips alters
   by_key None key is = absurd (true≢false (sym is))
   by_key (Some other) key is = record {
     sums = c.spelling.checksums;

@@ -265,15 +265,15 @@ module _ (p q : PathState Carried) (known : Known p) (faithful : IsFaithful p) (
 
 -- ---- the world
 
--- B's end owes no third MP_JOIN, and carries no fast close
-record AsksForItsEnd (p : PathState Carried) : Type 0 where
-  third : is_joined p.profile ≡ false → p.b.modes.owes_third ≡ false
-  close : p.b.notices.fast_closed ≡ false
+-- the end of this side owes no third MP_JOIN, and carries no fast close
+record AsksForItsEnd (s : Side) (p : PathState Carried) : Type 0 where
+  third : is_joined p.profile ≡ false → (end_at s p).modes.owes_third ≡ false
+  close : (end_at s p).notices.fast_closed ≡ false
 
-alone_so : (p : PathState Carried) → EndsAskForThemselves p → BothKnowTheirEnd p → AsksForItsEnd p
-alone_so p alone ends = record {
-  third = λ first. never p.b.modes.owes_third (λ is. both_ways (is_joined p.profile) first ((alone B).third is));
-  close = never p.b.notices.fast_closed (λ is. (alone B).carries ((ends.knows B).closed is));
+alone_so : (s : Side) (p : PathState Carried) → EndsAskForThemselves p → BothKnowTheirEnd p → AsksForItsEnd s p
+alone_so s p alone ends = record {
+  third = λ first. never (end_at s p).modes.owes_third (λ is. both_ways (is_joined p.profile) first ((alone s).third is));
+  close = never (end_at s p).notices.fast_closed (λ is. (alone s).carries ((ends.knows s).closed is));
 }
   where
     never : (b : Bool) → (b ≡ true → ⊥) → b ≡ false
@@ -285,7 +285,7 @@ turn_goes : (m n : Actor Carried) → (steps : List Note) → OfPaths Known m �
 turn_goes (App a) (App b) steps known asks frames maps confirms far breaks later_maps own_key reached_q shown_q alone ends = tt
 turn_goes (Path p) (Path q) steps known asks frames maps confirms far breaks later_maps own_key reached_q shown_q alone ends = λ faithful few x h.
     let first : is_joined q.profile ≡ false = ap is_joined frames.profile ∙ faithful.joined in
-    let for_end = alone_so p alone ends in
+    let for_end = alone_so B p alone ends in
     goes_so p q known faithful few far frames maps steps confirms (breaks first) later_maps own_key reached_q shown_q (for_end.third faithful.joined) for_end.close x asks h
 turn_goes (App a) (Path q) steps known asks frames maps confirms far breaks later_maps own_key reached_q shown_q alone ends = absurd confirms
 turn_goes (Path p) (App b) steps known asks frames maps confirms far breaks later_maps own_key reached_q shown_q alone ends = absurd confirms
@@ -317,11 +317,15 @@ signs_by_turns start turns mild turn actor c at =
     )
 
 -- of path 0
+pub asks_for_itself : (s : Side) (start : Start) (turns : List Turn) → IsMildStart start → (p : PathState Carried) → IsPathAt 0 (reached values start turns) p
+    → (is_joined p.profile ≡ false → (end_at s p).modes.owes_third ≡ false) × ((end_at s p).notices.fast_closed ≡ false)
+asks_for_itself s start turns mild p here =
+    let alone = alone_so s p (subst (OfPaths EndsAskForThemselves) here.is (ends_ask_for_themselves start turns mild 2 here.crew here.there)) (subst (OfPaths BothKnowTheirEnd) here.is (each_knows start turns mild.plain.size 2 here.crew here.there)) in
+    (alone.third, alone.close)
+
 pub asks_for_its_end : (start : Start) (turns : List Turn) → IsMildStart start → (p : PathState Carried) → IsPathAt 0 (reached values start turns) p
     → (is_joined p.profile ≡ false → p.b.modes.owes_third ≡ false) × (p.b.notices.fast_closed ≡ false)
-asks_for_its_end start turns mild p here =
-    let alone = alone_so p (subst (OfPaths EndsAskForThemselves) here.is (ends_ask_for_themselves start turns mild 2 here.crew here.there)) (subst (OfPaths BothKnowTheirEnd) here.is (each_knows start turns mild.plain.size 2 here.crew here.there)) in
-    (alone.third, alone.close)
+asks_for_its_end start turns mild p here = asks_for_itself B start turns mild p here
 
 -- ---- how it begins, and that it is in time
 

@@ -199,7 +199,7 @@ module _ (p : PathState Carried) (first : is_joined p.profile ≡ false) (copies
 -- what is known of it at a moment
 pub record Given (start : Start) (p : PathState Carried) : Type 0 where
   first : IsFirstPath start p
-  states : GoByTheHandshake p
+  pub states : GoByTheHandshake p
   reached : EndsAreReached p
   unbroken : IsUnbroken p
   clears : AllClear p.agenda p
@@ -214,7 +214,7 @@ pub record PathMet (p : PathState Carried) : Type 0 where
   pub a : 2 ≤ stage p.a.tcp.state → is_dead p.a.tcp.state ≡ false → 2 ≤ stage p.b.tcp.state
   pub b : 3 ≤ stage p.b.tcp.state → is_dead p.b.tcp.state ≡ false → 2 ≤ stage p.a.tcp.state
 
-living_before : (e f : PathEnd) → Far e f → is_dead f.tcp.state ≡ false → is_dead e.tcp.state ≡ false
+pub living_before : (e f : PathEnd) → Far e f → is_dead f.tcp.state ≡ false → is_dead e.tcp.state ≡ false
 living_before e f far living = by (is_dead e.tcp.state) refl
   where
     high : (x : State) → 7 ≤ stage x → is_dead x ≡ true
@@ -230,7 +230,7 @@ living_before e f far living = by (is_dead e.tcp.state) refl
     by true is = absurd (both_ways (is_dead f.tcp.state) living (dead_far e.tcp.state f.tcp.state is far.subflow.state))
 
 module _ (start : Start) (p : PathState Carried) (g : Given start p) (h : PathMet p) where
-  moment : Moment start p
+  pub moment : Moment start p
   moment = record { first = g.first; states = g.states; awake = h.awake; reached = g.reached; early = h.early; unbroken = g.unbroken; clears = g.clears; settled = g.upright.passes.settled }
 
   -- no path joins here

@@ -90,7 +90,7 @@ notes_then : (p q : PathState Carried) → queues.Sheds p q → NotesNone p → 
 notes_then p q x none s = never _ (λ is. both_ways _ (none s) (queues.sheds_at s p q x 0 is))
 
 items_then : (p q : PathState Carried) → hears.Sheds p q → HearNone p → HearNone q
-items_then p q x none s = never _ (λ is. both_ways _ (none s) (hears.sheds_at s p q x 0 is))
+items_then p q x none s = never _ (λ is. both_ways _ (none s) (hears.sheds_at s p q x (hears.is_note 0) is))
 
 -- ---- a duty
 

@@ -65,6 +65,7 @@ module _ (s : Side) (r t : Record) (same : IsSameRecord r t) (p : PathState Carr
       low = h.mapped.low;
       mapped = h.mapped.mapped;
       finite = h.mapped.finite;
+      few = h.mapped.few;
       told = h.mapped.told;
     };
     acknowledges = h.acknowledges;

@@ -1,5 +1,5 @@
 -- Where each end goes by mappings and no link changes a segment, each copy under way maps all bytes that it carries (RFC 8684, section 3.3.1).
-use Rattle.std.proofs.Common.{◌≡◌, refl, sym, subst, ap, ◌∙◌, ℕ, ◌+◌, ◌-◌, ◌<◌, ◌≤◌, arith, ◌==◌, Bool, true, false, true≢false, not, ◌&&◌, if◌then◌else◌, Option, Some, None, IfSome, List, [], ◌∷◌, length, ⊎_elim}
+use Rattle.std.proofs.Common.{◌≡◌, refl, sym, subst, ap, ◌∙◌, ℕ, ◌+◌, ◌-◌, ◌<◌, arith, ◌==◌, Bool, true, false, true≢false, not, ◌&&◌, if◌then◌else◌, Option, Some, None, IfSome, List, [], ◌∷◌, ⊎_elim, inl}
 use Rattle.std.specs.List.{list_any, position, slice_get}
 use Rattle.std.proofs.lemmas.Bool.{and_parts, eqb-true}
 use Rattle.mptcp_options.specs.declared.capable.CapableKeys.TheVariants.{WithData}
@@ -84,7 +84,8 @@ use Rattle.world_laws.proofs.Rounds.Lifting.{opened_lifted}
 use Rattle.world_laws.proofs.Worlds.CastLifting.{each_actor}
 use Rattle.world_laws.proofs.Worlds.Turns.{turn_so}
 use Rattle.world_laws.proofs.Writes.Steps.{settled_lasts}
-use Rattle.whole_paths.specs.Arrivals.{IsPiece}
+use Rattle.whole_paths.specs.Arrivals.{IsFirstPiece, IsMappedPiece, IsPiece}
+use Rattle.whole_paths.specs.Arrivals.{IsMappedPiece as mapped_by}
 use Rattle.whole_paths.specs.Mild.{EndsGoByMappings, IsMildStart, LinkIsMild}
 use Rattle.whole_paths.proofs.Arrivals.{each_mapped_record_is_a_piece}
 use Rattle.whole_paths.proofs.Came.{quiet_link}
@@ -95,17 +96,6 @@ use Rattle.whole_paths.proofs.Pieces.{is_event}
 use Rattle.whole_paths.proofs.Saying.{ToSend}
 
 -- ---- a segment
-
--- A's first piece, which maps its bytes by the option that shows both keys (RFC 8684, section 3.1)
-pub record IsFirstPiece (x : PlainSegment) : Type 0 where
-  pub position : x.position ≡ 1
-  pub some : 0 < length x.payload
-  pub few : length x.payload ≤ 65475
-  pub sums : Bool
-  pub own : ℕ
-  pub other : ℕ
-  pub checksum : Option ℕ
-  pub options : x.options ≡ Capable sums false (WithData own other (length x.payload) checksum) ∷ []
 
 -- the option maps bytes
 abbrev pub maps_bytes : PlainOption → Bool
@@ -123,8 +113,12 @@ pub data MapsAll (s : Side) (x : PlainSegment) : Type 0 where
   first : s ≡ A → IsFirstPiece x → MapsAll s x
   bare : x.options ≡ [] → MapsAll s x
 
+of_mapped : (s : Side) (x : PlainSegment) → IsMappedPiece s x → MapsAll s x
+of_mapped s x (mapped_by.piece h) = piece h
+of_mapped s x (mapped_by.first is h syn fin rst) = first is h
+
 -- bytes stand behind the SYN, and neither it nor the FIN has any
-abbrev KindBehind : RecordKind → Record → Type 0
+abbrev pub KindBehind : RecordKind → Record → Type 0
 KindBehind Syn r = r.piece ≡ []
 KindBehind Data r = 0 < r.pos
 KindBehind Fin r = r.piece ≡ []
@@ -213,7 +207,7 @@ module _ (c : Profile) (s : Side) (e : PathEnd) (mapped : e.modes.identity ≡ f
   piece_said : (r : Record) → r.kind ≡ Data → RecordTells c s r → RecordKindTells c s Data r → 0 < r.pos → is_first_piece s r e ≡ false → MapsAll s (said r)
   piece_said r kind told kinds behind later =
       let some = kinds.0 in let place = kinds.3 in let whole = kinds.4 in let reaches = told.reaches in let few = told.octets in
-      piece (each_mapped_record_is_a_piece c s r e (said r) (record {
+      of_mapped s (said r) (each_mapped_record_is_a_piece c s r e (said r) (record {
         kind = kind;
         some = omega (arith, some, whole);
         behind_syn = behind;
@@ -222,7 +216,8 @@ module _ (c : Profile) (s : Side) (e : PathEnd) (mapped : e.modes.identity ≡ f
         low = omega (arith, place, few);
         mapped = mapped;
         finite = finite;
-        told = later;
+        few = few;
+        told = inl later;
       }) (record { position = refl; syn = refl; fin = refl; rst = refl; payload = refl }) (record { options = refl; acknowledged = refl }))
 
   first_said : (r : Record) → r.kind ≡ Data → RecordTells c s r → RecordKindTells c s Data r → is_first_piece s r e ≡ true → MapsAll s (said r)
@@ -439,7 +434,7 @@ takes_maps r p = by p.agenda
 abbrev OfPaths : (PathState Carried → Type 0) → Actor Carried → Type 0
 OfPaths P = HoldsOfKind (λ app. Unit {0}) P
 
-abbrev EndBehind : PathState Carried → Type 0
+abbrev pub EndBehind : PathState Carried → Type 0
 EndBehind p = (s : Side) → Every (λ (r : Record). KindBehind r.kind r) (end_at s p).tcp.send.records
 
 -- a lane's positions begin behind the SYN
@@ -452,7 +447,7 @@ path_behind : (c : Profile) (p : PathState Carried) (ab ba : Lane) → PathShows
 path_behind c p ab ba shows A = record { each = λ i r there. lane_behind c A ab r r.kind (shows.a.sender.pieces.each i r there) }
 path_behind c p ab ba shows B = record { each = λ i r there. lane_behind c B ba r r.kind (shows.b.sender.pieces.each i r there) }
 
-each_behind : (start : Start) (turns : List Turn) → HasRoom start → (actor : ℕ) (c : ActorCrew Carried) → slice_get (world_run values turns (opened_world start)).crew actor ≡ Some c → OfPaths EndBehind c.member
+pub each_behind : (start : Start) (turns : List Turn) → HasRoom start → (actor : ℕ) (c : ActorCrew Carried) → slice_get (world_run values turns (opened_world start)).crew actor ≡ Some c → OfPaths EndBehind c.member
 each_behind start turns size =
     let can = anyhow start size in
     let r = each_run_shows start can turns (free_run can.links (anyhow_free start size) turns (opened_world start)) in

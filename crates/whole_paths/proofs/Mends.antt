@@ -25,8 +25,9 @@ use Rattle.link_model.specs.Steps.{changed}
 use Rattle.world_laws.specs.Actors.{ActorCrew}
 use Rattle.world_laws.specs.Members.{HoldsOfKind}
 use Rattle.world_laws.specs.NeverFalls.{StripsNothing}
+use Rattle.world_laws.specs.Openings.{Start}
 use Rattle.world_laws.specs.RoundDone.{reached}
-use Rattle.world_laws.specs.Worlds.{WorldState}
+use Rattle.world_laws.specs.Worlds.{Turn, WorldState}
 use Rattle.whole_paths.specs.AsFar.{stage}
 use Rattle.whole_paths.specs.Came.{HasCome}
 use Rattle.whole_paths.specs.Due.{CopiesArriveSo}
@@ -35,7 +36,7 @@ use Rattle.whole_paths.specs.Expiries.{GoesAgain, IsSaidAt, IsSegmentOf, IsToSen
 use Rattle.whole_paths.specs.Finish.{is_harmed}
 use Rattle.whole_paths.specs.InTime.{ComesFrom}
 use Rattle.whole_paths.specs.Kept.{IsSameRecord}
-use Rattle.whole_paths.specs.Mending.{CopiesAreNumbered, ComesBy, IsRecordOf, IsSentSoon, IsWell, WhatIsSentComesSoon}
+use Rattle.whole_paths.specs.Mending.{CopiesAreNumbered, ComesBy, IsOpenTurn, IsRecordOf, IsSentSoon, IsWell, WhatIsSentComesSoon}
 use Rattle.whole_paths.specs.Mending.{IsThereBy as there_by}
 use Rattle.whole_paths.specs.Mending.{IsWell as is_well}
 use Rattle.whole_paths.specs.Mends.{MendsByExpiry, MendsSoon, WhatRunsOutIsMended}
@@ -149,6 +150,14 @@ module _ (soon : WhatIsSentComesSoon values) (s : Side) (p q : PathState Carried
             by kinds.Syn kind = inl (is_well.other (λ data_is. (let apart : kinds.Syn ≡ kinds.Data = sym kind ∙ data_is in cc)))
             by kinds.Fin kind = inl (is_well.other (λ data_is. (let apart : kinds.Fin ≡ kinds.Data = sym kind ∙ data_is in cc)))
 
+  -- a copy of it comes within 400 ticks, or it is harmed
+  pub goes_again : IsToSend s p → (r : Record) (others : List Record) → (end_at s p).tcp.send.records ≡ r ∷ others → r.kind ≡ kinds.Data
+      → (q ≡ p) ⊎ ((is_harmed s p q ≡ true) ⊎ ComesBy s r (q.clock + 400) q)
+  goes_again is r others records kind = ⊎_elim
+      (λ same. inl same)
+      (λ sent. inr (⊎_elim (λ harmed. inl harmed) (λ h. inr (comes is r others records sent h r (same_record r) kind)) (soon.comes p q numbered s sent.segment few sent.taken)))
+      (again.sends s is)
+
   -- without a record none is lost
   none_lost : IsToSend s p → (end_at s p).tcp.send.records ≡ [] → AreWellBut s [] q
   none_lost is none t at =
@@ -182,8 +191,11 @@ module _ (soon : WhatIsSentComesSoon values) (s : Side) (p q : PathState Carried
 
 -- ---- a turn of a connection
 
-pub what_runs_out_is_mended : WhatRunsOutIsMended
-what_runs_out_is_mended start turns turn h s = mends (what_is_sent_comes_soon values) s p q
+-- what holds of each turn of a path holds of this one
+by_turn : (R : PathState Carried → PathState Carried → Type 0) (start : Start) (turns : List Turn) (turn : Turn) (h : IsOpenTurn start turns turn) (s : Side)
+    → ((frames : Frames h.before.path h.after.path) → GoesAgain values h.before.path h.after.path → SendsAllAgain h.before.path h.after.path → Known h.before.path → IsFaithful h.before.path
+    → segments_sent s h.before.path.link < 2 ^ 64 - 1 → IsOpen h.before.path → EndsGoByMappings h.before.path → CopiesAreNumbered h.before.path → R h.before.path h.after.path) → R h.before.path h.after.path
+by_turn R start turns turn h s holds = holds
     (with_both start turns turn h FramesStay (frames_stay values w turn 2 crew there)) (with_both start turns turn h (PathsGoAgain values) (what_runs_out_goes_again values w turn 2 crew there))
     (with_both start turns turn h PathsSendAllAgain (each_expiry_sends_all_again values w turn 2 crew there)) known h.before.faithful (h.before.few s) h.before.is_open
     (of_path EndsGoByMappings ((mapping_is_kept start turns h.mild).each 2 crew there)) (of_path CopiesAreNumbered (((what_is_sent_comes_soon values).numbered start turns).each 2 crew there))
@@ -221,3 +233,14 @@ what_runs_out_is_mended start turns turn h s = mends (what_is_sent_comes_soon va
       alike = of_path CopiesArriveSo ((copies_arrive_as_sent values start turns).each 2 crew there);
       past = of_path (λ x. ComesFrom x.clock x) ((nothing_is_overdue values start turns).each 2 crew there);
     }
+
+pub what_runs_out_is_mended : WhatRunsOutIsMended
+what_runs_out_is_mended start turns turn h s = by_turn (MendsByExpiry s) start turns turn h s
+    (λ frames again all known faithful few open_p mapped numbered. mends (what_is_sent_comes_soon values) s h.before.path h.after.path frames again all known faithful few open_p mapped numbered)
+
+-- as the end sends its first record again, one of data: a copy of it comes within 400 ticks, or it is harmed
+pub first_goes_again : (start : Start) (turns : List Turn) (turn : Turn) (h : IsOpenTurn start turns turn) (s : Side) → IsToSend s h.before.path
+    → (r : Record) (others : List Record) → (end_at s h.before.path).tcp.send.records ≡ r ∷ others → r.kind ≡ kinds.Data
+    → (h.after.path ≡ h.before.path) ⊎ ((is_harmed s h.before.path h.after.path ≡ true) ⊎ ComesBy s r (h.after.path.clock + 400) h.after.path)
+first_goes_again start turns turn h s is r others records kind = by_turn (λ p q. (q ≡ p) ⊎ ((is_harmed s p q ≡ true) ⊎ ComesBy s r (q.clock + 400) q)) start turns turn h s
+    (λ frames again all known faithful few open_p mapped numbered. goes_again (what_is_sent_comes_soon values) s h.before.path h.after.path frames again all known faithful few open_p mapped numbered is r others records kind)

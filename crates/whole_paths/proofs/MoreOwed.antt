@@ -187,10 +187,10 @@ begins_settled p facts h t =
 
 -- ---- RCV.NXT
 
-record StaysEdge (e f : PathEnd) : Type 0 where
-  same : f.tcp.recv.edge ≡ e.tcp.recv.edge
+pub record StaysEdge (e f : PathEnd) : Type 0 where
+  pub same : f.tcp.recv.edge ≡ e.tcp.recv.edge
 
-kept_edge : (s : Side) (e : PathEnd) → (after_keep s e).tcp.recv.edge ≡ e.tcp.recv.edge
+pub kept_edge : (s : Side) (e : PathEnd) → (after_keep s e).tcp.recv.edge ≡ e.tcp.recv.edge
 kept_edge s e = by (is_dropped s e) (is_fin_passed e.tcp)
   where
     by : (b over : Bool) → (if b then record e.tcp { recv = record e.tcp.recv { incoming = None } } else record e.tcp { recv = if over then record e.tcp.recv { incoming = None } else after_keep_held e.tcp.recv }).recv.edge ≡ e.tcp.recv.edge
@@ -258,10 +258,10 @@ own_edge d r p other none = record {
   same = own_holds (λ v. v.edge ≡ (end_at (side_of d) p).tcp.recv.edge) (λ n v h. h) ⊥ (λ may to v h. absurd may) values d r p other (λ edge. absurd (true≢false (sym edge ∙ none))) refl;
 }
 
-away_edge : (d : Duty) (r : Reply) (p : PathState Carried) → is_event d ≡ false → StaysEdge (end_at (peer (side_of d)) p) (end_at (peer (side_of d)) (answered values d r p))
+pub away_edge : (d : Duty) (r : Reply) (p : PathState Carried) → is_event d ≡ false → StaysEdge (end_at (peer (side_of d)) p) (end_at (peer (side_of d)) (answered values d r p))
 away_edge d r p other = record { same = ap (λ (v : Receiving). v.edge) (answered_other_recv values d r p other) }
 
-answered_edge : (t : Side) (d : Duty) (r : Reply) (p : PathState Carried) → is_event d ≡ false → is_edge d ≡ false → StaysEdge (end_at t p) (end_at t (answered values d r p))
+pub answered_edge : (t : Side) (d : Duty) (r : Reply) (p : PathState Carried) → is_event d ≡ false → is_edge d ≡ false → StaysEdge (end_at t p) (end_at t (answered values d r p))
 answered_edge t d r p other none =
     let q : PathState Carried = answered values d r p in
     ⊎_elim
@@ -289,7 +289,7 @@ module _ (c : Profile) (s : Side) (now : ℕ) (x : HeardSegment) (count : ℕ) (
   judged_edge verdict = meant_edge means.Ignored
 
 -- it stays, or the end is dead
-abbrev Lives : PathEnd → PathEnd → Type 0
+abbrev pub Lives : PathEnd → PathEnd → Type 0
 Lives e f = (f.tcp.recv.edge ≡ e.tcp.recv.edge) ⊎ (is_gone f ≡ true)
 
 side_lives : (s t : Side) (f : PathEnd) (p q : PathState Carried) → q.a ≡ pick s f p.a → q.b ≡ pick s p.b f → Lives (end_at s p) f → Lives (end_at t p) (end_at t q)
@@ -360,7 +360,7 @@ module _ (r : Reply) (p : PathState Carried) (t : Side) (quiet : Quiet p.profile
       (λ away. subst (λ u. IsLifted (end_at u p) (end_at u (copy_heard due.to (Some segment) (came due)))) away (away_lifted p due segment))
       (sides t due.to)).lives
 
-  event_lives : (o : Option Event) → Lives (end_at t p) (end_at t (happens_if values o r p))
+  pub event_lives : (o : Option Event) → Lives (end_at t p) (end_at t (happens_if values o r p))
   event_lives None = inl refl
   event_lives (Some (happenings.Joins tick)) = joins_live tick
   event_lives (Some (happenings.Takes line)) = line_lives t line.action line.tick

@@ -72,12 +72,12 @@ use Rattle.world_laws.proofs.Whole.Happening.{Holds, Now, Next, is_between}
 use Rattle.world_laws.proofs.Whole.Paths.{CopyTo, Mark, marks}
 use Rattle.world_laws.proofs.Worlds.Finding.{find_every, one_side}
 use Rattle.whole_paths.specs.AgendaSteps.{is_gone}
-use Rattle.whole_paths.specs.Arrivals.{IsPiece}
+use Rattle.whole_paths.specs.Arrivals.{IsFirstPiece, IsPiece}
 use Rattle.whole_paths.specs.Mild.{EndsHaveKeys}
 use Rattle.whole_paths.proofs.Agendas.{own_end}
 use Rattle.whole_paths.proofs.Arrivals.{fits, held_one}
 use Rattle.whole_paths.proofs.Knowing.{Live, answered_live}
-use Rattle.whole_paths.proofs.MappedCopies.{CopyMaps, IsFirstPiece, MapsAll}
+use Rattle.whole_paths.proofs.MappedCopies.{CopyMaps, MapsAll}
 use Rattle.whole_paths.proofs.MappedCopies.{MapsAll as maps}
 use Rattle.whole_paths.proofs.Opening.{held_state, heard_state, owing_state}
 use Rattle.whole_paths.proofs.Settling.{sides}

@@ -195,7 +195,7 @@ module _ (s t : Side) (gone : Bool) (d : Duty) (ds : List Duty) (calm : may_brea
   follow_asks next whole rest (follow.over is) = tt
 
 -- the first of all that a turn does
-start_asks : (s : Side) → AsksFirst s start_of_turn
+pub start_asks : (s : Side) → AsksFirst s start_of_turn
 start_asks A = (refl, refl, (refl, refl, (refl, refl, inl refl)))
 start_asks B = (refl, refl, (refl, refl, (refl, refl, inr (refl, inl refl))))
 
@@ -241,7 +241,7 @@ module _ {C : Type 0} where
   asks_tail s (duties.Send (send_duties.Update t)) ds p quiet h = h.1
   asks_tail s d ds p quiet h = h.2
 
-  settled_offers : (s : Side) (at : ℕ) (ds : List Duty) (p : PathState C) → Offers at (end_at s p) ⊎ AsksFirst s ds → let q = settled ds p in Offers at (end_at s q) ⊎ AsksFirst s q.agenda
+  pub settled_offers : (s : Side) (at : ℕ) (ds : List Duty) (p : PathState C) → Offers at (end_at s p) ⊎ AsksFirst s ds → let q = settled ds p in Offers at (end_at s q) ⊎ AsksFirst s q.agenda
   settled_offers s at [] p h = inr tt
   settled_offers s at (d ∷ ds) p h = (elim (stands d p) as (λ b. stands d p ≡ b → let q = if b then with_agenda (d ∷ ds) p else settled ds (passed d p) in Offers at (end_at s q) ⊎ AsksFirst s q.agenda) [
     | true ↦ λ is. h
@@ -384,7 +384,7 @@ module _ {C : Type 0} where
       by (duties.Send (send_duties.Update t) ∷ ds) asks = λ own. absurd (unlike s (sym asks.0 ∙ own))
       by (d ∷ ds) asks = none (duty_sends d p) (none_sent d p asks.0 asks.1)
 
-  sizes_stay : (k : Codec C) (start : Start) (turns : List Turn) (s : Side) → (reassembly_of s (books_in (world_run k turns (opened_world start)).books)).capacity ≡ start.buffer
+  pub sizes_stay : (k : Codec C) (start : Start) (turns : List Turn) (s : Side) → (reassembly_of s (books_in (world_run k turns (opened_world start)).books)).capacity ≡ start.buffer
   sizes_stay k start turns = books_by_turns k (λ six. (s : Side) → (reassembly_of s six).capacity ≡ start.buffer) (λ x six h s. ask_size x six s ∙ h s) turns (opened_world start) (elim [ A ↦ refl | B ↦ refl ])
 
   pub what_is_taken_is_offered : (k : Codec C) → WhatIsTakenIsOffered k

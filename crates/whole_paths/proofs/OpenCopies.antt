@@ -1,7 +1,7 @@
 -- What a copy is to an end that has both SYNs: it is answered at once or taken, where it is no reset and acknowledges something; and in the
 -- window it is acceptable.
 use Rattle.std.proofs.Common.{◌≡◌, refl, sym, subst, ap, ◌∙◌, inl, inr, ◌⊎◌, ⊎_elim, ℕ, ◌+◌, ◌<◌, ◌≤◌, ◌==◌, arith, eq-eqb, nat_le, nat_lt, ◌&&◌, ◌||◌, Bool, true, false, true≢false, if◌then◌else◌, Option, Some, None, List, [], length}
-use Rattle.std.proofs.lemmas.Bool.{eqb-true, le-leb, lt-leb, lt-ltb, ne_eqb}
+use Rattle.std.proofs.lemmas.Bool.{eqb-true, le-leb, le-ltb, lt-leb, lt-ltb, ne_eqb}
 use Rattle.subflow_tcp.specs.Judging.{ends_in_window, is_acceptable, is_at_right_edge, is_in_window, is_repeated_syn, meaning_acknowledging, meaning_at, meaning_connected, meaning_of, meaning_outside, meaning_placed, meaning_within}
 use Rattle.subflow_tcp.specs.Segments.{Copy, occupied}
 use Rattle.subflow_tcp.specs.State.{EndState, is_at_limit}
@@ -62,6 +62,18 @@ module _ (c : Copy) (s : EndState) (opened : 2 ≤ stage s.state) (living : is_d
   pub is_heeded : IsHeeded (meaning_of c s)
   is_heeded = connected IsHeeded (choice IsHeeded (is_repeated_syn c s) means.RepeatedSyn (meaning_placed c.position c s) (λ again. inl refl) (λ other. placed c.position))
 
+  -- a segment that acknowledges something is no SYN that comes again
+  abbrev Other : Meaning → Type 0
+  Other m = m ≡ means.RepeatedSyn → ⊥
+
+  placed_other : (o : Option ℕ) → Other (meaning_placed o c s)
+  placed_other None = outside Other (λ is. cc)
+  placed_other (Some pos) = choice Other (is_acceptable s.recv.edge pos c) (meaning_within pos c s) (meaning_outside c)
+      (λ in_window. within Other pos (λ is. cc) (λ is. cc) (λ is. cc)) (λ away. outside Other (λ is. cc))
+
+  pub is_other : is_repeated_syn c s ≡ false → Other (meaning_of c s)
+  is_other once = connected Other (subst (λ b. Other (if b then means.RepeatedSyn else meaning_placed c.position c s)) (sym once) (placed_other c.position))
+
   -- ---- in the window
 
   module _ (pos : ℕ) (at : c.position ≡ Some pos) (from : s.recv.edge ≤ pos) (up_to : (pos < s.recv.edge + 1048576) ⊎ ((pos ≡ s.recv.edge + 1048576) × (c.payload ≡ []))) where
@@ -87,6 +99,18 @@ module _ (c : Copy) (s : EndState) (opened : 2 ≤ stage s.state) (living : is_d
         let Ends : Meaning → Type 0 = λ m. ends_row m ≡ true in
         connected Ends (subst (λ b. Ends (if b then means.RepeatedSyn else meaning_placed c.position c s)) (sym other)
         (subst (λ o. Ends (meaning_placed o c s)) (sym at) (subst (λ b. Ends (if b then meaning_within pos c s else meaning_outside c)) (sym accepted) (within Ends pos refl refl refl))))
+
+    -- where it is no SYN, and acknowledges what was sent, it is taken
+    pub is_taken_there : is_repeated_syn c s ≡ false → c.syn ≡ false → n ≤ s.send.nxt → meaning_of c s ≡ means.Taken pos n
+    is_taken_there other syn sent =
+        let Takes : Meaning → Type 0 = λ m. m ≡ means.Taken pos n in
+        connected Takes (subst (λ b. Takes (if b then means.RepeatedSyn else meaning_placed c.position c s)) (sym other)
+        (subst (λ o. Takes (meaning_placed o c s)) (sym at) (subst (λ b. Takes (if b then meaning_within pos c s else meaning_outside c)) (sym accepted)
+        (subst (λ b. Takes (if b then (if pos == s.recv.edge then means.Kills else means.Challenged) else (if c.syn then means.Challenged else meaning_acknowledging c.acknowledged pos s))) (sym rst)
+        (subst (λ b. Takes (if b then means.Challenged else meaning_acknowledging c.acknowledged pos s)) (sym syn)
+        (subst (λ o. Takes (meaning_acknowledging o pos s)) (sym acks)
+        (subst (λ b. Takes (if b then means.Ahead else (if is_half_open s.state && n == 0 then means.Unacknowledging else means.Taken pos n))) (sym (le-ltb s.send.nxt n sent))
+        (choice Takes (is_half_open s.state && n == 0) means.Unacknowledging (means.Taken pos n) (λ none. absurd (half_none (is_half_open s.state) n some none)) (λ one. refl)))))))))
 
   -- ---- before the window
 

@@ -54,7 +54,7 @@ use Rattle.whole_paths.proofs.Turns.{turns_each}
 
 -- ---- numbers of segments
 
-abbrev few_links : LinkState Carried → LinkState Carried → Type 0
+abbrev pub few_links : LinkState Carried → LinkState Carried → Type 0
 few_links l m = (s : Side) → segments_sent s m < 2 ^ 64 - 1 → segments_sent s l < 2 ^ 64 - 1
 
 fewer_before : {d : Duty} (p q : PathState Carried) → LinkStep d values p q → few_links p.link q.link
@@ -74,10 +74,10 @@ fewer_before p q (is_cut line next action is gone) B few = subst (λ (l : LinkSt
 -- ---- a path later
 
 -- fewer segments were sent before
-record Later (p q : PathState Carried) : Type 0 where
-  fewer : few_links p.link q.link
+pub record Later (p q : PathState Carried) : Type 0 where
+  pub fewer : few_links p.link q.link
 
-takes_later : (r : Reply) (p : PathState Carried) → Later p (takes values r p)
+pub takes_later : (r : Reply) (p : PathState Carried) → Later p (takes values r p)
 takes_later r p = record { fewer = by p.agenda }
   where
     by : (ds : List Duty) → few_links p.link (settles_down (answers values ds r p)).link
@@ -86,7 +86,7 @@ takes_later r p = record { fewer = by p.agenda }
         let q : PathState Carried = answered values d r p in
         subst (λ (l : LinkState Carried). few_links p.link l) (sym (settled_lasts LinkStays links_last q.agenda q)) (fewer_before p q (link_step values d r p))
 
-next_later : (p : PathState Carried) → Later p (next_round p)
+pub next_later : (p : PathState Carried) → Later p (next_round p)
 next_later p = record {
   fewer = subst (λ (l : LinkState Carried). few_links p.link l) (sym (begins_lasts LinkStays links_last (record p { clock = p.until; until = p.until + 100 }))) (λ s few. few);
 }

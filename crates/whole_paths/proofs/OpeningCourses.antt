@@ -32,7 +32,7 @@ use Rattle.whole_paths.specs.Harms.{longest_way}
 use Rattle.whole_paths.specs.Mild.{HasKeys, IsMildStart, treats_answer}
 use Rattle.whole_paths.specs.News.{Counts as counts}
 use Rattle.whole_paths.specs.OpenCourses.{IsNow}
-use Rattle.whole_paths.specs.OpeningCourses.{AlwaysOpensFirmly, IsFromB, IsOpenOrDone, IsOpeningStill, OpensFirmly}
+use Rattle.whole_paths.specs.OpeningCourses.{IsFromB, IsOpenOrDone, IsOpeningStill}
 use Rattle.whole_paths.specs.OpeningCourses.IsOpeningStill.{opening, sign, piece, turn}
 use Rattle.whole_paths.specs.OpeningWaits.{AHasFinished, AliveOpens, AliveSteps, AwaitsOpening, IsAlive, IsAliveAfter, IsOpening, IsOpeningAwaited, OpeningIsAwaited}
 use Rattle.whole_paths.specs.OpeningWaits.{IsOpening as opens}
@@ -47,8 +47,11 @@ use Rattle.whole_paths.specs.Syns.{IsToOpen as to_open}
 use Rattle.whole_paths.specs.WholeCourses.{WaysAreShort}
 use Rattle.whole_paths.proofs.Came.{what_is_acknowledged_came}
 use Rattle.whole_paths.proofs.Delivery.{what_is_there_stays}
+use Rattle.whole_paths.proofs.ClearFirst.{b_is_clear_first}
 use Rattle.whole_paths.proofs.Courses.{round_next, round_step}
 use Rattle.whole_paths.proofs.FirstSigns.{asks_for_its_end}
+use Rattle.whole_paths.proofs.FirstWindows.{b_is_idle_before}
+use Rattle.whole_paths.proofs.KeysCome.{the_first_piece_waits}
 use Rattle.whole_paths.proofs.GoesOn.{goes_on_so}
 use Rattle.whole_paths.proofs.GoingOn.{ends_go_on, open_behind, step_side, steps_let_it_go_on}
 use Rattle.whole_paths.proofs.Clearing.{clear_ends_are_past}
@@ -89,7 +92,7 @@ both_past p q far past A = let low = past A in let up = far.a.subflow.state in o
 both_past p q far past B = let low = past B in let up = far.b.subflow.state in omega (arith, low, up)
 
 module _ (start : Start) (plan : PathPlan) (most way within : ℕ) (one : start.paths ≡ plan ∷ []) (mild : IsMildStart start) (some : 1 ≤ start.buffer)
-    (short : WaysAreShort start way) (long : 60000 + way ≤ within) (firm : AlwaysOpensFirmly start) where
+    (short : WaysAreShort start way) (long : 60000 + way ≤ within) where
   abbrev at : List Turn → WorldState Carried
   at turns = reached values start turns
 
@@ -201,14 +204,10 @@ module _ (start : Start) (plan : PathPlan) (most way within : ℕ) (one : start.
 
   -- ---- the opening isn't over where A's end has finished
 
-  firm_at : (v : List Turn) → IsAliveAfter start most v → (p : PathState Carried) → IsPathAt 0 (at v) p → OpensFirmly p
-  firm_at v now p here = firm v p here (subst IsAlive (path_is (at v) now.path p now.here here) now.is_open)
-
   never_done : (v : List Turn) → IsAliveAfter start most v → AHasFinished start v → (p : PathState Carried) → IsPathAt 0 (at v) p → stage p.b.tcp.state ≤ 2 → ⊥
   never_done v now done p here low =
-      let f = firm_at v now done.path done.here in
       let first : is_joined done.path.profile ≡ false = subst (λ (q : PathState Carried). is_joined q.profile ≡ false) (path_is (at v) now.path done.path now.here done.here) now.faithful.joined in
-      let past = subst (HoldsOfKind (λ app. Unit {0}) IsPastIfClear) done.here.is (clear_ends_are_past values start v 2 done.here.crew done.here.there) first B (f.sure (who_is_done_is_clear start v mild done.path done.here done.finished)) in
+      let past = subst (HoldsOfKind (λ app. Unit {0}) IsPastIfClear) done.here.is (clear_ends_are_past values start v 2 done.here.crew done.here.there) first B (b_is_clear_first start plan v one mild done.path done.here (who_is_done_is_clear start v mild done.path done.here done.finished)) in
       let high : 3 ≤ stage p.b.tcp.state = subst (λ (q : PathState Carried). 3 ≤ stage q.b.tcp.state) (path_is (at v) done.path p done.here here) past in
       omega (arith, high, low)
 
@@ -238,9 +237,6 @@ module _ (start : Start) (plan : PathPlan) (most way within : ℕ) (one : start.
 
     alive : IsAlive p
     alive = step.before.is_open
-
-    f : OpensFirmly p
-    f = firm v p here alive
 
     silent : p.agenda ≡ []
     silent = nil_so p.agenda (subst (λ m. is_over m ≡ true) here.is (all_over_each (at v).crew 2 here.crew step.over here.there))
@@ -330,7 +326,7 @@ module _ (start : Start) (plan : PathPlan) (most way within : ℕ) (one : start.
         b_waits = by p.b.tcp.send.records refl
           where
             by : (rs : List Record) → p.b.tcp.send.records ≡ rs → Next
-            by [] none = asks none (f.idle silent unclear clear none) out
+            by [] none = asks none (b_is_idle_before start plan v one mild some p here alive silent unclear clear none) out
             by (r ∷ others) is = has_record r others is
 
     -- ---- which wait begins
@@ -343,11 +339,11 @@ module _ (start : Start) (plan : PathPlan) (most way within : ℕ) (one : start.
           path = p;
           here = here;
           connected = λ s. connected_past (end_at s p).tcp.state (past s) (alive.living s);
-          clear = elim [ A ↦ clear | B ↦ f.sure clear ];
+          clear = elim [ A ↦ clear | B ↦ b_is_clear_first start plan v one mild p here clear ];
         })))
         by false unclear true clear = inr (turn_begins past unclear clear)
         by false unclear false unsure =
-            let h = f.piece silent past unsure in
+            let h = the_first_piece_waits start plan v one mild p here alive silent past unsure in
             inr (sign (round_end values start v + (60000 + way)) (omega (arith, long)) (firsts.begins way v u step (record {
               path = p;
               here = here;

@@ -21,11 +21,11 @@ use Rattle.world_laws.specs.RoundDone.{reached}
 use Rattle.world_laws.specs.Worlds.{Turn, WorldState, AreLawful, world_run}
 use Rattle.world_laws.proofs.Weaving.WholeRounds.{run_append}
 use Rattle.whole_paths.specs.AsFar.{IsActorAsFar, IsPathAsFar, stage}
-use Rattle.whole_paths.specs.Finish.{AnEndDied, IsPathAt, harmed, rounds_in}
+use Rattle.whole_paths.specs.Finish.{AnEndDied, IsPathAt, OneBriefPathEnds, harmed, rounds_in}
 use Rattle.whole_paths.specs.Mild.{IsMildStart, LinkIsMild}
 use Rattle.whole_paths.specs.OnePathScripts.{AnEndDiedEarly, for_all_news, way_there_and_back}
 use Rattle.whole_paths.specs.OnlyPaths.{news_within}
-use Rattle.whole_paths.specs.OpeningCourses.{FirmPathsEnd, for_twice, opening_patience, DeliversWithin, IsOpenOrDone, IsOpeningStill, OpensWithin}
+use Rattle.whole_paths.specs.OpeningCourses.{for_twice, opening_patience, DeliversWithin, IsOpenOrDone, IsOpeningStill, OpensWithin}
 use Rattle.whole_paths.specs.OpeningWaits.{IsAliveAfter}
 use Rattle.whole_paths.specs.SentByTurns.{SentAtMost}
 use Rattle.whole_paths.proofs.Courses.{exchanges_end, harmed_append}
@@ -147,9 +147,9 @@ abbrev WaitsOf : Start → ℕ → ℕ → List Turn → Type 0
 WaitsOf start n x turns = IsOpeningStill start (60000 + way_there_and_back start.paths start.lines) n x turns
 
 pub opens_within : OpensWithin (for_all_news news_within)
-opens_within start plan turns most begins firm lawful few low enough = ⊎_elim
+opens_within start plan turns most begins lawful few low enough = ⊎_elim
     (λ alive. inl (exchanges_end values start (IsAliveAfter start most) most (news_within start) (λ ts. IsOpenOrDone (reached values start ts)) (WaitsOf start)
-    (exchanges start plan most way (60000 + way) begins.one begins.mild (let least = begins.buffer in omega (arith, least)) (ways_short start plan begins) (le_refl (60000 + way)) firm)
+    (exchanges start plan most way (60000 + way) begins.one begins.mild (let least = begins.buffer in omega (arith, least)) (ways_short start plan begins) (le_refl (60000 + way)))
     (λ ts. news_is_bounded start ts begins.mild.plain begins.mild.fit) [] turns lawful alive low enough))
     (λ died. inr died)
     (alive_or_died start plan begins.one begins.mild turns few)
@@ -160,7 +160,7 @@ opens_within start plan turns most begins firm lawful few low enough = ⊎_elim
 -- ---- and delivers
 
 pub delivers_within : DeliversWithin (for_all_news news_within)
-delivers_within start plan turns most begins firm lawful few low enough =
+delivers_within start plan turns most begins lawful few low enough =
     subst Ends (sym parts.is) (by parts.first parts.rest (subst (λ ts. AreLawful values ts (opened_world start)) parts.is lawful) (subst (λ ts. length ts < 2 ^ 64 - 1) parts.is few)
     (subst (λ ts. harmed values 0 ts (opened_world start) ≤ most) parts.is low) parts.last (let all = parts.all in omega (arith, enough, all, last_few)))
   where
@@ -185,7 +185,7 @@ delivers_within start plan turns most begins firm lawful few low enough =
     by : (first rest : List Turn) → AreLawful values (first ++ rest) (opened_world start) → length (first ++ rest) < 2 ^ 64 - 1 → harmed values 0 (first ++ rest) (opened_world start) ≤ most
         → rounds_in rest ≡ last → bound < 100 * rounds_in first → Ends (first ++ rest)
     by first rest going short fewer rounds many = ⊎_elim opened (λ died. inr (at_last first rest died))
-        (opens_within start plan first most begins firm parts_lawful.0 (let sum = length-append first rest in omega (arith, short, sum))
+        (opens_within start plan first most begins parts_lawful.0 (let sum = length-append first rest in omega (arith, short, sum))
         (let harms = harmed_append values 0 first rest (opened_world start) in omega (arith, harms, fewer)) many)
       where
         parts_lawful : AreLawful values first (opened_world start) × AreLawful values rest (reached values start first)
@@ -204,15 +204,15 @@ delivers_within start plan turns most begins firm lawful few low enough =
 
 -- ---- by scripts
 
-pub firm_paths_end : FirmPathsEnd values opening_patience
-firm_paths_end script path file_a file_b turns mild brief firm lawful many =
+pub one_path_ends : OneBriefPathEnds values opening_patience
+one_path_ends script path file_a file_b turns mild brief lawful many =
     let start : Start = start_of script file_a file_b in
     let harms = harmed values 0 turns (opened_world start) in
     let enough = rounds_so (for_twice (for_all_news news_within) start harms) (rounds_in turns) many in
-    delivers_within start (plan_of script 0 path) turns harms (mild_scripts_begin_with_one_path script path file_a file_b mild) firm lawful brief.few (le_refl harms) (omega (arith, enough))
+    delivers_within start (plan_of script 0 path) turns harms (mild_scripts_begin_with_one_path script path file_a file_b mild) lawful brief.few (le_refl harms) (omega (arith, enough))
 
-pub firm_paths_end_in_octets : FirmPathsEnd octets opening_patience
-firm_paths_end_in_octets script path file_a file_b turns mild brief firm lawful many =
+pub one_path_ends_in_octets : OneBriefPathEnds octets opening_patience
+one_path_ends_in_octets script path file_a file_b turns mild brief lawful many =
     let whole = as_far script path file_a file_b mild turns in
     ended (start_of script file_a file_b) turns whole
-    (firm_paths_end script path file_a file_b turns mild brief firm (whole.lawful.0 lawful) (subst (λ n. opening_patience script path file_a file_b n ≤ rounds_in turns) (whole.harms 0) many))
+    (one_path_ends script path file_a file_b turns mild brief (whole.lawful.0 lawful) (subst (λ n. opening_patience script path file_a file_b n ≤ rounds_in turns) (whole.harms 0) many))

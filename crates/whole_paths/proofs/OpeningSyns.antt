@@ -48,7 +48,7 @@ past_connected _ c s high living = refl
 
 -- a copy with a SYN alone, perhaps with an acknowledgement
 module _ (c : Copy) (s : EndState) (syn : c.syn ≡ true) (fin : c.fin ≡ false) (rst : c.rst ≡ false) (at : c.position ≡ Some 0) (empty : c.payload ≡ []) where
-  asks_so : s.state ≡ phase.Listen → c.acknowledged ≡ None → meaning_of c s ≡ means.Opens
+  pub asks_so : s.state ≡ phase.Listen → c.acknowledged ≡ None → meaning_of c s ≡ means.Opens
   asks_so state none =
       ap (λ (state : EndPhase). meaning_at state c s) state
       ∙ ap (λ b. if b && (not c.fin && (not c.rst && is_none c.acknowledged)) then means.Opens else means.Ignored) syn
@@ -56,7 +56,7 @@ module _ (c : Copy) (s : EndState) (syn : c.syn ≡ true) (fin : c.fin ≡ false
       ∙ ap (λ b. if not b && is_none c.acknowledged then means.Opens else means.Ignored) rst
       ∙ ap (λ (o : Option ℕ). if is_none o then means.Opens else means.Ignored) none
 
-  answers_so : (n : ℕ) → s.state ≡ phase.SynSent → is_at_limit s ≡ false → c.acknowledged ≡ Some n → 0 < n → n ≤ s.send.nxt → meaning_of c s ≡ means.Accepts n
+  pub answers_so : (n : ℕ) → s.state ≡ phase.SynSent → is_at_limit s ≡ false → c.acknowledged ≡ Some n → 0 < n → n ≤ s.send.nxt → meaning_of c s ≡ means.Accepts n
   answers_so n state limit acks some sent =
       ap (λ (state : EndPhase). meaning_at state c s) state
       ∙ ap (λ b. if b then means.Ignored else meaning_answering c.acknowledged c s) limit
@@ -73,7 +73,7 @@ module _ (c : Copy) (s : EndState) (syn : c.syn ≡ true) (fin : c.fin ≡ false
   outside some =
       ap (λ n. is_in_window s.recv.edge 0 || (ends_in_window s.recv.edge 0 n || is_at_right_edge s.recv.edge 0 (length c.payload))) one ∙ syn_outside s.recv.edge (length c.payload) some
 
-  again_so : 2 ≤ stage s.state → is_dead s.state ≡ false → is_at_limit s ≡ false → 0 < s.recv.edge → (meaning_of c s ≡ means.RepeatedSyn) ⊎ (meaning_of c s ≡ means.Outside)
+  pub again_so : 2 ≤ stage s.state → is_dead s.state ≡ false → is_at_limit s ≡ false → 0 < s.recv.edge → (meaning_of c s ≡ means.RepeatedSyn) ⊎ (meaning_of c s ≡ means.Outside)
   again_so high living limit some = (elim (is_repeated_syn c s) as
       (λ b. (if b then means.RepeatedSyn else meaning_placed c.position c s) ≡ meaning_of c s → (meaning_of c s ≡ means.RepeatedSyn) ⊎ (meaning_of c s ≡ means.Outside)) [
         | true ↦ λ is. inl (sym is)

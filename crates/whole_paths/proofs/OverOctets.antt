@@ -40,7 +40,7 @@ use Rattle.world_laws.proofs.Promises.Made.{run_fresh}
 use Rattle.world_laws.proofs.Promises.OverOctets.{same_notes_of}
 use Rattle.world_laws.proofs.Worlds.Carrying.{run_same}
 use Rattle.whole_paths.specs.Delivery.{AllIsThere}
-use Rattle.whole_paths.specs.Finish.{AnEndDied, IsMild, IsPathAt, IsBrief, IsWhole, Patience, WholePathsDeliverWhere, harmed, harms_between, harms_of, is_harmed, rounds_in}
+use Rattle.whole_paths.specs.Finish.{AnEndDied, FewLossesEndNoneWhere, FewLossesFinishWhere, IsBrief, IsMild, IsPathAt, IsWhole, Patience, WholePathsDeliverWhere, harmed, harms_between, harms_of, is_harmed, rounds_in}
 use Rattle.whole_paths.specs.News.{news, path_news, side_news}
 use Rattle.whole_paths.specs.OnePathScripts.{AnEndDiedEarly, EndsAsItBegins, rounds_within}
 use Rattle.whole_paths.specs.OverOctets.{FewLossesFinishAsOverValues, IsAsFarAsOverValues, OctetsAreAsFarAsValues, OnePathEndsAsOverValues, BriefPathsDeliverAsOverValues, WholePathsDeliverAsOverValues}
@@ -267,15 +267,25 @@ ended start turns whole (inl delivered) = inl (whole.outcome ∙ delivered)
 ended start turns whole (inr died) = inr ((whole.died 0).1 died)
 
 pub one_path_ends_as_over_values : OnePathEndsAsOverValues
-one_path_ends_as_over_values enough ends script path file_a file_b turns mild lawful many =
+one_path_ends_as_over_values enough ends script path file_a file_b turns mild also lawful many =
     let whole = as_far script path file_a file_b mild turns in
-    ended (start_of script file_a file_b) turns whole (ends script path file_a file_b turns mild (whole.lawful.0 lawful) (subst (λ n. enough script path file_a file_b n ≤ rounds_in turns) (whole.harms 0) many))
+    ended (start_of script file_a file_b) turns whole (ends script path file_a file_b turns mild also (whole.lawful.0 lawful) (subst (λ n. enough script path file_a file_b n ≤ rounds_in turns) (whole.harms 0) many))
+
+-- of scripts and turns that are so
+module _ (Also : Script → List Turn → Type 0) where
+  pub end_none_where : FewLossesEndNoneWhere values Also → FewLossesEndNoneWhere octets Also
+  end_none_where none script path file_a file_b turns mild also harmless few died =
+      let whole = as_far script path file_a file_b mild turns in
+      none script path file_a file_b turns mild also harmless (subst (λ n. n ≤ 4) (whole.harms 0) few) ((whole.died 0).0 died)
+
+  pub finish_where : (enough : Patience) → FewLossesFinishWhere values Also enough → FewLossesFinishWhere octets Also enough
+  finish_where enough finish script path file_a file_b turns mild also harmless few lawful many =
+      let whole = as_far script path file_a file_b mild turns in
+      whole.outcome ∙ finish script path file_a file_b turns mild also harmless (subst (λ n. n ≤ 4) (whole.harms 0) few) (whole.lawful.0 lawful)
+      (subst (λ n. enough script path file_a file_b n ≤ rounds_in turns) (whole.harms 0) many)
 
 pub few_losses_finish_as_over_values : FewLossesFinishAsOverValues
-few_losses_finish_as_over_values enough finish script path file_a file_b turns mild harmless few lawful many =
-    let whole = as_far script path file_a file_b mild turns in
-    whole.outcome ∙ finish script path file_a file_b turns mild harmless (subst (λ n. n ≤ 4) (whole.harms 0) few) (whole.lawful.0 lawful)
-    (subst (λ n. enough script path file_a file_b n ≤ rounds_in turns) (whole.harms 0) many)
+few_losses_finish_as_over_values = finish_where (λ script turns. Unit {0})
 
 -- ---- ends that died early
 

@@ -1,5 +1,5 @@
 -- What an end owes stays owed by each duty that sends nothing, and goes by the one that answers.
-use Rattle.std.proofs.Common.{◌≡◌, refl, sym, subst, ap, ◌∙◌, inl, inr, ◌⊎◌, ⊎_elim, Bool, true, false, true≢false, if◌then◌else◌, Option, Some, None, List, [], ◌∷◌}
+use Rattle.std.proofs.Common.{◌≡◌, refl, sym, subst, ap, ◌∙◌, inl, inr, ◌⊎◌, ⊎_elim, ◌&&◌, Bool, true, false, true≢false, if◌then◌else◌, Option, Some, None, List, [], ◌∷◌}
 use Rattle.std.specs.List.{list_any, slice_get}
 use Rattle.std.proofs.lemmas.Bool.{and_parts, both_ways, or_parts}
 use Rattle.std.proofs.lemmas.Option.{same_Some}
@@ -159,9 +159,16 @@ due_lasts = record {
   passes = λ d p. passed_due d p;
 }
 
+pub due_still : (s : Side) (p q : PathState Carried) → BothDue p q → (end_at s q).tcp.due ≡ (end_at s p).tcp.due
+due_still A p q x = x.a.same
+due_still B p q x = x.b.same
+
 pub owes_still : (s : Side) (p q : PathState Carried) → BothDue p q → Owes (end_at s p) → Owes (end_at s q)
-owes_still A p q x = subst (λ (d : Due). (d.ack ≡ true) ⊎ (d.syn_ack ≡ true)) (sym x.a.same)
-owes_still B p q x = subst (λ (d : Due). (d.ack ≡ true) ⊎ (d.syn_ack ≡ true)) (sym x.b.same)
+owes_still s p q x = subst (λ (d : Due). (d.ack ≡ true) ⊎ (d.syn_ack ≡ true)) (sym (due_still s p q x))
+
+first_false : (a : Bool) → (a && true) ≡ false → a ≡ false
+first_false true is = absurd (true≢false is)
+first_false false is = refl
 
 -- ---- a turn
 
@@ -198,34 +205,34 @@ module _ (w : WorldState Carried) (d : Duty) (ds : List Duty) (r : Reply) (p : P
       let hands : Hands values x t = subst (HandsOrTellsNone values x) is (each_segment_is_told values x) in
       owed.goes (segment_sent x t) says.1 (subst (λ v. q.link ≡ handed values v (segment_sent x t) x) says.0 (hands.taken r)) ((takes_frames values r x).stands d ds refl other)
 
-  answer_is : (c : Profile) (s : Side) (e : PathEnd) (b : Bool) → IsReply c s e (if b then syn_ack_said c s e else ack_said c s e.tcp.send.nxt None e)
-  answer_is c s e true = reply.opens refl
-  answer_is c s e false = reply.acks refl
+  answer_is : (c : Profile) (s : Side) (e : PathEnd) (b : Bool) → e.tcp.due.syn_ack ≡ b → (e.tcp.due.ack && b) ≡ false → IsReply c s e (if b then syn_ack_said c s e else ack_said c s e.tcp.send.nxt None e)
+  answer_is c s e true is one = reply.opens (first_false e.tcp.due.ack one) refl
+  answer_is c s e false is one = reply.acks is refl
 
   goes : (s : Side) (e : Duty) → e ≡ d → Sends s (end_at s x) e → OwedGoes s x q
   goes s (duties.Send (send_duties.Acknowledge t)) is sends =
       let e : Duty = duties.Send (send_duties.Acknowledge t) in
-      subst (λ u. OwedGoes u x q) sends.0 (sent t (first_sends (e ∷ ds) x) (ap (λ e. first_sends (e ∷ ds) x) (sym is)) (refl, reply.acks refl) (ap is_event (sym is)))
+      subst (λ u. OwedGoes u x q) sends.0 (sent t (first_sends (e ∷ ds) x) (ap (λ e. first_sends (e ∷ ds) x) (sym is)) (refl, reply.acks (subst (λ u. (end_at u x).tcp.due.syn_ack ≡ false) (sym sends.0) sends.1) refl) (ap is_event (sym is)))
   goes s (duties.Send (send_duties.Answer t)) is sends =
       let e : Duty = duties.Send (send_duties.Answer t) in
-      subst (λ u. OwedGoes u x q) sends.0 (sent t (first_sends (e ∷ ds) x) (ap (λ e. first_sends (e ∷ ds) x) (sym is)) (refl, answer_is x.profile t (end_at t x) (end_at t x).tcp.due.syn_ack) (ap is_event (sym is)))
+      subst (λ u. OwedGoes u x q) sends.0 (sent t (first_sends (e ∷ ds) x) (ap (λ e. first_sends (e ∷ ds) x) (sym is)) (refl, answer_is x.profile t (end_at t x) (end_at t x).tcp.due.syn_ack refl (subst (λ u. ((end_at u x).tcp.due.ack && (end_at u x).tcp.due.syn_ack) ≡ false) (sym sends.0) sends.1)) (ap is_event (sym is)))
   goes s (duties.Send (send_duties.SynAck t)) is sends =
       let e : Duty = duties.Send (send_duties.SynAck t) in
-      subst (λ u. OwedGoes u x q) sends.0 (sent t (first_sends (e ∷ ds) x) (ap (λ e. first_sends (e ∷ ds) x) (sym is)) (refl, reply.opens refl) (ap is_event (sym is)))
+      subst (λ u. OwedGoes u x q) sends.0 (sent t (first_sends (e ∷ ds) x) (ap (λ e. first_sends (e ∷ ds) x) (sym is)) (refl, reply.opens (subst (λ u. (end_at u x).tcp.due.ack ≡ false) (sym sends.0) sends.1) refl) (ap is_event (sym is)))
   goes s (duties.Ask (ask_duties.BreakAck t reason)) is sends = absurd (true≢false (sym (ap is_harsh (sym is)) ∙ (or_parts (is_harsh d) (list_any is_harsh ds) facts.living.unbroken.duties).0))
   goes s (duties.Send (send_duties.BreakReset t reason)) is sends = absurd (true≢false (sym (ap is_harsh (sym is)) ∙ (or_parts (is_harsh d) (list_any is_harsh ds) facts.living.unbroken.duties).0))
   goes s (duties.Send (send_duties.Reset t)) is sends = absurd (true≢false (sym (ap is_of_the_dead (sym is)) ∙ (or_parts (is_of_the_dead d) (list_any is_of_the_dead ds) facts.living.agenda).0))
   goes s _ is sends = absurd sends
 
-  stays : (s : Side) → is_silent d ≡ true → Owes (end_at s x) → OwedGoes s x q
-  stays s silent is =
+  stays : (s : Side) → is_silent d ≡ true → OwedGoes s x q
+  stays s silent =
       let y : PathState Carried = answered values d r x in ⊎_elim
       (λ (gone : IsGone y). owed.gone gone.side (settled_lasts DeadStays dead_last y.agenda y gone.side gone.dead))
-      (λ same. owed.owes (owes_still s y q (settled_lasts BothDue due_lasts y.agenda y) (owes_still s x y same is)))
+      (λ same. owed.owes (due_still s y q (settled_lasts BothDue due_lasts y.agenda y) ∙ due_still s x y same))
       (silent_due d r x known (facts.living.opens.opens facts.living.first) silent)
 
   owed_goes : (s : Side) → Owes (end_at s x) → OwedGoes s x q
-  owed_goes s is = ⊎_elim (λ sends. goes s d refl sends) (λ rest. stays s rest.1.1.0 is) (ahead s (d ∷ ds) (end_at s x) (facts.stands s) (facts.lives s) is)
+  owed_goes s is = ⊎_elim (λ sends. goes s d refl sends) (λ rest. stays s rest.1.1.0) (ahead s (d ∷ ds) (end_at s x) (facts.stands s) (facts.lives s) is)
 
 takes_owed : (w : WorldState Carried) (r : Reply) (p : PathState Carried) → Facts w p → (s : Side) → Owes (end_at s p) → OwedGoes s p (takes values r p)
 takes_owed w r p facts s is = by p.agenda facts is
@@ -254,7 +261,7 @@ member_next_owed w (Path p) over = next_owed w p (nil_so p.agenda over)
 
 member_stays : (w : WorldState Carried) (m : Actor Carried) → Between w m m
 member_stays w (App a) = tt
-member_stays w (Path p) = λ facts s is. owed.owes is
+member_stays w (Path p) = λ facts s is. owed.owes refl
 
 pub what_is_owed_goes : WhatIsOwedGoes
 what_is_owed_goes start turns turn mild p q here there lives =

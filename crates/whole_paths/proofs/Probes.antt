@@ -144,7 +144,7 @@ probes_end six (App a) past = tt
 probes_end six (Path p) past = λ s at until h late. asked_in_time p past (TellsWindow at) (IsOpenTo six s at) s until h late
 
 -- where the turn is over nothing is to be heard
-open_over : (six : SixBooks) (s : Side) (at : ℕ) (p : PathState Carried) → p.agenda ≡ [] → IsOpenTo six s at p → at ≤ (send_of s six).edge
+pub open_over : (six : SixBooks) (s : Side) (at : ℕ) (p : PathState Carried) → p.agenda ≡ [] → IsOpenTo six s at p → at ≤ (send_of s six).edge
 open_over six s at p over (opens.counts h) = h
 open_over six s at p over (opens.told next window low hear) = absurd (subst (λ ds. IsToHear s (says.DataAck next window) (end_at s p).treated.items ds) over hear)
 

@@ -182,11 +182,11 @@ arrival_calm _ hint now c s fits up = inr refl
 payload_window : (pos : ℕ) (hint : Hint) (c : Copy) (s : EndState) → (after_payload pos hint c s).recv.window ≡ s.recv.window
 payload_window pos hint c s = elim (is_kept hint.keep s) as (λ b. (if b then after_accept pos c.payload s.recv else s.recv).window ≡ s.recv.window) [ true ↦ refl | false ↦ refl ]
 
-ack_recv : (pos now : ℕ) (s : EndState) → (after_acknowledgement pos now s).recv ≡ s.recv
+pub ack_recv : (pos now : ℕ) (s : EndState) → (after_acknowledgement pos now s).recv ≡ s.recv
 ack_recv pos now s = elim (ack_kind pos s.send) as (λ kind. (after_ack_kind kind (sample_of pos s.send) now (record s { send = after_acknowledge pos s.send })).recv ≡ s.recv)
     [ New octets ↦ refl | Duplicate ↦ refl | Old ↦ refl | Future ↦ refl ]
 
-heard_recv : (pos : ℕ) (hint : Hint) (now : ℕ) (c : Copy) (s : EndState) → (after_heard_ack pos hint now c s).recv ≡ s.recv
+pub heard_recv : (pos : ℕ) (hint : Hint) (now : ℕ) (c : Copy) (s : EndState) → (after_heard_ack pos hint now c s).recv ≡ s.recv
 heard_recv pos hint now c s =
     elim (is_duplicate (ack_kind pos s.send) (told_by hint c) c acked) as (λ b. (after_telling (told_by hint c) (if b then after_duplicate acked else after_interruption acked)).recv ≡ s.recv)
     [ true ↦ ack_recv pos now s | false ↦ ack_recv pos now s ]

@@ -1,5 +1,5 @@
 -- A segment is read: the end is told how far the peer is, the application writes, the end sends what it has room for, that comes, and is read.
-use Rattle.std.proofs.Common.{◌≡◌, refl, sym, subst, ap, ⊎_elim, ℕ, ◌+◌, ◌-◌, ◌<◌, ◌≤◌, min, arith, true, Some, List, [], length}
+use Rattle.std.proofs.Common.{◌≡◌, inl, refl, sym, subst, ap, ⊎_elim, ℕ, ◌+◌, ◌-◌, ◌<◌, ◌≤◌, min, arith, true, Some, List, [], length}
 use Rattle.std.specs.List.{slice_get}
 use Rattle.sides.specs.declared.side.Side.{Side}
 use Rattle.sides.specs.Side.{peer}
@@ -135,7 +135,7 @@ module _ (start : Start) (plan : PathPlan) (x : BeginsWithOnePath start plan) (s
 
   comes : (end_at (peer s) p).tcp.recv.edge ≤ (end_at s told_path.path).tcp.send.una → Goal
   comes una = if_may start plan x Goal b q well_b.here opened s (λ all. whole (stays_there start plan x b came_at s to_came all)) (λ may. ⊎_elim whole (λ low. ends (sent (omega (arith, una, una_later)) may) low)
-      (bring start plan x b came_at third.1.0 s q came_path.path well_b.here came_path.here well_b.mended))
+      (bring start plan x b came_at third.1.0 s q came_path.path well_b.here came_path.here well_b.records))
     where
       ends : goal < sent_up_to (end_at s q).tcp.send → sent_up_to (end_at s q).tcp.send ≤ (end_at (peer s) came_path.path).tcp.recv.edge → Goal
       ends more low = if_may start plan x Goal came_at came_path.path came_path.here came_path.is_open s whole (λ may.
@@ -144,7 +144,7 @@ module _ (start : Start) (plan : PathPlan) (x : BeginsWithOnePath start plan) (s
 
   is_read : Goal
   is_read = ⊎_elim (λ all. whole (stays_there start plan x heard_at came_at s (then_between start heard_at b came_at to_sent to_came) all)) comes
-      (tell start plan x v heard_at first.1.0 s p told_path.path well_v.here told_path.here (well_v.mended.told s))
+      (⊎_elim (λ told. tell start plan x v heard_at first.1.0 s p told_path.path well_v.here told_path.here told) (λ all. inl (stays_there start plan x v heard_at s to_heard all)) well_v.told)
 
 pub a_segment_is_read : ASegmentIsRead
 a_segment_is_read start plan x s v a b u first second third well_v well_b heard = is_read start plan x s v a b u first second third well_v well_b heard

@@ -53,7 +53,7 @@ still_runs e f still runs = same_runs e f (same f.tcp f.sending f.modes f.notice
     same t v m n tcp sending modes notices = rw (tcp, sending, modes, notices) refl
 
 -- as a view shows it that hides nothing
-abbrev reason_seen : EndView → Bool
+abbrev pub reason_seen : EndView → Bool
 reason_seen v =
     not (is_closed_to_segments (unwrap_or v.phase phase.Dead))
     && ((((not (unwrap_or v.identity false || is_some (unwrap_or v.own_infinite None)) && (unwrap_or v.fin_sent false && not (unwrap_or v.own_acked false)))

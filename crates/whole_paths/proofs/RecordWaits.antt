@@ -80,7 +80,7 @@ exchange_later s r before later p low (answered opened h so) =
 exchange_later s r before later p low (acknowledged reached) = acknowledged reached
 
 -- where RCV.NXT of the peer isn't past a FIN that wasn't sent
-unpassed : (at : Option ℕ) (edge : ℕ) → at ≡ None → is_behind at edge ≡ true → ⊥
+pub unpassed : (at : Option ℕ) (edge : ℕ) → at ≡ None → is_behind at edge ≡ true → ⊥
 unpassed at edge none behind = true≢false (sym behind ∙ ap (λ o. is_behind o edge) none)
 
 -- and where it is past one that stands right before SND.NXT all came

@@ -23,7 +23,7 @@ use Rattle.whole_paths.proofs.Exchanges.{all_at}
 use Rattle.whole_paths.proofs.InTime.{nothing_is_overdue}
 use Rattle.whole_paths.proofs.Keeping.{what_waits_is_kept}
 use Rattle.whole_paths.proofs.Losing.{all_there, back, same_end, there_so}
-use Rattle.whole_paths.proofs.OpenTurns.{with_both}
+use Rattle.whole_paths.proofs.OpenTurns.{with_both, begun}
 use Rattle.whole_paths.proofs.RecordsWell.{each_record_stays_well}
 
 -- one of the first ones is let go, or it is one of the others
@@ -56,7 +56,7 @@ module _ (s : Side) (r : Record) (by_then : ℕ) (data_is : r.kind ≡ Data) (p 
       (kept_one _ IsSameRecord (end_at s p).tcp.send.records (end_at s q).tcp.send.records kept.records is_one.at t there)
 
 on_so : (start : Start) (turns : List Turn) (turn : Turn) (h : IsOpenTurn start turns turn) (s : Side) (r : Record) (by_then : ℕ) → r.kind ≡ Data → ComesInTime s r by_then h.before.path → ComesInTime s r by_then h.after.path
-on_so start turns turn h s r by_then data_is = still_comes s r by_then data_is h.before.path h.after.path (each_record_stays_well start turns turn h s)
+on_so start turns turn h s r by_then data_is = still_comes s r by_then data_is h.before.path h.after.path (each_record_stays_well start turns turn (begun start turns turn h) s)
     (with_both start turns turn h EndsKeepWhatWaits (what_waits_is_kept values (reached values start turns) (turn ∷ []) 2 h.before.here.crew h.before.here.there) s)
 
 due_so : (start : Start) (turns : List Turn) (h : IsOpenAfter start turns) → h.path.agenda ≡ [] → (s : Side) (r : Record) (by_then : ℕ) → by_then < h.path.until → ComesInTime s r by_then h.path

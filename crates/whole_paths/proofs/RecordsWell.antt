@@ -22,7 +22,8 @@ use Rattle.path_agenda.specs.declared.duty.Duty.{Duty}
 use Rattle.path_agenda.specs.declared.duty.Duty.TheVariants as duties
 use Rattle.path_agenda.specs.declared.duty.StepDuty.TheVariants as step_duties
 use Rattle.path_core.specs.Choices.{is_side_a}
-use Rattle.path_core.specs.DssOut.{place_numbered}
+use Rattle.path_core.specs.DssOut.{is_first_piece, place_numbered}
+use Rattle.path_core.specs.MpJoin.{is_joined}
 use Rattle.path_core.specs.Events.{next_event}
 use Rattle.path_core.specs.Profile.{Profile}
 use Rattle.path_core.specs.Shown.{AltersNothing}
@@ -38,7 +39,7 @@ use Rattle.world_laws.specs.RoundDone.{reached}
 use Rattle.world_laws.specs.Worlds.{WorldState, Turn, after_turn}
 use Rattle.world_laws.proofs.Numbers.TellSmall.{RecordKindTells, RecordTells}
 use Rattle.whole_paths.specs.AgendaSteps.{event_side}
-use Rattle.whole_paths.specs.Arrivals.{Arrival, HasItsMapping, IsPiece}
+use Rattle.whole_paths.specs.Arrivals.{Arrival, HasItsMapping, IsMappedPiece}
 use Rattle.whole_paths.specs.AsFar.{stage}
 use Rattle.whole_paths.specs.Brought.{IsThere, KeepsWhatComes, PathsKeepWhatComes, StaysThere}
 use Rattle.whole_paths.specs.Brought.{IsThere as there}
@@ -59,10 +60,10 @@ use Rattle.whole_paths.specs.Mending.{ComesBy, EachRecordStaysWell, IsAllThereOf
 use Rattle.whole_paths.specs.Mending.{IsThereBy as by_then}
 use Rattle.whole_paths.specs.Mending.{IsWell as well}
 use Rattle.whole_paths.specs.Mild.{EndsGoByMappings, EndsHaveKeys, HasKeys, IsMildStart, IsNeverBroken, IsUnbroken}
-use Rattle.whole_paths.specs.OpenCourses.{IsOpenNow}
+use Rattle.whole_paths.specs.OpenCourses.{IsNow}
 use Rattle.whole_paths.specs.Overruns.{StaysWithin}
 use Rattle.whole_paths.specs.ReadModes.{ReadsMappings}
-use Rattle.whole_paths.specs.Straying.{IsOpen, IsOpenFrom}
+use Rattle.whole_paths.specs.Straying.{IsOpenFrom}
 use Rattle.whole_paths.specs.Timers.{TimersAreNear}
 use Rattle.whole_paths.proofs.Acking.{all_or, octet_of}
 use Rattle.whole_paths.proofs.Arrivals.{each_copy_arrives, each_mapped_record_is_a_piece, sender_of}
@@ -89,16 +90,12 @@ use Rattle.whole_paths.proofs.Reached.{Line, each_is_reached}
 use Rattle.whole_paths.proofs.RecordWaits.{edge_up, last, nxt_up, passed_all, with_both}
 use Rattle.whole_paths.proofs.Sent.{what_came_was_sent}
 use Rattle.whole_paths.proofs.SentSoon.{numbered_so, segments_come_soon}
-use Rattle.whole_paths.proofs.Straying.{never_resets, open_from}
+use Rattle.whole_paths.proofs.Straying.{never_resets}
 use Rattle.whole_paths.proofs.Timing.{timers_run_out}
 
 unopening : (state : EndPhase) → 3 ≤ stage state → is_opening state ≡ false
 unopening phase.SynSent high = absurd (omega (arith, high))
 unopening _ high = refl
-
-never : (b : Bool) → (b && false) ≡ false
-never true = refl
-never false = refl
 
 -- the first record begins at SND.UNA or before
 first_low : (rs : List Record) (una nxt : ℕ) (r : Record) → Line una nxt (map span_of rs) → slice_get rs 0 ≡ Some r → r.pos ≤ una
@@ -125,18 +122,12 @@ module _ (start : Start) (mild : IsMildStart start) (turns : List Turn) (turn : 
 
   -- ---- what is known of path 0 before the turn, and after it
 
-  module _ (before : IsOpenNow w) (after : IsOpenNow v) where
+  module _ {Holds : PathState Carried → Type 0} (before : IsNow Holds w) (after : IsNow Holds v) where
     abbrev p : PathState Carried
     p = before.path
 
     abbrev q : PathState Carried
     q = after.path
-
-    abbrev open_p : IsOpen p
-    open_p = before.is_open
-
-    abbrev open_q : IsOpen q
-    open_q = after.is_open
 
     pub holds_p : (P : PathState Carried → Type 0) → ((actor : ℕ) (c : ActorCrew Carried) → slice_get w.crew actor ≡ Some c → HoldsOfKind (λ app. Unit {0}) P c.member) → P p
     holds_p P each = subst (HoldsOfKind (λ app. Unit {0}) P) before.here.is (each 2 before.here.crew before.here.there)
@@ -185,16 +176,16 @@ module _ (start : Start) (mild : IsMildStart start) (turns : List Turn) (turn : 
     pub within : StaysWithin p
     within = subst (HoldsOfKind (λ app. Unit {0}) StaysWithin) before.here.is (no_end_overruns start turns mild before.here.crew before.here.there)
 
-    pub unbroken_p : IsUnbroken p
-    unbroken_p = (holds_p IsNeverBroken (never_breaks start turns mild).each) open_p.first
+    pub unbroken_p : is_joined p.profile ≡ false → IsUnbroken p
+    unbroken_p first = (holds_p IsNeverBroken (never_breaks start turns mild).each) first
 
-    unbroken_q : IsUnbroken q
-    unbroken_q = (holds_q IsNeverBroken (never_breaks start later mild).each) open_q.first
+    pub unbroken_q : is_joined q.profile ≡ false → IsUnbroken q
+    unbroken_q first = (holds_q IsNeverBroken (never_breaks start later mild).each) first
 
-    mapped_p : EndsGoByMappings p
+    pub mapped_p : EndsGoByMappings p
     mapped_p = holds_p EndsGoByMappings (mapping_is_kept start turns mild).each
 
-    mapped_q : EndsGoByMappings q
+    pub mapped_q : EndsGoByMappings q
     mapped_q = holds_q EndsGoByMappings (mapping_is_kept start later mild).each
 
     reads_q : ReadsMappings q
@@ -203,11 +194,8 @@ module _ (start : Start) (mild : IsMildStart start) (turns : List Turn) (turn : 
     fin_q : FinIsLast q
     fin_q = holds_q FinIsLast (fins_are_last start later mild.plain.size).each
 
-    keys_q : EndsHaveKeys q
-    keys_q = (holds_q HasKeys (keys_are_known start later mild).each) open_q.first
-
-    from_q : IsOpenFrom A q
-    from_q = open_from start later mild q (record { crew = after.here.crew; there = there_q; is = after.here.is }) open_q A
+    pub keys_q : is_joined q.profile ≡ false → EndsHaveKeys q
+    keys_q first = (holds_q HasKeys (keys_are_known start later mild).each) first
 
     pub clock : p.clock ≤ q.clock
     clock = marks.clock (let near : TimersAreNear p = holds_p TimersAreNear (timers_run_out values start turns).each in let low = near.clock in omega (arith, low))
@@ -217,23 +205,23 @@ module _ (start : Start) (mild : IsMildStart start) (turns : List Turn) (turn : 
 
     -- ---- what came stays
 
-    module _ (s : Side) where
+    module _ (open_p : IsOpenFrom B p) (open_q : IsOpenFrom B q) (s : Side) where
       abbrev t : Side
       t = peer s
 
-      keyless : (x : Side) → (end_at x q).modes.peer_key ≡ None → ⊥
-      keyless A none = both_ways (is_some q.a.modes.peer_key) (ap is_some none) from_q.keyed
-      keyless B none = both_ways (is_some q.b.modes.peer_key) (ap is_some none) (keys_q.b (open_q.clear B))
+      pub keyless : (x : Side) → (end_at x q).modes.peer_key ≡ None → ⊥
+      keyless A none = both_ways (is_some q.a.modes.peer_key) (ap is_some none) open_q.keyed
+      keyless B none = both_ways (is_some q.b.modes.peer_key) (ap is_some none) ((keys_q open_q.first).b open_q.sure)
 
       octet_stays : {o : ℕ} (pos : ℕ) → pos < (end_at s p).tcp.send.nxt → StaysThere t pos o p q → (o : ℕ) × IsThere t pos o q
       octet_stays {o} pos low (octet.on is) = (o, is)
       octet_stays {o} pos low (octet.gone dead) = absurd (both_ways (is_dead (end_at t q).tcp.state) (open_q.living t) dead)
-      octet_stays {o} pos low (octet.reset is) = absurd (never_resets q unbroken_q t is)
+      octet_stays {o} pos low (octet.reset is) = absurd (never_resets q (unbroken_q open_q.first) t is)
       octet_stays {o} pos low (octet.behind_fin is) =
           let all = passed_all (end_at t q).tcp.fin_at (end_at t q).tcp.recv.edge (end_at s q).tcp.send.nxt (fin_q.heard s) is in let up = nxt_up start mild turns turn before after s in (o, there.passed (omega (arith, low, all, up)))
-      octet_stays {o} pos low (octet.fails is) = absurd (unbroken_p.fails t is)
+      octet_stays {o} pos low (octet.fails is) = absurd ((unbroken_p open_p.first).fails t is)
       octet_stays {o} pos low (octet.fails_untold sums reads plain) = absurd (both_ways (reads_mappings (end_at t q).modes.mode) reads (reads_q t))
-      octet_stays {o} pos low (octet.dropped is) = absurd (both_ways q.b.modes.clear (subst (λ x. (end_at x q).modes.clear ≡ false) is.at_b is.clear) (open_q.clear B))
+      octet_stays {o} pos low (octet.dropped is) = absurd (both_ways q.b.modes.clear (subst (λ x. (end_at x q).modes.clear ≡ false) is.at_b is.clear) open_q.sure)
 
       -- at this side
       octet_at_side : {o : ℕ} (y : Side) → y ≡ t → (pos : ℕ) → pos < (end_at s p).tcp.send.nxt → StaysThere y pos o p q → (o : ℕ) × IsThere t pos o q
@@ -242,7 +230,7 @@ module _ (start : Start) (mild : IsMildStart start) (turns : List Turn) (turn : 
       mapping_stays : (pos : ℕ) → StaysMapped t pos p q → IsMapped t pos q
       mapping_stays pos (mapping.on is) = is
       mapping_stays pos (mapping.gone dead) = absurd (both_ways (is_dead (end_at t q).tcp.state) (open_q.living t) dead)
-      mapping_stays pos (mapping.reset is) = absurd (never_resets q unbroken_q t is)
+      mapping_stays pos (mapping.reset is) = absurd (never_resets q (unbroken_q open_q.first) t is)
       mapping_stays pos (mapping.plain is) = absurd (both_ways (end_at t q).modes.identity (mapped_q t).identity is)
       mapping_stays pos (mapping.unkeyed none) = absurd (keyless t none)
 
@@ -315,11 +303,11 @@ module _ (start : Start) (mild : IsMildStart start) (turns : List Turn) (turn : 
             abbrev comes_now : Arrival x p
             comes_now = each_copy_arrives s r p f of_it whole.unstripped whole.unaltered here (numbered f here) known.alike others first next open_p.first
 
-            piece : IsPiece x
-            piece = each_mapped_record_is_a_piece p.profile s r of_it.sender x whole.mapped of_it.of_it of_it.says
-
             due_to : comes_now.due.to ≡ t
             due_to = sym (ap event_side comes_now.next) ∙ ap event_side next ∙ of_it.to
+
+            piece : IsMappedPiece (peer comes_now.due.to) x
+            piece = subst (λ y. IsMappedPiece y x) (sym (ap peer due_to ∙ sender_of s)) (each_mapped_record_is_a_piece p.profile s r of_it.sender x whole.mapped of_it.of_it of_it.says)
 
             at_pos : x.position ≡ r.pos
             at_pos = of_it.of_it.position
@@ -416,6 +404,7 @@ module _ (start : Start) (mild : IsMildStart start) (turns : List Turn) (turn : 
           let few : length u.piece ≤ 65475 = told.octets in
           let reaches : u.pos + length u.piece + 1 < 2 ^ 31 = told.reaches in
           let behind = ((stand s).each h.at u there kind).behind in
+          let told_by : (y : Side) → (is_first_piece y u (end_at y p) ≡ false) ⊎ (is_some (end_at y p).modes.peer_key ≡ true) = elim [ A ↦ inr open_p.keyed | B ↦ inl refl ] in
           record {
             kind = kind;
             some = omega (arith, one, whole);
@@ -425,7 +414,8 @@ module _ (start : Start) (mild : IsMildStart start) (turns : List Turn) (turn : 
             low = omega (arith, place, few);
             mapped = (mapped_p s).identity;
             finite = (mapped_p s).own;
-            told = ap (λ b. is_side_a s && (not b && u.pos == 1)) (open_p.clear s) ∙ never (is_side_a s);
+            few = few;
+            told = told_by s;
           }
 
       sent_now : (u : Record) → IsRecordOf (end_at s q) u → u.kind ≡ Data → (x : PlainSegment) → IsSegmentOf u x → IsSaidAt p.profile s u (end_at s p) x → IsSentSoon values s x p q
@@ -504,7 +494,8 @@ module _ (start : Start) (mild : IsMildStart start) (turns : List Turn) (turn : 
                 low = (let low = m.low in omega (arith, low, octets, number));
                 mapped = m.mapped;
                 finite = m.finite;
-                told = ap (λ n. is_side_a s && (not of_it.sender.modes.clear && n == 1)) at ∙ m.told;
+                few = (let few = m.few in omega (arith, few, octets));
+                told = ⊎_elim (λ later. inl (ap (λ n. is_side_a s && (not of_it.sender.modes.clear && n == 1)) at ∙ later)) (λ keyed. inr keyed) m.told;
               };
               acknowledges = h.whole.acknowledges;
               edge = h.whole.edge;
@@ -553,4 +544,4 @@ module _ (start : Start) (mild : IsMildStart start) (turns : List Turn) (turn : 
 
 pub each_record_stays_well : EachRecordStaysWell
 each_record_stays_well start turns turn h s =
-    subst (λ (u : WorldState Carried). (a : IsOpenNow u) → RecordsStayWell s h.before.path a.path) (sym (last start h.mild turns turn)) (λ a. stay_well start h.mild turns turn h.before a s) h.after
+    subst (λ (u : WorldState Carried). (a : IsNow (IsOpenFrom B) u) → RecordsStayWell s h.before.path a.path) (sym (last start h.mild turns turn)) (λ a. stay_well start h.mild turns turn h.before a h.before.is_open a.is_open s) h.after

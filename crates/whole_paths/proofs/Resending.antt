@@ -1,9 +1,11 @@
 -- An expiry sends the first record again.
-use Rattle.std.proofs.Common.{◌≡◌, refl, sym, subst, ap, ◌∙◌, inl, inr, ℕ, ◌+◌, ◌*◌, min, nat_le, arith, Bool, true, false, true≢false, if◌then◌else◌, Some, List, ◌∷◌}
+use Rattle.std.proofs.Common.{◌≡◌, refl, sym, subst, ap, ◌∙◌, inl, inr, ℕ, ◌+◌, ◌*◌, min, nat_le, arith, Bool, true, false, true≢false, if◌then◌else◌, Some, List, [], ◌∷◌, map}
 use Rattle.std.specs.List.{slice_get}
 use Rattle.std.proofs.lemmas.Bool.{leb-true, le-leb}
 use Rattle.sides.specs.declared.side.Side.{Side}
 use Rattle.subflow_send.specs.Records.{Record}
+use Rattle.subflow_send.specs.Rules.{expired_records, unsent_again}
+use Rattle.subflow_send.specs.Sendings.{first_at_an_expiry}
 use Rattle.subflow_tcp.specs.State.{is_some_record}
 use Rattle.subflow_tcp.specs.Expiring.{after_expiry, is_sixth}
 use Rattle.subflow_tcp.specs.Taking.{after_death}
@@ -31,6 +33,8 @@ use Rattle.world_laws.specs.Actors.{Actor, member_takes, member_next, is_over}
 use Rattle.world_laws.specs.StampedBooks.{answer_to}
 use Rattle.world_laws.proofs.Writes.Steps.{settled_lasts}
 use Rattle.whole_paths.specs.Expiries.{IsSegmentOf, IsSaidAt, IsToSend, IsToSendAgain, Expires, SendsAgain, GoesAgain, PathsGoAgain, WhatRunsOutGoesAgain}
+use Rattle.whole_paths.specs.Reasons.{IsOutstanding}
+use Rattle.whole_paths.specs.Reasons.{IsOutstanding as outstanding}
 use Rattle.whole_paths.proofs.Agendas.{own_end, gone_end}
 use Rattle.whole_paths.proofs.Copies.{LinkStays, links_last}
 use Rattle.whole_paths.proofs.Turns.{turn_each}
@@ -40,6 +44,19 @@ resent_so : (c : Profile) (s : Side) (e : PathEnd) (rs : List Record) (r : Recor
     → let x = (if is_some_record rs then record_or_ack c s (slice_get rs 0) e else ack_resent c s e) in IsSegmentOf r x × IsSaidAt c s r e x
 resent_so c s e rs r others is = subst (λ xs. let x = (if is_some_record xs then record_or_ack c s (slice_get xs 0) e else ack_resent c s e) in IsSegmentOf r x × IsSaidAt c s r e x) (sym is)
     (record { position = refl; syn = refl; fin = refl; rst = refl; payload = refl }, record { options = refl; acknowledged = refl })
+
+none_so : (c : Profile) (s : Side) (e : PathEnd) (rs : List Record) → rs ≡ [] → (if is_some_record rs then record_or_ack c s (slice_get rs 0) e else ack_resent c s e) ≡ ack_resent c s e
+none_so c s e rs is = ap (λ xs. if is_some_record xs then record_or_ack c s (slice_get xs 0) e else ack_resent c s e) is
+
+-- what is outstanding is so after an expiry
+still_outstanding : (now : ℕ) (e : PathEnd) → IsOutstanding e → IsOutstanding (record e { tcp = after_expiry now e.tcp })
+still_outstanding now e (outstanding.on_subflow first others is) =
+    outstanding.on_subflow (record first { sending = first_at_an_expiry first.sending }) (map unsent_again others) (ap expired_records is)
+still_outstanding now e (outstanding.on_stream first others is) = outstanding.on_stream first others is
+still_outstanding now e (outstanding.data_fin identity infinite sent unacked) = outstanding.data_fin identity infinite sent unacked
+still_outstanding now e (outstanding.shut is) = outstanding.shut is
+still_outstanding now e (outstanding.third is) = outstanding.third is
+still_outstanding now e (outstanding.fast_close is) = outstanding.fast_close is
 
 -- the end of this side, as its timer ran out for the sixth time or not
 abbrev fired : Bool → ℕ → PathEnd → PathEnd
@@ -82,6 +99,7 @@ module _ {C : Type 0} where
       record {
         again = λ few. record {
           next = h.next;
+          outstanding = λ out. subst IsOutstanding (sym (h.own ∙ own_end s f x.a x.b)) (still_outstanding x.clock e (subst IsOutstanding (sym same) out));
           timer = ap (λ (g : PathEnd). g.tcp.timing.timer) (h.own ∙ own_end s f x.a x.b)
               ∙ timer_so x.clock (settled y.agenda y).clock e (end_at s p) same h.clock;
         };
@@ -109,6 +127,7 @@ module _ {C : Type 0} where
       record {
         segment = resend_of s x;
         first = resent_so p.profile s (end_at s p) (end_at s p).tcp.send.records;
+        without = none_so p.profile s (end_at s p) (end_at s p).tcp.send.records;
         taken = settled_lasts LinkStays links_last y.agenda y;
       }
 

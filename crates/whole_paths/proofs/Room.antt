@@ -68,20 +68,20 @@ use Rattle.whole_paths.proofs.Duties.{answered_steps, passed_steps}
 
 -- ---- a window
 
--- of segments of this size it holds one, and its threshold too
-record HoldsOne (mss : ℕ) (w : Window) : Type 0 where
-  same : w.mss ≡ mss
-  least : mss ≤ w.window
+-- of segments of this size it holds one, and its threshold two
+pub record HoldsOne (mss : ℕ) (w : Window) : Type 0 where
+  pub same : w.mss ≡ mss
+  pub least : mss ≤ w.window
   greatest : w.window ≤ 1048576
-  threshold : mss ≤ w.ssthresh
+  pub threshold : 2 * mss ≤ w.ssthresh
 
 -- that of an end, and of both ends of a path
-abbrev Roomy : ℕ → EndState → Type 0
+abbrev pub Roomy : ℕ → EndState → Type 0
 Roomy mss s = HoldsOne mss s.congestion.reno
 
-record BothRoomy {C : Type 0} (mss : ℕ) (p : PathState C) : Type 0 where
-  a : Roomy mss p.a.tcp
-  b : Roomy mss p.b.tcp
+pub record BothRoomy {C : Type 0} (mss : ℕ) (p : PathState C) : Type 0 where
+  pub a : Roomy mss p.a.tcp
+  pub b : Roomy mss p.b.tcp
 
 module _ (mss : ℕ) (small : mss ≤ 65535) where
   opens_one : HoldsOne mss (reno.opening mss)
@@ -116,7 +116,7 @@ module _ (mss : ℕ) (small : mss ≤ 65535) where
   expired_one : (under_way : ℕ) (again : Bool) (w : Window) → HoldsOne mss w → HoldsOne mss (reno.after_expiry under_way again w)
   expired_one under_way again w h = record { same = h.same; least = (let same = h.same in omega (arith, same)); greatest = (let same = h.same in omega (arith, same, small)); threshold = by again }
     where
-      by : (c : Bool) → mss ≤ (if c then w.ssthresh else reno.ssthresh_after_loss under_way w)
+      by : (c : Bool) → 2 * mss ≤ (if c then w.ssthresh else reno.ssthresh_after_loss under_way w)
       by true = h.threshold
       by false = let same = h.same in omega (arith, same)
 
@@ -208,11 +208,11 @@ module _ (mss : ℕ) (small : mss ≤ 65535) where
 
 module _ {C : Type 0} where
   -- each window holds a segment of the path's size
-  record PathRoomy (p : PathState C) : Type 0 where
-    small : p.profile.mss ≤ 65535
-    both : BothRoomy p.profile.mss p
+  pub record PathRoomy (p : PathState C) : Type 0 where
+    pub small : p.profile.mss ≤ 65535
+    pub both : BothRoomy p.profile.mss p
 
-  abbrev MemberRoomy : Actor C → Type 0
+  abbrev pub MemberRoomy : Actor C → Type 0
   MemberRoomy = HoldsOfKind (λ app. Unit {0}) PathRoomy
 
   takes_on : (k : Codec C) (r : Reply) (p : PathState C) → PathRoomy p → PathRoomy (takes k r p)
@@ -240,7 +240,7 @@ module _ {C : Type 0} where
   member_next_on (App a) h = tt
   member_next_on (Path p) h = next_on p h
 
-  always_roomy : (k : Codec C) (start : Start) → NumbersFit start → (turns : List Turn) → Every (λ c. MemberRoomy c.member) (reached k start turns).crew
+  pub always_roomy : (k : Codec C) (start : Start) → NumbersFit start → (turns : List Turn) → Every (λ c. MemberRoomy c.member) (reached k start turns).crew
   always_roomy k start fit turns = run_lifted k (λ c. MemberRoomy c.member)
       (λ books c x asks h. member_takes_on k (answer_to books x) c.member h) (λ stamp c over h. member_next_on c.member h) turns (opened_world start)
       (opened_lifted (λ c. MemberRoomy c.member) start tt tt (λ number plan there.

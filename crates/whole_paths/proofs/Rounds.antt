@@ -6,7 +6,7 @@ use Rattle.whole_paths.specs.Rounds.{System, Course, Drives, ticks_for, WhatIsAw
 use Rattle.whole_paths.specs.Rounds.Course.{stays, steps, opens}
 use Rattle.whole_paths.proofs.PaidRounds.{what_is_paid_comes}
 
-ticks_up : (within n m : ℕ) → n ≤ m → ticks_for within n ≤ ticks_for within m
+pub ticks_up : (within n m : ℕ) → n ≤ m → ticks_for within n ≤ ticks_for within m
 ticks_up within n zero below = let none : n ≡ 0 = omega (arith, below) in subst (λ x. ticks_for within x ≤ ticks_for within 0) (sym none) (omega arith)
 ticks_up within n (suc m) below = ⊎_elim
     (λ low. let rest = ticks_up within n m (omega (arith, low)) in omega (arith, rest))

@@ -6,7 +6,7 @@ use Rattle.std.proofs.lemmas.Option.{same_Some}
 use Rattle.sides.specs.declared.side.Side.{Side}
 use Rattle.sides.specs.declared.side.Side.TheVariants.{A, B}
 use Rattle.sides.specs.Side.{peer}
-use Rattle.stream_lanes.specs.Words.{Has}
+use Rattle.stream_lanes.specs.Words.{Every, Has}
 use Rattle.dss_mapping.specs.Mappings.{mapping_at}
 use Rattle.subflow_recv.specs.Receiving.{octet_at}
 use Rattle.subflow_send.specs.Records.{Record, end_of, occupied, span_of}
@@ -41,7 +41,7 @@ use Rattle.whole_paths.specs.Delivery.{FinishedIsThere, HasFinished, IsAllThere}
 use Rattle.whole_paths.specs.Finish.{IsPathAt}
 use Rattle.whole_paths.specs.Kept.{AreKept, EndsKeepWhatWaits, IsSameRecord, KeepsWhatWaits}
 use Rattle.whole_paths.specs.Mapped.{EndsAreLive, IsMapped, IsToLearn}
-use Rattle.whole_paths.specs.Mending.{IsAllThereOf, IsMended, IsThereBy, IsToldBy, IsToldSoon, IsWell}
+use Rattle.whole_paths.specs.Mending.{IsAllThereOf, IsThereBy, IsToldBy, IsToldSoon, IsWell}
 use Rattle.whole_paths.specs.Mending.{IsThereBy as there_by, IsToldBy as told_by, IsToldSoon as told_soon, IsWell as well_by}
 use Rattle.whole_paths.specs.Mild.{EndsGoByMappings}
 use Rattle.whole_paths.specs.OnePathScripts.{BeginsWithOnePath}
@@ -72,6 +72,7 @@ use Rattle.whole_paths.proofs.RecordsWell.{each_record_stays_well}
 use Rattle.whole_paths.proofs.ToldSoon.{each_answer_comes_soon}
 use Rattle.whole_paths.proofs.RoundSteps.{Between, between, carried, early, far, none_comes, open_first, open_last, over_after, over_before, rounds_later, silent}
 use Rattle.whole_paths.proofs.WholeMappings.{mappings_are_whole}
+use Rattle.whole_paths.proofs.OpenTurns.{begun}
 
 -- ---- a record and the one that it became
 
@@ -91,7 +92,8 @@ same_mapped c s e r x same h =
       low = subst (λ n. n ≤ 2 ^ 62) (ap (λ m. place_numbered c s m.number + length x.piece) same.mapping ∙ ap (λ n. place_numbered c s r.mapping.number + n) size) h.low;
       mapped = h.mapped;
       finite = h.finite;
-      told = sym (ap (λ n. is_first_piece s (record x { pos = n }) e) same.pos) ∙ h.told;
+      few = subst (λ (o : List ℕ). length o ≤ 65475) same.piece h.few;
+      told = ⊎_elim (λ later. inl (sym (ap (λ n. is_first_piece s (record x { pos = n }) e) same.pos) ∙ later)) (λ keyed. inr keyed) h.told;
     }
 
 there_so : (s : Side) (r x : Record) (by : ℕ) (p : PathState Carried) → IsSameRecord r x → IsThereBy s x by p → IsThereBy s r by p
@@ -188,13 +190,18 @@ module _ (start : Start) (plan : PathPlan) (x : BeginsWithOnePath start plan) wh
   of_path turns p P here h = subst (HoldsOfKind (λ app. Unit {0}) P) here.is h
 
   -- an end that sent its FIN has its stream with the peer
-  pub if_may : (G : Type 0) (turns : List Turn) (p : PathState Carried) → IsPathAt 0 (at turns) p → IsOpen p → (s : Side) → (IsAllThere s (at turns) → G) → (may_finish (end_at s p).tcp.state ≡ true → G) → G
-  if_may G turns p here opened s over goes = by (may_finish (end_at s p).tcp.state) refl
+  pub if_may_so : (G : Type 0) (turns : List Turn) (p : PathState Carried) → IsPathAt 0 (at turns) p → (s : Side) → 3 ≤ stage (end_at s p).tcp.state → is_dead (end_at s p).tcp.state ≡ false → (IsAllThere s (at turns) → G)
+      → (may_finish (end_at s p).tcp.state ≡ true → G) → G
+  if_may_so G turns p here s past living over goes = by (may_finish (end_at s p).tcp.state) refl
     where
       by : (b : Bool) → may_finish (end_at s p).tcp.state ≡ b → G
       by true may = goes may
       by false behind = over (of_path turns p (FinishedIsThere (at turns)) here (what_is_finished_is_there start plan turns x.one x.mild 2 here.crew here.there) s
-          (HasFinished.sent_fin (open_behind (end_at s p).tcp.state (opened.past s) (opened.living s) behind) (opened.living s)))
+          (HasFinished.sent_fin (open_behind (end_at s p).tcp.state past living behind) living))
+
+  -- where both ends are open
+  pub if_may : (G : Type 0) (turns : List Turn) (p : PathState Carried) → IsPathAt 0 (at turns) p → IsOpen p → (s : Side) → (IsAllThere s (at turns) → G) → (may_finish (end_at s p).tcp.state ≡ true → G) → G
+  if_may G turns p here opened s over goes = if_may_so G turns p here s (opened.past s) (opened.living s) over goes
 
   pub unfinished : (turns : List Turn) (p : PathState Carried) → IsPathAt 0 (at turns) p → (s : Side) → may_finish (end_at s p).tcp.state ≡ true → (end_at s p).tcp.send.finished ≡ false
   unfinished turns p here s may = (of_path turns p (IsFirstPath start) here (each_first start turns x.mild.plain.size here.crew here.there)).may s may
@@ -247,13 +254,13 @@ module _ (start : Start) (plan : PathPlan) (x : BeginsWithOnePath start plan) wh
             let has = h.0 in
             let item = has.item in
             let of_data : item.kind ≡ Data = has.holds.kind ∙ kind in
-            let there = there_so s r item by q has.holds ((each_record_stays_well start turns turn (record { mild = x.mild; before = before; after = after }) s).comes item by (record { at = has.at; item = item; there = has.there; holds = refl }) of_data (there_so s item r by p (turned r item has.holds) h.1)) in
+            let there = there_so s r item by q has.holds ((each_record_stays_well start turns turn (begun start turns turn (record { mild = x.mild; before = before; after = after })) s).comes item by (record { at = has.at; item = item; there = has.there; holds = refl }) of_data (there_so s item r by p (turned r item has.holds) h.1)) in
             ⊎_elim
             (λ gone. inr (let low = gone.1 in let end = same_end r item has.holds in omega (arith, low, end)))
             (λ on. inl (record { at = on.at; item = on.item; there = on.there; holds = same_then r item on.item has.holds on.holds }, there))
             (kept_one _ (end_at s p).tcp.send.records (end_at s q).tcp.send.records kept.records has.at item has.there)
 
-  module _ (v u : List Turn) (rounds : Rounds start 4 v u) (s : Side) (p q : PathState Carried) (here : IsPathAt 0 (at v) p) (there : IsPathAt 0 (at u) q) (mended : IsMended p) where
+  module _ (v u : List Turn) (rounds : Rounds start 4 v u) (s : Side) (p q : PathState Carried) (here : IsPathAt 0 (at v) p) (there : IsPathAt 0 (at u) q) (mended : Every (IsWell s p) (end_at s p).tcp.send.records) where
     abbrev r : Side
     r = peer s
 
@@ -307,7 +314,7 @@ module _ (start : Start) (plan : PathPlan) (x : BeginsWithOnePath start plan) wh
               let high = found.high in omega (arith, zeroth, some, end, high, low))
 
       comes : IsThereBy s item (p.clock + 400) p
-      comes = of_well ((mended.records s).each found.at item found.there)
+      comes = of_well (mended.each found.at item found.there)
         where
           of_well : IsWell s p item → IsThereBy s item (p.clock + 400) p
           of_well (well_by.other none) = absurd (none of_data)
@@ -388,7 +395,7 @@ module _ (start : Start) (plan : PathPlan) (x : BeginsWithOnePath start plan) wh
     edge = (end_at (peer s) p).tcp.recv.edge
 
     follows : IsToldBy s edge (p.clock + 400) p → edge ≤ (end_at s q).tcp.send.una
-    follows h = by (carried start (IsToldBy s edge (p.clock + 400)) (λ turns turn before after. (each_answer_comes_soon start turns turn (record { mild = x.mild; before = before; after = after }) s).comes edge (p.clock + 400))
+    follows h = by (carried start (IsToldBy s edge (p.clock + 400)) (λ turns turn before after. (each_answer_comes_soon start turns turn (begun start turns turn (record { mild = x.mild; before = before; after = after })) s).comes edge (p.clock + 400))
         v told_between.more told_between.stays_open p q here (subst (λ t. IsPathAt 0 (at t) q) told_between.is there) h)
       where
         by : IsToldBy s edge (p.clock + 400) q → edge ≤ (end_at s q).tcp.send.una

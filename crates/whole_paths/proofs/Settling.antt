@@ -514,6 +514,14 @@ module _ {C : Type 0} (P R : PathEnd → Type 0) (rule : IsSettledBy P R) (F : S
       (λ held. held)
       h.ready.holds
 
+  -- and as an event comes, before which no timer is left to be settled
+  event_so : (s : Side) (p : PathState C) → Stands s p → (others : List Duty) → p.agenda ≡ duties.Step step_duties.Events ∷ others → P (end_at s p)
+  event_so s p h others first =
+      let ready = subst (λ ds. (is_kept s ds ≡ true) × ((settles_in s ds ≡ true) ⊎ P (end_at s p))) first (h.ready.kept, h.ready.holds) in ⊎_elim
+      (λ settled. absurd (true≢false (sym settled ∙ none_behind s (duties.Step step_duties.Events) others ready.0 refl)))
+      (λ held. held)
+      ready.1
+
   -- ---- the world
 
   abbrev IsStandingMember : Actor C → Type 0
@@ -535,12 +543,26 @@ module _ {C : Type 0} (P R : PathEnd → Type 0) (rule : IsSettledBy P R) (F : S
   member_so (App a) h = tt
   member_so (Path p) h = λ over s. over_so s p (h s) over
 
+  abbrev pub HoldsBefore : PathState C → Type 0
+  HoldsBefore p = (others : List Duty) → p.agenda ≡ duties.Step step_duties.Events ∷ others → (s : Side) → P (end_at s p)
+
+  member_before : (m : Actor C) → IsStandingMember m → HoldsOfKind (λ app. Unit {0}) HoldsBefore m
+  member_before (App a) h = tt
+  member_before (Path p) h = λ others first s. event_so s p (h s) others first
+
+  each_stands : (k : Codec C) (start : Start) (turns : List Turn) (actor : ℕ) (c : ActorCrew C) → slice_get (world_run k turns (opened_world start)).crew actor ≡ Some c → IsStandingMember c.member
+  each_stands k start turns actor c there =
+      (run_lifted k (λ c. IsStandingMember c.member) (λ books c x asks h. member_stands k (answer_to books x) c.member h) (λ stamp c over h. member_begins c.member h)
+      turns (opened_world start)
+      (opened_lifted (λ c. IsStandingMember c.member) start tt tt (λ number plan there. λ s. begins_ready s (waiting_path (path_begins start number plan) start.lines)))).each actor c there
+
+  pub each_event_finds : (k : Codec C) (start : Start) (turns : List Turn) (actor : ℕ) (c : ActorCrew C) → slice_get (world_run k turns (opened_world start)).crew actor ≡ Some c
+      → HoldsOfKind (λ app. Unit {0}) HoldsBefore c.member
+  each_event_finds k start turns actor c there = member_before c.member (each_stands k start turns actor c there)
+
   pub each_turn_ends : (k : Codec C) (start : Start) (turns : List Turn) (actor : ℕ) (c : ActorCrew C) → slice_get (world_run k turns (opened_world start)).crew actor ≡ Some c
       → HoldsOfKind (λ app. Unit {0}) HoldsBehind c.member
-  each_turn_ends k start turns actor c there = member_so c.member
-      ((run_lifted k (λ c. IsStandingMember c.member) (λ books c x asks h. member_stands k (answer_to books x) c.member h) (λ stamp c over h. member_begins c.member h)
-      turns (opened_world start)
-      (opened_lifted (λ c. IsStandingMember c.member) start tt tt (λ number plan there. λ s. begins_ready s (waiting_path (path_begins start number plan) start.lines)))).each actor c there)
+  each_turn_ends k start turns actor c there = member_so c.member (each_stands k start turns actor c there)
 
 -- ---- where nothing has to hold before
 
@@ -558,3 +580,10 @@ module _ {C : Type 0} (P : PathEnd → Type 0) (rule : IsSettled P) where
   pub each_turn_settles : (k : Codec C) (start : Start) (turns : List Turn) (actor : ℕ) (c : ActorCrew C) → slice_get (world_run k turns (opened_world start)).crew actor ≡ Some c
       → HoldsOfKind (λ app. Unit {0}) HoldsAtTheEnd c.member
   each_turn_settles = each_turn_ends P (λ e. Unit {0}) (by_timer P rule) (λ s ds p. Unit {0}) anyhow
+
+  abbrev pub HoldsAsAnEventComes : PathState C → Type 0
+  HoldsAsAnEventComes p = (others : List Duty) → p.agenda ≡ duties.Step step_duties.Events ∷ others → (s : Side) → P (end_at s p)
+
+  pub each_event_settles : (k : Codec C) (start : Start) (turns : List Turn) (actor : ℕ) (c : ActorCrew C) → slice_get (world_run k turns (opened_world start)).crew actor ≡ Some c
+      → HoldsOfKind (λ app. Unit {0}) HoldsAsAnEventComes c.member
+  each_event_settles = each_event_finds P (λ e. Unit {0}) (by_timer P rule) (λ s ds p. Unit {0}) anyhow

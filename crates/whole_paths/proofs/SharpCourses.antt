@@ -71,8 +71,8 @@ sharp_exchanges_end Mended Waits exchanges = (
     there : AllIsThereWithin sharp_allowance
     there start plan before more most begins lawful few whole last low many =
         let x = exchanges start plan most begins in
-        open_paid_exchanges_end start most (top start plan most (Mended start) (Waits start most)) (λ turns. AllIsThere (reached values start turns)) (IsPaid start plan most (Mended start) (Waits start most))
-        (Waits start most) begins.mild (paid start plan most (Mended start) (Waits start most) x begins) before more (record { harms = 0; mended = x.none_mended before; enough = omega arith }) lawful whole last
+        open_paid_exchanges_end start most (top start plan most (Mended start plan most) (Waits start plan most)) (λ turns. AllIsThere (reached values start turns)) (IsPaid start plan most (Mended start plan most) (Waits start plan most))
+        (Waits start plan most) begins.mild (paid start plan most (Mended start plan most) (Waits start plan most) x begins) before more (record { harms = 0; mended = x.none_mended before; enough = omega arith }) lawful whole last
         (λ s. let sent = subst (SentAtMost (length (before ++ more))) last.here.is (each_turn_sends_one_at_most values start (before ++ more) 2 last.here.crew last.here.there) s in omega (arith, sent, few))
         low (subst (λ plans. price_by start plans most < 100 * rounds_in more) begins.one many)
 

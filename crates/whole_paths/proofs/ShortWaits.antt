@@ -233,4 +233,4 @@ exchanges_go_on_so start plan most Owes Mends x debts well hears = sharp_by_debt
 -- ---- where nothing is owed
 
 pub what_is_not_owed_is_well : WhatIsNotOwedIsWell
-what_is_not_owed_is_well start turns h wide s = record { path = h.path; here = h.here; mended = none_owed h.path h.owes; wide = wide s }
+what_is_not_owed_is_well start turns h wide s = record { path = h.path; here = h.here; records = (none_owed h.path h.owes).records s; told = inl ((none_owed h.path h.owes).told s); wide = wide s }

@@ -1,5 +1,5 @@
 -- An answer that is owed goes, and comes unless it is harmed, by each turn between open ends; one that is overtaken came by what overtook it.
-use Rattle.std.proofs.Common.{◌≡◌, refl, sym, subst, ap, ◌∙◌, ◌⊎◌, inl, inr, ⊎_elim, ℕ, suc, ◌+◌, ◌<◌, ◌≤◌, arith, nat_lt, ◌==◌, ◌&&◌, ◌||◌, Bool, true, false, true≢false, Option, Some, None, IfSome, List, [], ◌∷◌, length, le_refl}
+use Rattle.std.proofs.Common.{◌≡◌, refl, sym, subst, ap, ◌∙◌, ◌⊎◌, inl, inr, ⊎_elim, ℕ, suc, ◌+◌, ◌<◌, ◌≤◌, arith, nat_lt, ◌==◌, ◌&&◌, ◌||◌, Bool, true, false, true≢false, Option, Some, None, IfSome, List, ◌∷◌, length, le_refl}
 use Rattle.std.specs.Prelude.{option_map}
 use Rattle.std.specs.List.{list_any}
 use Rattle.std.proofs.lemmas.Bool.{and_from, and_parts, both_ways, cases_lt, eq-eqb, le-leb, lt-ltb}
@@ -9,7 +9,7 @@ use Rattle.path_segments.specs.Laws.{meant}
 use Rattle.path_segments.specs.Spelled.{PlainSegment}
 use Rattle.path_segments.specs.declared.position.HeardPosition.TheVariants.{At}
 use Rattle.sides.specs.declared.side.Side.{Side}
-use Rattle.sides.specs.declared.side.Side.TheVariants.{A}
+use Rattle.sides.specs.declared.side.Side.TheVariants.{A, B}
 use Rattle.sides.specs.Side.{peer}
 use Rattle.link_script.specs.Places.{same_side}
 use Rattle.link_model.specs.declared.flight.Flight.{Flight}
@@ -54,11 +54,11 @@ use Rattle.whole_paths.specs.Copies.{GoesOnItsWay as copy}
 use Rattle.whole_paths.specs.Finish.{is_harmed}
 use Rattle.whole_paths.specs.Hearing.{Counts, PathsCount}
 use Rattle.whole_paths.specs.LastFin.{FinIsLast}
-use Rattle.whole_paths.specs.Mending.{AnswersStay, EachAnswerComesSoon, IsAnswerFor, IsSentSoon, IsToldBy, LeavesRoomFor}
+use Rattle.whole_paths.specs.Mending.{AnswersStay, EachAnswerComesSoon, IsAnswerFor, IsBegunTurn, IsSentSoon, IsToldBy, LeavesRoomFor}
 use Rattle.whole_paths.specs.Mending.IsToldBy.{heard, comes}
 use Rattle.whole_paths.specs.Mild.{IsMildStart, is_harsh}
 use Rattle.whole_paths.specs.News.{one_if}
-use Rattle.whole_paths.specs.OpenCourses.{IsOpenNow}
+use Rattle.whole_paths.specs.OpenCourses.{IsNow}
 use Rattle.whole_paths.specs.Owed.{IsToRefuse}
 use Rattle.whole_paths.specs.Owed.{IsToRefuse as refuse}
 use Rattle.whole_paths.specs.Saying.{HandsOver, PathsHandOver, SaysWhatCame}
@@ -80,6 +80,7 @@ use Rattle.whole_paths.proofs.Saying.{AllSpeak, Speaks, ToSend, duty_speaks, eac
 use Rattle.whole_paths.proofs.Saying.{Speaks as spoken}
 use Rattle.whole_paths.proofs.SentSoon.{numbered_so, segments_come_soon}
 use Rattle.whole_paths.proofs.SentWithin.{EndsWithin, SentWithin, all_sent_within}
+use Rattle.whole_paths.specs.Straying.{IsOpenFrom}
 
 not_opening : (state : EndPhase) → 3 ≤ stage state → is_opening state ≡ true → ⊥
 not_opening phase.SynSent high is = absurd (omega (arith, high))
@@ -94,15 +95,19 @@ heard_ack : (o : Option ℕ) (n : ℕ) → acknowledged_in (option_map (λ n. At
 heard_ack None n is = cc
 heard_ack (Some m) n is = is
 
--- an end sends nothing where an event is next
-never_event : (d : Duty) (ds others : List Duty) → d ∷ ds ≡ duties.Step step_duties.Events ∷ others → sends_on d ≡ true → ⊥
-never_event d ds others is sends = true≢false (sym sends ∙ ap (λ (xs : List Duty). first_on xs) is)
-  where
-    first_on : List Duty → Bool
-    first_on [] = false
-    first_on (d ∷ ds) = sends_on d
+-- a path sends nothing where an event is next
+never_event : (ds others : List Duty) (p : PathState Carried) (x : ToSend) → ds ≡ duties.Step step_duties.Events ∷ others → first_sends ds p ≡ Some x → ⊥
+never_event ds others p x is sends = (let none : first_sends ds p ≡ None = ap (λ (xs : List Duty). first_sends xs p) is in let both : None ≡ Some x = sym none ∙ sends in cc)
 
-module _ (start : Start) (mild : IsMildStart start) (turns : List Turn) (turn : Turn) (before : IsOpenNow (reached values start turns)) (after : IsOpenNow (after_turn values turn (reached values start turns))) (s : Side) where
+-- What an end says as it sends: unless it is a reset a segment acknowledges all that came; and where an acknowledgement is due it is harmed, or heard within 400
+-- ticks.
+pub record SaysSoon (s : Side) (p q : PathState Carried) : Type 0 where
+  pub acks : (x : ToSend) → first_sends p.agenda p ≡ Some x → x.from ≡ peer s → (q ≡ p) ⊎ ((segment_sent p x).rst ≡ false → (segment_sent p x).acknowledged ≡ Some (end_at (peer s) p).tcp.recv.edge)
+  pub owed : LeavesRoomFor s p → (end_at (peer s) p).tcp.due.ack ≡ true → (x : ToSend) → first_sends p.agenda p ≡ Some x → x.from ≡ peer s → (segment_sent p x).rst ≡ false
+      → (q ≡ p) ⊎ ((is_harmed (peer s) p q ≡ true) ⊎ IsToldBy s (end_at (peer s) p).tcp.recv.edge (p.clock + 400) q)
+
+module _ (start : Start) (mild : IsMildStart start) (turns : List Turn) (turn : Turn) {Holds : PathState Carried → Type 0} (before : IsNow Holds (reached values start turns)) (after : IsNow Holds (after_turn values turn (reached values start turns)))
+    (open_p : IsOpenFrom B before.path) (open_q : IsOpenFrom B after.path) (s : Side) where
   abbrev w : WorldState Carried
   w = reached values start turns
 
@@ -140,7 +145,7 @@ module _ (start : Start) (mild : IsMildStart start) (turns : List Turn) (turn : 
   acks_first = holds_p start mild turns turn before after AcksGoFirst (copies_are_answered values start turns).first
 
   clears : (u : Side) → Clears u p.agenda (end_at u p)
-  clears = (subst MemberClears before.here.is ((each_clears values start turns).each 2 before.here.crew before.here.there)) before.is_open.first
+  clears = (subst MemberClears before.here.is ((each_clears values start turns).each 2 before.here.crew before.here.there)) open_p.first
 
   edge_later : (end_at s p).tcp.recv.edge ≤ (end_at s q).tcp.recv.edge
   edge_later = edge_up start mild turns turn before after s
@@ -162,7 +167,7 @@ module _ (start : Start) (mild : IsMildStart start) (turns : List Turn) (turn : 
     where
       says : (segment_sent p x).rst ≡ false → SaysWhatCame (end_at x.from p) (segment_sent p x) → (segment_sent p x).acknowledged ≡ Some (end_at t p).tcp.recv.edge
       says rst (said_so.acknowledges acks none) = acks ∙ ap (λ u. Some (end_at u p).tcp.recv.edge) from
-      says rst (said_so.opens state none) = absurd (not_opening (end_at t p).tcp.state (before.is_open.past t) (subst (λ u. is_opening (end_at u p).tcp.state ≡ true) from state))
+      says rst (said_so.opens state none) = absurd (not_opening (end_at t p).tcp.state (open_p.past t) (subst (λ u. is_opening (end_at u p).tcp.state ≡ true) from state))
       says rst (said_so.resets is) = absurd (true≢false (sym is ∙ rst))
       says rst (said_so.refuses answer some is) =
           let tells : AnswerTells answer = subst (λ (o : Option Outgoing). IfSome o AnswerTells) some (facts.tells x.from).treated.answer in absurd (true≢false (sym tells.rst ∙ sym is ∙ rst))
@@ -212,9 +217,9 @@ module _ (start : Start) (mild : IsMildStart start) (turns : List Turn) (turn : 
         acknowledged = h.up_to;
         taken = inl (
           at,
-          ap (λ j. judged_of j said.rst (items_of j listener said) (meaning_of (copy_of said) hearer.tcp) hearer) before.is_open.first
+          ap (λ j. judged_of j said.rst (items_of j listener said) (meaning_of (copy_of said) hearer.tcp) hearer) open_p.first
               ∙ ap (λ m. judged.As m) (taken_so (copy_of said) hearer.tcp at h.up_to
-              (subst (λ u. 2 ≤ stage (end_at u p).tcp.state) (sym h.to) (let past = before.is_open.past s in omega (arith, past))) (subst (λ u. is_dead (end_at u p).tcp.state ≡ false) (sym h.to) (before.is_open.living s))
+              (subst (λ u. 2 ≤ stage (end_at u p).tcp.state) (sym h.to) (let past = open_p.past s in omega (arith, past))) (subst (λ u. is_dead (end_at u p).tcp.state ≡ false) (sym h.to) (open_p.living s))
               (below_limit p facts listener) h.syn h.rst refl (ap (λ (o : Option ℕ). acknowledged_in (option_map (λ n. At n) o)) h.acknowledged) accepted some
               (subst (λ u. h.up_to ≤ (end_at u p).tcp.send.nxt) (sym h.to) (acked_sent f h.up_to here h.to h.rst h.acknowledged).1)),
         );
@@ -252,7 +257,7 @@ module _ (start : Start) (mild : IsMildStart start) (turns : List Turn) (turn : 
       words = options_heard taker over.brings.copy.segment
 
       is_meant : meaning_of (copy_of words) taker.tcp ≡ means.Taken over.brings.position over.brings.acknowledged
-      is_meant = ap taken_as (sym (ap (λ j. judged_of j words.rst (items_of j due_to words) (meaning_of (copy_of words) taker.tcp) taker) before.is_open.first) ∙ over.brings.taken)
+      is_meant = ap taken_as (sym (ap (λ j. judged_of j words.rst (items_of j due_to words) (meaning_of (copy_of words) taker.tcp) taker) open_p.first) ∙ over.brings.taken)
 
       means_it : MeansIs (copy_of words) taker.tcp (means.Taken over.brings.position over.brings.acknowledged)
       means_it = subst (MeansIs (copy_of words) taker.tcp) is_meant (means_so (copy_of words) taker.tcp)
@@ -282,7 +287,7 @@ module _ (start : Start) (mild : IsMildStart start) (turns : List Turn) (turn : 
               let fin_is = ap (λ (y : HeardSegment). one_if y.fin) same in
               let rst_is : g.carried.segment.rst ≡ false = ap (λ (y : HeardSegment). y.rst) same ∙ m.1.1.0 in
               let acks = heard_ack g.carried.segment.acknowledged over.brings.acknowledged (ap (λ (y : HeardSegment). (copy_of (options_heard taker y)).acknowledged) same ∙ m.1.1.1.1) in
-              let some = over.some in let past = over.past in
+              let some = over.over.0 in let past = over.over.1 in
               let as_much = h.overtaken g found.0 to_s rst_is (omega (arith, some, payload_is, fin_is)) (omega (arith, past, position_is, payload_is, fin_is)) in
               let n_is = same_Some as_much.0 over.brings.acknowledged (sym as_much.1 ∙ acks) in let enough = as_much.2 in
               heard_by over.brings.acknowledged (omega (arith, enough, n_is)) due_to over.to (counts.counts (record { copy = over.brings.copy; acknowledged = over.brings.acknowledged; taken = inl (over.brings.position, over.brings.taken) }))
@@ -329,9 +334,9 @@ module _ (start : Start) (mild : IsMildStart start) (turns : List Turn) (turn : 
     goes_on : GoesOnItsWay f p q → Told
     goes_on (copy.on on) = ⊎_elim (λ low. still low on) (λ over. overtaken over)
         (by_turn start mild turns turn before after (BelowTo values at) (ends_stay_below values at w turn 2 before.here.crew before.here.there) s
-        (record { recv = record { edge = h.from; kept = h.kept }; held = h.held; fin = h.heard }) (before.is_open.past s))
+        (record { recv = record { edge = h.from; kept = h.kept }; held = h.held; fin = h.heard }) (open_p.past s))
     goes_on (copy.arrives others first next) = arrives others first next
-    goes_on (copy.dies line next is dead) = absurd (both_ways (is_dead q.a.tcp.state) (after.is_open.living A) dead)
+    goes_on (copy.dies line next is dead) = absurd (both_ways (is_dead q.a.tcp.state) (open_q.living A) dead)
 
   told_on : (position tick : ℕ) → IsToldBy s position tick p → IsToldBy s position tick q
   told_on position tick (heard low) = heard (let up = una_up start mild turns turn before after s in omega (arith, low, up))
@@ -343,7 +348,10 @@ module _ (start : Start) (mild : IsMildStart start) (turns : List Turn) (turn : 
     abbrev Goes : Type 0
     Goes = ((end_at t q).tcp.due.ack ≡ true) ⊎ ((is_harmed t p q ≡ true) ⊎ IsToldBy s (end_at t p).tcp.recv.edge (p.clock + 400) q)
 
-    module _ (d : Duty) (others : List Duty) (first : p.agenda ≡ d ∷ others) (on : sends_on d ≡ true) (x : ToSend) (sends : first_sends p.agenda p ≡ Some x) (own : x.from ≡ t) where
+    module _ (x : ToSend) (sends : first_sends p.agenda p ≡ Some x) (own : x.from ≡ t) where
+      abbrev Heard : Type 0
+      Heard = (is_harmed t p q ≡ true) ⊎ IsToldBy s (end_at t p).tcp.recv.edge (p.clock + 400) q
+
       abbrev next : ℕ
       next = (end_at t p).tcp.send.nxt
 
@@ -373,12 +381,12 @@ module _ (start : Start) (mild : IsMildStart start) (turns : List Turn) (turn : 
               ((end_at t p).tcp.recv.edge, header.acknowledged ∙ ap (λ (z : ToSend). (segment_sent p z).acknowledged) (sym same) ∙ acks, le_refl (end_at t p).tcp.recv.edge)
 
       -- it acknowledges and nothing more
-      flies : sent.acknowledged ≡ Some (end_at t p).tcp.recv.edge → sent.rst ≡ false → IsBareAck p.profile t (end_at t p) sent → IsBelow next (end_at s q).tcp → IsSentSoon values t sent p q → Goes
+      flies : sent.acknowledged ≡ Some (end_at t p).tcp.recv.edge → sent.rst ≡ false → IsBareAck p.profile t (end_at t p) sent → IsBelow next (end_at s q).tcp → IsSentSoon values t sent p q → Heard
       flies acks rst (bare.resets is) low h = absurd (true≢false (sym is ∙ rst))
       flies acks rst (bare.acks is) low h =
           let header : SameHeader sent h.copy.carried.segment = changed_said p.profile.spelling t sent h.stripped h.altered h.copy.carried h.carried in
           let at : h.copy.carried.segment.position ≡ next = header.position ∙ ap (λ (y : PlainSegment). y.position) is in
-          inr (inr (comes h.copy h.there (record {
+          inr (comes h.copy h.there (record {
             to = h.to ∙ sender_of s;
             up_to = (end_at t p).tcp.recv.edge;
             acknowledged = header.acknowledged ∙ acks;
@@ -394,31 +402,38 @@ module _ (start : Start) (mild : IsMildStart start) (turns : List Turn) (turn : 
             held = λ pos octet has. ⊎_elim (λ few. inl (omega (arith, few, at))) (λ over. inr over) (low.held pos octet has);
             heard = λ pos has. (let few = low.fin pos has in omega (arith, few, at));
             overtaken = λ g here to reset some past. none_past acks g here to reset some (omega (arith, past, at));
-          }) h.soon))
+          }) h.soon)
 
       -- no copy is taken in the turn
       not_over : Overtakes values next s p → ⊥
-      not_over over = never_event d others over.brings.copy.others (sym first ∙ over.brings.copy.first) on
+      not_over over = never_event p.agenda over.brings.copy.others p x over.brings.copy.first sends
 
-      is_taken : sent.acknowledged ≡ Some (end_at t p).tcp.recv.edge → sent.rst ≡ false → q.link ≡ handed values t sent p → Goes
+      is_taken : sent.acknowledged ≡ Some (end_at t p).tcp.recv.edge → sent.rst ≡ false → q.link ≡ handed values t sent p → Heard
       is_taken acks rst link = ⊎_elim
-          (λ low. ⊎_elim (λ harmed. inr (inl harmed)) (λ h. flies acks rst is_bare low h) (segments_come_soon values p q (numbered_so p facts.link) t sent (before.few t) link))
+          (λ low. ⊎_elim (λ harmed. inl harmed) (λ h. flies acks rst is_bare low h) (segments_come_soon values p q (numbered_so p facts.link) t sent (before.few t) link))
           (λ over. absurd (not_over over))
-          (by_turn start mild turns turn before after (BelowTo values next) (ends_stay_below values next w turn 2 before.here.crew before.here.there) s below (before.is_open.past s))
+          (by_turn start mild turns turn before after (BelowTo values next) (ends_stay_below values next w turn 2 before.here.crew before.here.there) s below (open_p.past s))
         where
           is_bare : IsBareAck p.profile t (end_at t p) (segment_sent p x)
-          is_bare = subst (λ (o : Option ToSend). IfSome o (λ y. y.from ≡ t → IsBareAck p.profile t (end_at t p) (segment_sent p y))) sends (acks_first t (before.is_open.living t) due) own
+          is_bare = subst (λ (o : Option ToSend). IfSome o (λ y. y.from ≡ t → IsBareAck p.profile t (end_at t p) (segment_sent p y))) sends (acks_first t (open_p.living t) due) own
+
+      goes_soon : sent.rst ≡ false → (q ≡ p) ⊎ Heard
+      goes_soon rst = ⊎_elim
+          (λ same. inl same)
+          (λ acks. ⊎_elim (λ same. inl same) (λ taken. inr (is_taken (acks rst) rst (subst (λ u. q.link ≡ handed values u (segment_sent p x) p) own taken.0)))
+          (subst (λ (o : Option ToSend). IfSome o (λ y. (q ≡ p) ⊎ ((q.link ≡ handed values y.from (segment_sent p y) p) × SaysWhatCame (end_at y.from p) (segment_sent p y)))) sends hands.sends))
+          (segment_acks x sends own)
 
       speaks_so : Speaks (end_at t p) sent → q.link ≡ handed values t sent p → Goes
-      speaks_so (spoken.acks acks rst) link = is_taken acks rst link
-      speaks_so (spoken.syns state none) link = absurd (not_opening (end_at t p).tcp.state (before.is_open.past t) state)
+      speaks_so (spoken.acks acks rst) link = inr (is_taken acks rst link)
+      speaks_so (spoken.syns state none) link = absurd (not_opening (end_at t p).tcp.state (open_p.past t) state)
 
       refused : IsToRefuse t p.agenda → Goes
-      refused (refuse.refuses rest is) = absurd (true≢false (sym (ap (λ ds. list_any is_harsh ds) is) ∙ (unbroken_p start mild turns turn before after).duties))
-      refused (refuse.answers rest is) = absurd (never_refuses p t clears (before.is_open.living t) rest is)
+      refused (refuse.refuses rest is) = absurd (true≢false (sym (ap (λ ds. list_any is_harsh ds) is) ∙ (unbroken_p start mild turns turn before after open_p.first).duties))
+      refused (refuse.answers rest is) = absurd (never_refuses p t clears (open_p.living t) rest is)
 
-      is_sent : side_of d ≡ t → Goes
-      is_sent side = ⊎_elim (λ same. inl (subst (λ (y : PathState Carried). (end_at t y).tcp.due.ack ≡ true) (sym same) due)) (λ taken. by (resets_by d) refl (subst (λ u. q.link ≡ handed values u (segment_sent p x) p) own taken.0))
+      is_sent : (d : Duty) (others : List Duty) → p.agenda ≡ d ∷ others → sends_on d ≡ true → side_of d ≡ t → Goes
+      is_sent d others first on side = ⊎_elim (λ same. inl (subst (λ (y : PathState Carried). (end_at t y).tcp.due.ack ≡ true) (sym same) due)) (λ taken. by (resets_by d) refl (subst (λ u. q.link ≡ handed values u (segment_sent p x) p) own taken.0))
           (subst (λ (o : Option ToSend). IfSome o (λ y. (q ≡ p) ⊎ ((q.link ≡ handed values y.from (segment_sent p y) p) × SaysWhatCame (end_at y.from p) (segment_sent p y)))) sends hands.sends)
         where
           by : (b : Bool) → resets_by d ≡ b → q.link ≡ handed values t (segment_sent p x) p → Goes
@@ -427,14 +442,21 @@ module _ (start : Start) (mild : IsMildStart start) (turns : List Turn) (turn : 
 
     owed_goes : StillOwed t p q → Goes
     owed_goes (owing.keeps d others first other h) = inl (h due)
-    owed_goes (owing.has_died gone) = absurd (both_ways (is_dead (end_at t q).tcp.state) (after.is_open.living t) gone)
-    owed_goes (owing.is_sent d others first on side x sends own) = is_sent d others first on x sends own side
-    owed_goes (owing.is_done is) = absurd (both_ways (end_at t p).tcp.due.ack ((holds_p start mild turns turn before after HasAnswered (copies_are_answered values start turns).each is t (before.is_open.living t)).ack) due)
+    owed_goes (owing.has_died gone) = absurd (both_ways (is_dead (end_at t q).tcp.state) (open_q.living t) gone)
+    owed_goes (owing.is_sent d others first on side x sends own) = is_sent x sends own d others first on side
+    owed_goes (owing.is_done is) = absurd (both_ways (end_at t p).tcp.due.ack ((holds_p start mild turns turn before after HasAnswered (copies_are_answered values start turns).each is t (open_p.living t)).ack) due)
     owed_goes (owing.rests same) = inl (subst (λ (y : PathState Carried). (end_at t y).tcp.due.ack ≡ true) (sym same) due)
+
+  pub says_soon : SaysSoon s p q
+  says_soon = record { acks = segment_acks; owed = λ room due x sends own rst. goes_soon room due x sends own rst }
 
   answers_stay : AnswersStay s p q
   answers_stay = record { comes = told_on; owed = λ room due. owed_goes room due (turned.owing t) }
 
 pub each_answer_comes_soon : EachAnswerComesSoon
 each_answer_comes_soon start turns turn h s =
-    subst (λ (u : WorldState Carried). (a : IsOpenNow u) → AnswersStay s h.before.path a.path) (sym (last start h.mild turns turn)) (λ a. answers_stay start h.mild turns turn h.before a s) h.after
+    subst (λ (u : WorldState Carried). (a : IsNow (IsOpenFrom B) u) → AnswersStay s h.before.path a.path) (sym (last start h.mild turns turn)) (λ a. answers_stay start h.mild turns turn h.before a h.before.is_open a.is_open s) h.after
+
+pub each_end_says_soon : (start : Start) (turns : List Turn) (turn : Turn) (h : IsBegunTurn start turns turn) (s : Side) → SaysSoon s h.before.path h.after.path
+each_end_says_soon start turns turn h s =
+    subst (λ (u : WorldState Carried). (a : IsNow (IsOpenFrom B) u) → SaysSoon s h.before.path a.path) (sym (last start h.mild turns turn)) (λ a. says_soon start h.mild turns turn h.before a h.before.is_open a.is_open s) h.after

@@ -2,6 +2,7 @@
 use Rattle.std.proofs.Common.{◌≡◌, sym, subst, ◌⊎◌, inl, inr, ⊎_elim, ℕ, ◌+◌, ◌<◌, ◌≤◌, arith, true, List}
 use Rattle.std.proofs.lemmas.Bool.{cases_lt}
 use Rattle.sides.specs.declared.side.Side.{Side}
+use Rattle.sides.specs.declared.side.Side.TheVariants.{B}
 use Rattle.sides.specs.Side.{peer}
 use Rattle.subflow_tcp.specs.State.{is_fin_passed}
 use Rattle.path_core.specs.State.{PathState, end_at}
@@ -14,7 +15,7 @@ use Rattle.whole_paths.specs.Mending.{AnswersStay, IsToldBy, IsToldSoon}
 use Rattle.whole_paths.specs.Mending.{IsToldBy as told_by}
 use Rattle.whole_paths.specs.Mending.{IsToldSoon as told_soon}
 use Rattle.whole_paths.specs.OnePathScripts.{BeginsWithOnePath}
-use Rattle.whole_paths.specs.OpenCourses.{IsOpenNow}
+use Rattle.whole_paths.specs.OpenCourses.{IsNow}
 use Rattle.whole_paths.specs.ToldStays.{ToldStays, WhoIsToldStaysTold}
 use Rattle.whole_paths.proofs.FinPlaces.{FinsStay, FinsStayMember, fins_stay, still_past}
 use Rattle.whole_paths.proofs.MoreOwed.{what_rises_is_owed}
@@ -22,19 +23,20 @@ use Rattle.whole_paths.proofs.RecordWaits.{edge_up, last}
 use Rattle.whole_paths.proofs.RecordsWell.{by_turn, each_record_stays_well}
 use Rattle.whole_paths.proofs.ToldSoon.{each_answer_comes_soon}
 use Rattle.whole_paths.proofs.WindowRoom.{each_window_has_room}
+use Rattle.whole_paths.specs.Straying.{IsOpenFrom}
 
 pub told_later : (s : Side) (position first later : ℕ) (p : PathState Carried) → first ≤ later → IsToldBy s position first p → IsToldBy s position later p
 told_later s position first later p low (told_by.heard h) = told_by.heard h
 told_later s position first later p low (told_by.comes copy there answers soon) = told_by.comes copy there answers (omega (arith, soon, low))
 
-module _ (start : Start) (plan : PathPlan) (x : BeginsWithOnePath start plan) (turns : List Turn) (turn : Turn) (before : IsOpenNow (reached values start turns)) (s : Side) where
+module _ (start : Start) (plan : PathPlan) (x : BeginsWithOnePath start plan) (turns : List Turn) (turn : Turn) (before : IsNow (IsOpenFrom B) (reached values start turns)) (s : Side) where
   abbrev w : WorldState Carried
   w = reached values start turns
 
   abbrev p : PathState Carried
   p = before.path
 
-  module _ (after : IsOpenNow (after_turn values turn w)) (answers : AnswersStay s p after.path) (clock : p.clock ≤ after.path.clock) where
+  module _ (after : IsNow (IsOpenFrom B) (after_turn values turn w)) (answers : AnswersStay s p after.path) (clock : p.clock ≤ after.path.clock) where
     abbrev q : PathState Carried
     q = after.path
 
@@ -79,5 +81,5 @@ module _ (start : Start) (plan : PathPlan) (x : BeginsWithOnePath start plan) (t
 
 pub who_is_told_stays_told : WhoIsToldStaysTold
 who_is_told_stays_told start plan turns turn x h s =
-    subst (λ (u : WorldState Carried). (a : IsOpenNow u) → AnswersStay s h.before.path a.path → h.before.path.clock ≤ a.path.clock → ToldStays s h.before.path a.path) (sym (last start h.mild turns turn))
+    subst (λ (u : WorldState Carried). (a : IsNow (IsOpenFrom B) u) → AnswersStay s h.before.path a.path → h.before.path.clock ≤ a.path.clock → ToldStays s h.before.path a.path) (sym (last start h.mild turns turn))
     (λ a answers clock. stays start plan x turns turn h.before s a answers clock) h.after (each_answer_comes_soon start turns turn h s) (each_record_stays_well start turns turn h s).clock

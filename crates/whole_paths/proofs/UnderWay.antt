@@ -27,15 +27,17 @@ use Rattle.path_core.specs.Looking.{duty_sends, first_sends, segment_sent, Hands
 use Rattle.path_core.specs.MpJoin.{is_never, keys_begun, never_joined, opened_by}
 use Rattle.path_core.specs.Shown.{AltersNothing}
 use Rattle.path_core.specs.State.{PathState, at_tick, goes_on, with_agenda}
-use Rattle.path_core.specs.Steps.{next_round, settled, takes}
+use Rattle.path_core.specs.Start.{waiting_path}
+use Rattle.path_core.specs.Steps.{begins_turn, next_round, settled, takes}
 use Rattle.path_core.specs.Values.{Carried, altered, carried_by, stripped, values}
 use Rattle.path_core.specs.declared.events.Event.{Event}
 use Rattle.path_core.specs.declared.events.Event.TheVariants as happenings
 use Rattle.path_core.proofs.SegmentsTold.{each_segment_is_told}
 use Rattle.world_laws.specs.NeverFalls.{StripsNothing}
+use Rattle.world_laws.specs.Openings.{PathPlan, Start, path_begins}
 use Rattle.world_laws.proofs.Keys.Held.{in_removed}
 use Rattle.world_laws.proofs.Lanes.Saying.{handed_kept}
-use Rattle.world_laws.proofs.Writes.Steps.{settled_lasts}
+use Rattle.world_laws.proofs.Writes.Steps.{begins_lasts, settled_lasts}
 use Rattle.whole_paths.proofs.Came.{quiet_link}
 use Rattle.whole_paths.proofs.Copies.{LinkStays, links_last}
 use Rattle.whole_paths.proofs.Pieces.{is_event}
@@ -124,3 +126,9 @@ module _ (P : Flight Carried → Type 0) where
   -- and as the next round begins
   pub next_all : (p : PathState Carried) → AllUnderWay p → AllUnderWay (next_round p)
   next_all p h = let q : PathState Carried = record p { clock = p.until; until = p.until + 100 } in settled_all start_of_turn (with_agenda start_of_turn q) h
+
+-- none is as a path begins
+pub none_begins : (P : Flight Carried → Type 0) (start : Start) (number : ℕ) (plan : PathPlan) → Every P (begins_turn (waiting_path (path_begins start number plan) start.lines)).link.under_way
+none_begins P start number plan =
+    let p : PathState Carried = waiting_path (path_begins start number plan) start.lines in
+    subst (λ (l : LinkState Carried). Every P l.under_way) (sym (begins_lasts LinkStays links_last p)) (record { each = λ i f there. cc })

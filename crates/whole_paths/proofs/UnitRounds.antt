@@ -27,14 +27,15 @@ use Rattle.whole_paths.specs.News.{one_if}
 use Rattle.whole_paths.specs.Mild.{IsMildStart}
 use Rattle.whole_paths.specs.OnePathScripts.{BeginsWithOnePath}
 use Rattle.whole_paths.specs.OpenCourses.{IsOpenAfter}
-use Rattle.whole_paths.specs.SegmentRounds.{IsRound, IsWellAfter, Rounds, StaysOpen, read_after}
+use Rattle.whole_paths.specs.SegmentRounds.{IsHeard, IsRound, IsWellAfter, Rounds, StaysOpen, read_after}
 use Rattle.whole_paths.specs.SharpCourses.{most_units, segments_read, stream_units, units}
 use Rattle.whole_paths.specs.UnitRounds.{AUnitIsMade, AllUnitsAreThere, IsAllWell, ShortWaitsGoOn, WaitsGoOn, WellRounds, WhatIsToldIsHeard}
 use Rattle.whole_paths.proofs.Delivery.{bounds_at}
 use Rattle.whole_paths.proofs.EndRounds.{an_end_is_told}
 use Rattle.whole_paths.proofs.News.{known_up, one_most, one_up}
 use Rattle.whole_paths.proofs.ReadSegments.{a_segment_is_read}
-use Rattle.whole_paths.proofs.RoundSteps.{Between, between, far, rounds_later, steps_later}
+use Rattle.whole_paths.proofs.RoundSteps.{Between, between, each_round_reads, far, rounds_later, steps_later, then_between, there_whole}
+use Rattle.whole_paths.proofs.SegmentRounds.{stays_there}
 use Rattle.whole_paths.proofs.SegmentsRead.{segments_few, segments_up, stream_few}
 use Rattle.whole_paths.proofs.Courses.{round_next}
 
@@ -223,23 +224,23 @@ module _ (start : Start) (plan : PathPlan) (x : BeginsWithOnePath start plan) wh
     last_round = between start 0 last_part.between_them u (rounds_of start Well 1 last_part.between_them u last_part.rest)
 
     -- a stream of which bytes are left
-    reads : (s : Side) → read_after start s v < length (pick s start.file_a start.file_b) → units_of s v < units_of s u
-    reads s left =
+    reads : (s : Side) → IsHeard start plan s v a_part.between_them → read_after start s v < length (pick s start.file_a start.file_b) → units_of s v < units_of s u
+    reads s heard left =
         let more = a_segment_is_read start plan x s v a_part.between_them b_part.between_them last_part.between_them first_rounds second_rounds third_rounds (well_v s)
-        (so b_part.between_them (well_after start Well 7 v b_part.between_them b_part.first) s) (hears.heard s v a_part.between_them a_part.first) in
+        (so b_part.between_them (well_after start Well 7 v b_part.between_them b_part.first) s) heard in
         let up = ((far start last_part.between_them u last_round).sides (peer s)).arrival.read in
         units_rise s v u all_between (inl (segment_rises plan.mss (length (pick s start.file_a start.file_b)) (read_after start s v) (read_after start s u) left (omega (arith, more, up, room))))
 
     -- one that is read
-    ends : (s : Side) → length (pick s start.file_a start.file_b) ≤ read_after start s v → HasAllUnits s v ⊎ (units_of s v < units_of s u)
-    ends s all = by_closed (written_by s (at v)).closed refl
+    ends : (s : Side) → IsHeard start plan s v a_part.between_them → length (pick s start.file_a start.file_b) ≤ read_after start s v → HasAllUnits s v ⊎ (units_of s v < units_of s u)
+    ends s heard all = by_closed (written_by s (at v)).closed refl
       where
         acked : length (pick s start.file_a start.file_b) ≤ acked_len (written_by s (at a_part.between_them)).marks
-        acked = (let came = (hears.heard s v a_part.between_them a_part.first).acked in let low : read_after start s v ≤ received (arrived_at (peer s) (at v)) = omega arith in omega (arith, came, low, all))
+        acked = (let came = heard.acked in let low : read_after start s v ≤ received (arrived_at (peer s) (at v)) = omega arith in omega (arith, came, low, all))
 
         comes : AnEndComes start s b_part.between_them end_part.between_them
         comes = an_end_is_told start plan x s v a_part.between_them b_part.between_them end_part.between_them first_rounds second_rounds
-            (rounds_of start Well 4 b_part.between_them end_part.between_them end_part.first) (well_v s).path (well_v s).here (well_v s).mended all acked (hears.fins s b_part.between_them end_part.between_them end_part.first)
+            (rounds_of start Well 4 b_part.between_them end_part.between_them end_part.first) (well_v s).path (well_v s).here (well_v s).told all acked (hears.fins s b_part.between_them end_part.between_them end_part.first)
 
         to_end : Between start b_part.between_them u
         to_end = between start 5 b_part.between_them u (rounds_of start Well 6 b_part.between_them u (joined_rounds b_part.rest last_part.rest))
@@ -268,8 +269,22 @@ module _ (start : Start) (plan : PathPlan) (x : BeginsWithOnePath start plan) wh
         by_closed true closed = by_known closed (is_some (arrived_at (peer s) (at v)).known_end) refl
         by_closed false still_open = inr (units_rise s v u all_between (inr (inl (one_rises (written_by s (at v)).closed (written_by s (at u)).closed still_open closed_last))))
 
+    -- one that is there is read in the last round
+    has_all : (s : Side) → IsAllThere s (at a_part.between_them) → HasAllUnits s v ⊎ (units_of s v < units_of s u)
+    has_all s there =
+        let before = stays_there start plan x a_part.between_them last_part.between_them s
+        (then_between start a_part.between_them b_part.between_them last_part.between_them (between start 1 a_part.between_them b_part.between_them second_rounds) (between start 4 b_part.between_them last_part.between_them third_rounds)) there in
+        let after = stays_there start plan x last_part.between_them u s last_round before in
+        let whole = there_whole start last_part.between_them s before in
+        let read = each_round_reads start plan last_part.between_them u x (subst (λ t. IsRound start t u) (sym last_part.rest.1.0.0) last_part.rest.1.1.0) s in
+        let full = all_units u s (omega (arith, whole, read)) after.closed (ap (λ o. is_some o) after.known) in
+        ⊎_elim (λ less. inr (omega (arith, full, less))) (λ all. inl all) (cases_lt (units_of s v) (segments plan.mss (length (pick s start.file_a start.file_b)) + 2))
+
     of_side : (s : Side) → HasAllUnits s v ⊎ (units_of s v < units_of s u)
-    of_side s = ⊎_elim (λ left. inr (reads s left)) (ends s) (cases_lt (read_after start s v) (length (pick s start.file_a start.file_b)))
+    of_side s = ⊎_elim
+        (λ there. has_all s there)
+        (λ heard. ⊎_elim (λ left. inr (reads s heard left)) (ends s heard) (cases_lt (read_after start s v) (length (pick s start.file_a start.file_b))))
+        (hears.heard s v a_part.between_them a_part.first)
 
     pub unit_more : (most_units start plan ≤ units start plan (at v)) ⊎ (units start plan (at v) < units start plan (at u))
     unit_more =

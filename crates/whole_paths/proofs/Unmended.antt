@@ -28,7 +28,7 @@ use Rattle.whole_paths.proofs.Arrivals.{sender_of}
 use Rattle.whole_paths.proofs.Counted.{harmed_snoc}
 use Rattle.whole_paths.proofs.FinPlaces.{FinsStay, FinsStayMember, fins_stay, still_past}
 use Rattle.whole_paths.proofs.GoesOn.{goes_on_so}
-use Rattle.whole_paths.proofs.OpenTurns.{now, with_both}
+use Rattle.whole_paths.proofs.OpenTurns.{now, with_both, begun}
 use Rattle.whole_paths.proofs.Losing.{harms_alone_lose_records}
 use Rattle.whole_paths.proofs.RecordWaits.{path_is}
 use Rattle.whole_paths.proofs.RecordsWell.{each_record_stays_well}
@@ -125,7 +125,7 @@ module _ (s : Side) (p q : PathState Carried) (clock : p.clock ≤ q.clock) (los
 
 pub harms_alone_are_owed : HarmsAloneAreOwed
 harms_alone_are_owed start plan turns turn one h s =
-    owes_no_more s p q (each_record_stays_well start turns turn h s).clock (harms_alone_lose_records start turns turn h s) (who_is_told_stays_told start plan turns turn one h (peer s)) edges fins
+    owes_no_more s p q (each_record_stays_well start turns turn (begun start turns turn h) s).clock (harms_alone_lose_records start turns turn (begun start turns turn h) s) (who_is_told_stays_told start plan turns turn one (begun start turns turn h) (peer s)) edges fins
   where
     p : PathState Carried
     p = h.before.path

@@ -12,15 +12,11 @@ use Rattle.subflow_send.specs.declared.record.RecordKind.TheVariants as kinds
 use Rattle.path_core.specs.State.{PathState, end_at}
 use Rattle.path_core.specs.Values.{Carried, values}
 use Rattle.world_laws.specs.Members.{HoldsOfKind}
-use Rattle.world_laws.specs.Openings.{Start}
-use Rattle.world_laws.specs.Worlds.{Turn}
 use Rattle.whole_paths.specs.LastFin.{FinIsLast}
 use Rattle.whole_paths.specs.Mending.{IsRecordOf, IsThereBy, IsWell}
 use Rattle.whole_paths.specs.Mending.{IsWell as is_well}
-use Rattle.whole_paths.specs.Mild.{IsMildStart}
 use Rattle.whole_paths.specs.OctetsPassed.{AllComesUpToLost, ComesUpToLost, WellOctetsCome}
 use Rattle.whole_paths.specs.OctetsPassed.{ComesUpToLost as up_to_lost}
-use Rattle.whole_paths.specs.OpenCourses.{IsOpenAfter}
 use Rattle.whole_paths.specs.SentInOrder.{AreSentInOrder, SendsInOrder, WaitsToBeSent}
 use Rattle.whole_paths.specs.Straying.{IsOpen}
 use Rattle.whole_paths.proofs.DataLeft.{EndsAreBegun, each_is_begun, joined_up, living_low}
@@ -40,7 +36,7 @@ waits_behind (x ∷ xs) h zero (suc at) t r early there_t there_r unsent = (h.0 
 waits_behind (x ∷ xs) h (suc i) (suc at) t r early there_t there_r unsent = waits_behind xs h.1 i at t r (omega (arith, early)) there_t there_r unsent
 
 -- records stand one behind another
-ends_before : (nxt : ℕ) (rs : List Record) (from : ℕ) → Joined from nxt (map span_of rs) → (at : ℕ) (r : Record) → slice_get rs at ≡ Some r → (from ≤ r.pos) × (end_of r ≤ nxt)
+pub ends_before : (nxt : ℕ) (rs : List Record) (from : ℕ) → Joined from nxt (map span_of rs) → (at : ℕ) (r : Record) → slice_get rs at ≡ Some r → (from ≤ r.pos) × (end_of r ≤ nxt)
 ends_before nxt [] from line at r there_r = cc
 ends_before nxt (x ∷ xs) from line zero r there_r = let is = line.0 in let more = joined_up xs (end_of x) nxt line.1 in subst (λ (t : Record). (from ≤ t.pos) × (end_of t ≤ nxt)) (same_Some x r there_r) (omega (arith, is), more)
 ends_before nxt (x ∷ xs) from line (suc at) r there_r = let is = line.0 in let rest = ends_before nxt xs (end_of x) line.1 at r there_r in let low = rest.0 in (omega (arith, is, low), rest.1)

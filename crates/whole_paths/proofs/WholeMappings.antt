@@ -156,7 +156,7 @@ module _ (p : PathState Carried) (tells : Shown p) (s : Side) (r : Record) (h : 
   taker = end_at (peer s) p
 
   -- the record's mapping is as long as the record
-  long : h.item.pos + h.item.mapping.length ≡ end_of r
+  pub long : h.item.pos + h.item.mapping.length ≡ end_of r
   long =
       let told = (tells.tells s).sender.records.each h.at h.item h.there in
       let mapped : RecordKindTells p.profile s Data h.item = subst (λ k. RecordKindTells p.profile s k h.item) (h.holds.kind ∙ kind) told.mapped in

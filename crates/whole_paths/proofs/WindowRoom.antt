@@ -1,42 +1,71 @@
 -- An unfinished peer has no more outstanding than the window; what a finished one sent came, all but its FIN.
-use Rattle.std.proofs.Common.{◌≡◌, ap, ◌≤◌, ◌+◌, arith, true, List}
+use Rattle.std.proofs.Common.{◌≡◌, refl, sym, subst, ap, ◌∙◌, ◌+◌, ◌≤◌, arith, Bool, true, false, true≢false, List, [], ◌∷◌}
 use Rattle.sides.specs.declared.side.Side.{Side}
-use Rattle.sides.specs.declared.side.Side.TheVariants.{A, B}
 use Rattle.sides.specs.Side.{peer}
-use Rattle.subflow_tcp.specs.States.{may_finish}
+use Rattle.subflow_tcp.specs.States.{is_dead}
 use Rattle.path_core.specs.State.{PathState, end_at}
 use Rattle.path_core.specs.Values.{Carried, values}
+use Rattle.world_laws.specs.Members.{HoldsOfKind}
 use Rattle.world_laws.specs.Openings.{PathPlan, Start}
 use Rattle.world_laws.specs.RoundDone.{reached}
-use Rattle.world_laws.specs.Worlds.{Turn}
+use Rattle.world_laws.specs.Worlds.{Turn, WorldState}
+use Rattle.world_laws.proofs.Lanes.Showing.{is_unfinished}
 use Rattle.whole_paths.specs.Came.{HasCome}
-use Rattle.whole_paths.specs.Delivery.{IsAllThere}
+use Rattle.whole_paths.specs.Delivery.{FinishedIsThere, HasFinished, IsAllThere}
 use Rattle.whole_paths.specs.Finish.{IsPathAt}
+use Rattle.whole_paths.specs.Mild.{IsMildStart}
 use Rattle.whole_paths.specs.News.{one_if}
-use Rattle.whole_paths.specs.OnePathScripts.{BeginsWithOnePath}
 use Rattle.whole_paths.specs.Overruns.{StaysWithin}
-use Rattle.whole_paths.specs.Straying.{IsOpen}
-use Rattle.whole_paths.specs.WindowRoom.{EachWindowHasRoom}
+use Rattle.whole_paths.specs.PositionCounts.{CountsBytes}
+use Rattle.whole_paths.specs.WindowRoom.{EachWindowHasRoom, LivingWindowsHaveRoom}
+use Rattle.whole_paths.proofs.EdgesStay.{sent_fin}
+use Rattle.whole_paths.proofs.Arrivals.{sender_of}
 use Rattle.whole_paths.proofs.Came.{what_is_acknowledged_came}
+use Rattle.whole_paths.proofs.FinishedThere.{what_is_finished_is_there}
+use Rattle.whole_paths.proofs.OpenCourses.{IsFirstPath, each_first}
 use Rattle.whole_paths.proofs.Overruns.{no_end_overruns}
-use Rattle.whole_paths.proofs.SegmentRounds.{counts, if_may, of_path, unfinished}
+use Rattle.whole_paths.proofs.PositionCounts.{positions_count_bytes}
 
-module _ (start : Start) (plan : PathPlan) (turns : List Turn) (x : BeginsWithOnePath start plan) (p : PathState Carried) (here : IsPathAt 0 (reached values start turns) p) (opened : IsOpen p) where
-  -- what is sent has room at the peer
-  has_room : (t : Side) → (end_at t p).tcp.send.nxt ≤ (end_at (peer t) p).tcp.recv.edge + 1048576
-  has_room t = if_may start plan x ((end_at t p).tcp.send.nxt ≤ (end_at (peer t) p).tcp.recv.edge + 1048576) turns p here opened t all_there unshut
+-- a living end that sent its FIN has finished
+pub sent_its_fin : (start : Start) (p : PathState Carried) → IsFirstPath start p → (s : Side) → is_dead (end_at s p).tcp.state ≡ false → (end_at s p).tcp.send.finished ≡ true → HasFinished (end_at s p)
+sent_its_fin start p first s living sent = HasFinished.sent_fin (sent_fin (end_at s p).tcp.state (by (is_unfinished (end_at s p).tcp.state) refl) living) living
+  where
+    by : (b : Bool) → is_unfinished (end_at s p).tcp.state ≡ b → b ≡ false
+    by false is = refl
+    by true is = absurd (true≢false (sym sent ∙ first.unfinished s is))
+
+module _ (start : Start) (plan : PathPlan) (turns : List Turn) (one : start.paths ≡ plan ∷ []) (mild : IsMildStart start) (p : PathState Carried) (here : IsPathAt 0 (reached values start turns) p)
+    (lives : (s : Side) → is_dead (end_at s p).tcp.state ≡ false) where
+  abbrev w : WorldState Carried
+  w = reached values start turns
+
+  of_path : (P : PathState Carried → Type 0) → HoldsOfKind (λ app. Unit {0}) P here.crew.member → P p
+  of_path P h = subst (HoldsOfKind (λ app. Unit {0}) P) here.is h
+
+  first : IsFirstPath start p
+  first = of_path (IsFirstPath start) (each_first start turns mild.plain.size here.crew here.there)
+
+  counts : (s : Side) → CountsBytes w p s
+  counts = of_path (λ (p : PathState Carried). (s : Side) → CountsBytes w p s) ((positions_count_bytes start turns plan one mild).each 2 here.crew here.there)
+
+  from_end : (u : Side) → (end_at u p).tcp.send.nxt ≤ (end_at (peer u) p).tcp.recv.edge + 1048576
+  from_end u = by (end_at u p).tcp.send.finished refl
     where
-      all_there : IsAllThere t (reached values start turns) → (end_at t p).tcp.send.nxt ≤ (end_at (peer t) p).tcp.recv.edge + 1048576
-      all_there all =
-          let count = counts start plan x turns p here t in
-          let most = count.most in let came = count.came in let is = all.received in omega (arith, most, came, is)
+      by : (b : Bool) → (end_at u p).tcp.send.finished ≡ b → (end_at u p).tcp.send.nxt ≤ (end_at (peer u) p).tcp.recv.edge + 1048576
+      by false unsent =
+          let within = of_path StaysWithin (no_end_overruns start turns mild here.crew here.there) u in
+          let none : one_if (end_at u p).tcp.send.finished ≡ 0 = ap one_if unsent in
+          let came = (of_path HasCome ((what_is_acknowledged_came start turns).each 2 here.crew here.there)).una u (lives u) in
+          omega (arith, within, none, came)
+      by true sent =
+          let all : IsAllThere u w = of_path (FinishedIsThere w) (what_is_finished_is_there start plan turns one mild 2 here.crew here.there) u (sent_its_fin start p first u (lives u) sent) in
+          let there = all.received in let most = (counts u).most in let came = (counts u).came in omega (arith, there, most, came)
 
-      unshut : may_finish (end_at t p).tcp.state ≡ true → (end_at t p).tcp.send.nxt ≤ (end_at (peer t) p).tcp.recv.edge + 1048576
-      unshut may =
-          let few = (of_path start plan x turns p StaysWithin here (no_end_overruns start turns x.mild here.crew here.there)) t in
-          let came = (of_path start plan x turns p HasCome here ((what_is_acknowledged_came start turns).each 2 here.crew here.there)).una t (opened.living t) in
-          let none = ap one_if (unfinished start plan x turns p here t may) in
-          omega (arith, few, came, none)
+  leaves : (s : Side) → (end_at (peer s) p).tcp.send.nxt ≤ (end_at s p).tcp.recv.edge + 1048576
+  leaves s = subst (λ u. (end_at (peer s) p).tcp.send.nxt ≤ (end_at u p).tcp.recv.edge + 1048576) (sender_of s) (from_end (peer s))
+
+pub living_windows_have_room : LivingWindowsHaveRoom
+living_windows_have_room start plan turns one mild p here lives s = leaves start plan turns one mild p here lives s
 
 pub each_window_has_room : EachWindowHasRoom
-each_window_has_room start plan turns x p here opened = elim [ A ↦ has_room start plan turns x p here opened B | B ↦ has_room start plan turns x p here opened A ]
+each_window_has_room start plan turns x p here opened s = leaves start plan turns x.one x.mild p here opened.living s

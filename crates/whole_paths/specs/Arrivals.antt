@@ -1,11 +1,13 @@
 -- A piece that comes to an open end is taken in order, with its mapping, or came before (RFC 9293, section 3.10.7.4; RFC 8684, section
 -- 3.3.1).
-use Rattle.std.specs.Prelude.{ℕ, ◌+◌, ◌-◌, ◌^◌, ◌≡◌, ◌<◌, ◌≤◌, false, Option, None, Some, List, [], ◌∷◌, length}
+use Rattle.std.specs.Prelude.{ℕ, ◌+◌, ◌-◌, ◌^◌, ◌≡◌, ◌<◌, ◌≤◌, ◌⊎◌, Bool, true, false, Option, None, Some, is_some, List, [], ◌∷◌, length}
+use Rattle.mptcp_options.specs.declared.capable.CapableKeys.TheVariants.{WithData}
 use Rattle.sides.specs.declared.side.Side.{Side}
+use Rattle.sides.specs.declared.side.Side.TheVariants.{A}
 use Rattle.sides.specs.Side.{peer}
 use Rattle.path_segments.specs.Spelled.{PlainSegment}
 use Rattle.path_segments.specs.declared.segment.PathMapping.TheVariants.{Bytes}
-use Rattle.path_segments.specs.declared.segment.PathOption.TheVariants.{Dss}
+use Rattle.path_segments.specs.declared.segment.PathOption.TheVariants.{Capable, Dss}
 use Rattle.link_model.specs.declared.flight.Due.{Due}
 use Rattle.link_model.specs.declared.flight.Flight.{Flight}
 use Rattle.link_model.specs.Steps.{arriving, due_of}
@@ -49,8 +51,24 @@ pub record IsPiece (x : PlainSegment) : Type 0 where
   pub low : place + length x.payload ≤ 2 ^ 62
   pub short : x.position + length x.payload < 2 ^ 64 - 1
 
+-- A's first piece, which maps its bytes by the option that shows both keys (RFC 8684, section 3.1)
+pub record IsFirstPiece (x : PlainSegment) : Type 0 where
+  pub position : x.position ≡ 1
+  pub some : 0 < length x.payload
+  pub few : length x.payload ≤ 65475
+  pub sums : Bool
+  pub own : ℕ
+  pub other : ℕ
+  pub checksum : Option ℕ
+  pub options : x.options ≡ Capable sums false (WithData own other (length x.payload) checksum) ∷ []
+
+-- a segment of this side maps its bytes, in the one way or the other
+pub data IsMappedPiece (s : Side) (x : PlainSegment) : Type 0 where
+  piece : IsPiece x → IsMappedPiece s x
+  first : s ≡ A → IsFirstPiece x → x.syn ≡ false → x.fin ≡ false → x.rst ≡ false → IsMappedPiece s x
+
 -- The record has bytes behind the SYN, which its end sends with their own mapping, to places up to 2^62: neither in plain TCP nor by an
--- infinite mapping, nor as A's first piece, which carries both keys.
+-- infinite mapping; as A's first piece, which carries both keys, only where the end knows the peer's.
 pub record HasItsMapping (c : Profile) (s : Side) (r : Record) (e : PathEnd) : Type 0 where
   pub kind : r.kind ≡ Data
   pub some : 0 < length r.piece
@@ -60,12 +78,13 @@ pub record HasItsMapping (c : Profile) (s : Side) (r : Record) (e : PathEnd) : T
   pub low : place_numbered c s r.mapping.number + length r.piece ≤ 2 ^ 62
   pub mapped : e.modes.identity ≡ false
   pub finite : e.modes.own_infinite ≡ None
-  pub told : is_first_piece s r e ≡ false
+  pub few : length r.piece ≤ 65475
+  pub told : (is_first_piece s r e ≡ false) ⊎ (is_some e.modes.peer_key ≡ true)
 
 -- the segment of such a record is such a segment
 abbrev pub EachMappedRecordIsAPiece : Type 0
 EachMappedRecordIsAPiece = (c : Profile) (s : Side) (r : Record) (e : PathEnd) (x : PlainSegment) → HasItsMapping c s r e → IsSegmentOf r x
-    → IsSaidAt c s r e x → IsPiece x
+    → IsSaidAt c s r e x → IsMappedPiece s x
 
 -- the end has both SYNs, and takes the segment: RCV.NXT is one of its positions, all of them lie in the window, and what it acknowledges
 -- was sent
@@ -122,5 +141,5 @@ pub record ComesAgain (p : PathState Carried) : Type 0 where
   pub outside : IsTo values p copy (judged.As Outside)
 
 abbrev pub EachPieceComesInOrder : Type 0
-EachPieceComesInOrder = (x : PlainSegment) (p : PathState Carried) (a : Arrival x p) → IsPiece x
+EachPieceComesInOrder = (x : PlainSegment) (p : PathState Carried) (a : Arrival x p) → IsMappedPiece (peer a.due.to) x
     → (Takes x (end_at a.due.to p) → ComesInOrder x p) × (CameBefore x (end_at a.due.to p) → ComesAgain p)

@@ -1,8 +1,10 @@
 -- An end of a path that doesn't join may send a DSS only past the handshake: it may from the first copy on that it takes.
-use Rattle.std.specs.Prelude.{◌≡◌, ◌≤◌, ℕ, None, Some, List, [], ◌∷◌, false, true}
+use Rattle.std.specs.Prelude.{◌≡◌, ◌≤◌, ℕ, None, Some, is_some, List, [], ◌∷◌, false, true}
 use Rattle.std.specs.List.{slice_get}
 use Rattle.sides.specs.declared.side.Side.{Side}
 use Rattle.sides.specs.declared.side.Side.TheVariants.{A}
+use Rattle.subflow_send.specs.Records.{Record}
+use Rattle.subflow_send.specs.declared.record.RecordKind.TheVariants.{Data}
 use Rattle.path_core.specs.Codec.{Codec}
 use Rattle.path_core.specs.MpJoin.{is_joined}
 use Rattle.path_core.specs.End.{PathEnd}
@@ -18,6 +20,7 @@ use Rattle.whole_paths.specs.AsFar.{stage}
 use Rattle.whole_paths.specs.Delivery.{HasFinished}
 use Rattle.whole_paths.specs.Finish.{IsPathAt}
 use Rattle.whole_paths.specs.Mild.{IsMildStart}
+use Rattle.whole_paths.specs.OpeningWaits.{IsAlive}
 
 -- On path 0 of a mild connection A's end has finished, its DATA_FIN acknowledged or its FIN sent, only where it may send a DSS.
 abbrev pub WhoIsDoneIsClear : Type 0
@@ -38,6 +41,45 @@ AHearsNoEndBefore = (start : Start) (turns : List Turn) → IsMildStart start �
 abbrev pub AIsToldNoEndBefore : Type 0
 AIsToldNoEndBefore = (start : Start) (plan : PathPlan) (turns : List Turn) → start.paths ≡ plan ∷ [] → IsMildStart start → (p : PathState Carried) → IsPathAt 0 (reached values start turns) p
     → p.a.modes.clear ≡ false → (arrived_at A (reached values start turns)).known_end ≡ None
+
+-- Over one path A's end may send a DSS only where B's may (RFC 8684, section 3.1).
+abbrev pub BIsClearFirst : Type 0
+BIsClearFirst = (start : Start) (plan : PathPlan) (turns : List Turn) → start.paths ≡ plan ∷ [] → IsMildStart start → (p : PathState Carried) → IsPathAt 0 (reached values start turns) p
+    → p.a.modes.clear ≡ true → p.b.modes.clear ≡ true
+
+-- And where B's may A's is past the handshake, and knows B's key, as long as no end is dead, on path 0 of a mild connection.
+abbrev pub AHasTheKeyFirst : Type 0
+AHasTheKeyFirst = (start : Start) (turns : List Turn) → IsMildStart start → (p : PathState Carried) → IsPathAt 0 (reached values start turns) p
+    → IsAlive p → p.b.modes.clear ≡ true → (3 ≤ stage p.a.tcp.state) × (is_some p.a.modes.peer_key ≡ true)
+
+-- and until B's may it sent nothing behind its SYN
+abbrev pub BSendsNothingBefore : Type 0
+BSendsNothingBefore = (start : Start) (plan : PathPlan) (turns : List Turn) → start.paths ≡ plan ∷ [] → IsMildStart start → (p : PathState Carried) → IsPathAt 0 (reached values start turns) p
+    → p.b.modes.clear ≡ false → p.b.tcp.send.nxt ≤ 1
+
+-- and until an end may send one nothing came to it behind its peer's SYN, as long as no end is dead
+abbrev pub NothingComesBefore : Type 0
+NothingComesBefore = (start : Start) (plan : PathPlan) (turns : List Turn) → start.paths ≡ plan ∷ [] → IsMildStart start → (p : PathState Carried) → IsPathAt 0 (reached values start turns) p
+    → IsAlive p → (s : Side) → (end_at s p).modes.clear ≡ false → (end_at s p).tcp.recv.edge ≡ 1
+
+-- A's first piece isn't acknowledged, before which nothing came to B behind the SYN.
+pub record HasFirstPiece (p : PathState Carried) : Type 0 where
+  pub first : Record
+  pub others : List Record
+  pub records : p.a.tcp.send.records ≡ first ∷ others
+  pub kind : first.kind ≡ Data
+  pub position : first.pos ≡ 1
+  pub edge : p.b.tcp.recv.edge ≡ 1
+
+-- So it is where a turn is over, B may send none, and both ends are past the handshake.
+abbrev pub TheFirstPieceWaits : Type 0
+TheFirstPieceWaits = (start : Start) (plan : PathPlan) (turns : List Turn) → start.paths ≡ plan ∷ [] → IsMildStart start → (p : PathState Carried) → IsPathAt 0 (reached values start turns) p
+    → IsAlive p → p.agenda ≡ [] → ((s : Side) → 3 ≤ stage (end_at s p).tcp.state) → p.b.modes.clear ≡ false → HasFirstPiece p
+
+-- And where A's end may send none yet, at the end of a turn an end of B's without a record was granted nothing, and knows of no window that is shut.
+abbrev pub BIsIdleBefore : Type 0
+BIsIdleBefore = (start : Start) (plan : PathPlan) (turns : List Turn) → start.paths ≡ plan ∷ [] → IsMildStart start → 1 ≤ start.buffer → (p : PathState Carried) → IsPathAt 0 (reached values start turns) p
+    → IsAlive p → p.agenda ≡ [] → p.a.modes.clear ≡ false → p.b.modes.clear ≡ true → p.b.tcp.send.records ≡ [] → (p.b.sending.granted ≡ []) × (p.b.sending.shut ≡ false)
 
 module _ {C : Type 0} where
   abbrev pub IsPastIfClear : PathState C → Type 0

@@ -3,6 +3,7 @@
 use Rattle.std.specs.Prelude.{ℕ, ◌≡◌, ◌⊎◌, Bool, true, false, Some, slice_get}
 use Rattle.subflow_tcp.specs.declared.verdicts.Meaning.{Meaning}
 use Rattle.subflow_tcp.specs.declared.verdicts.Meaning.TheVariants.{Accepts, Ahead, Challenged, Outside, RepeatedSyn, Taken, Unacknowledging}
+use Rattle.subflow_tcp.specs.States.{is_half_open}
 use Rattle.path_core.specs.State.{PathState, end_at}
 use Rattle.path_core.specs.Values.{Carried, values}
 use Rattle.path_core.specs.declared.judged.Judged.TheVariants as judged
@@ -31,10 +32,15 @@ is_answered Challenged = true
 is_answered Ahead = true
 is_answered _ = false
 
--- as a copy comes next that means this to its end, unless the path stays as it is
+-- As a copy comes next that means this to its end, unless the path stays as it is. Of what is answered an end whose SYN is acknowledged owes an
+-- acknowledgement, but of a SYN that comes again, and a half-open end its SYN/ACK.
 pub record CopiesCount (p q : PathState Carried) : Type 0 where
   pub ends : (c : Comes values p) (m : Meaning) → IsTo values p c (judged.As m) → ends_row m ≡ true → (q ≡ p) ⊎ (in_a_row (end_at c.due.to q) ≡ 0)
   pub owes : (c : Comes values p) (m : Meaning) → IsTo values p c (judged.As m) → is_answered m ≡ true → (q ≡ p) ⊎ Owes (end_at c.due.to q)
+  pub acks : (c : Comes values p) (m : Meaning) → IsTo values p c (judged.As m) → is_answered m ≡ true → (m ≡ RepeatedSyn → ⊥)
+      → is_half_open (end_at c.due.to p).tcp.state ≡ false → (q ≡ p) ⊎ ((end_at c.due.to q).tcp.due.ack ≡ true)
+  pub syn_acks : (c : Comes values p) (m : Meaning) → IsTo values p c (judged.As m) → is_answered m ≡ true
+      → is_half_open (end_at c.due.to p).tcp.state ≡ true → (q ≡ p) ⊎ ((end_at c.due.to q).tcp.due.syn_ack ≡ true)
 
 -- as the path becomes this actor
 abbrev pub PathsHear : Actor Carried → Actor Carried → Type 0

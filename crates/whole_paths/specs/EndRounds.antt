@@ -1,6 +1,6 @@
 -- Rounds of a mild connection over one path between open ends, in which nothing is to be mended, once all of a stream is read: the stream is closed,
 -- and its DATA_FIN is sent (RFC 8684, section 3.3.3).
-use Rattle.std.specs.Prelude.{◌≡◌, ◌≤◌, true, is_some, List, length}
+use Rattle.std.specs.Prelude.{◌≡◌, ◌≤◌, ◌⊎◌, true, is_some, List, length}
 use Rattle.sides.specs.declared.side.Side.{Side}
 use Rattle.sides.specs.Side.{peer}
 use Rattle.send_book.specs.State.{acked_len}
@@ -12,7 +12,8 @@ use Rattle.world_laws.specs.Promises.{arrived_at, written_by}
 use Rattle.world_laws.specs.RoundDone.{reached}
 use Rattle.world_laws.specs.Worlds.{Turn}
 use Rattle.whole_paths.specs.Finish.{IsPathAt}
-use Rattle.whole_paths.specs.Mending.{IsMended}
+use Rattle.whole_paths.specs.Delivery.{IsAllThere}
+use Rattle.whole_paths.specs.Mending.{IsToldSoon}
 use Rattle.whole_paths.specs.OnePathScripts.{BeginsWithOnePath}
 use Rattle.whole_paths.specs.SegmentRounds.{Rounds, read_after}
 
@@ -39,7 +40,7 @@ pub record AnEndComes (start : Start) (s : Side) (b u : List Turn) : Type 0 wher
 abbrev pub AnEndIsTold : Type 0
 AnEndIsTold = (start : Start) (plan : PathPlan) → BeginsWithOnePath start plan → (s : Side) (v a b u : List Turn)
     → Rounds start 5 v a → Rounds start 2 a b → Rounds start 4 b u
-    → (p : PathState Carried) → IsPathAt 0 (reached values start v) p → IsMended p
+    → (p : PathState Carried) → IsPathAt 0 (reached values start v) p → IsToldSoon s p ⊎ IsAllThere s (reached values start v)
     → let file = length (pick s start.file_a start.file_b) in file ≤ read_after start s v
     → file ≤ acked_len (written_by s (reached values start a)).marks
     → (FinIsSent start s b → EndIsKnown start s u) → AnEndComes start s b u

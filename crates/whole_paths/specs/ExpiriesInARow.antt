@@ -1,10 +1,7 @@
 -- How many expiries an end has in a row, and which harmed segment each of them stands for, so that few losses let no end die (RFC 6298,
 -- section 5).
-use Rattle.std.specs.Prelude.{ℕ, suc, ◌≡◌, ◌<◌, ◌≤◌, ◌⊎◌, true, Some, List, [], ◌∷◌, slice_get}
-use Rattle.std.specs.List.{list_all}
+use Rattle.std.specs.Prelude.{ℕ, suc, ◌≡◌, ◌<◌, ◌≤◌, ◌⊎◌, Some, List, [], ◌∷◌, slice_get}
 use Rattle.sides.specs.declared.side.Side.{Side}
-use Rattle.link_script.specs.declared.script.PathLine.{PathLine}
-use Rattle.link_script.specs.declared.script.Script.{Script}
 use Rattle.path_core.specs.Codec.{Codec}
 use Rattle.path_core.specs.End.{PathEnd}
 use Rattle.path_core.specs.State.{PathState, end_at}
@@ -12,7 +9,7 @@ use Rattle.world_laws.specs.declared.member.Member.TheVariants.{App, Path}
 use Rattle.world_laws.specs.Actors.{Actor, ActorCrew}
 use Rattle.world_laws.specs.Worlds.{WorldState, Turn, after_turn}
 use Rattle.whole_paths.specs.Expiries.{RunsOut}
-use Rattle.whole_paths.specs.Finish.{AnEndDied, IsMild, IsPathAt, harmed, is_harmless_to_ends, opened, run_of}
+use Rattle.whole_paths.specs.Finish.{IsPathAt, harmed}
 
 -- the expiries of an end in a row, without an acceptable segment in between
 abbrev pub in_a_row : PathEnd → ℕ
@@ -59,13 +56,3 @@ module _ {C : Type 0} where
 abbrev pub HoldsAlong : {C : Type 0} → Codec C → (WorldState C → Type 0) → List Turn → WorldState C → Type 0
 HoldsAlong k Holds [] w = Holds w
 HoldsAlong k Holds (turn ∷ turns) w = Holds w × HoldsAlong k Holds turns (after_turn k turn w)
-
--- ---- what is promised of few losses
-
-module _ {C : Type 0} (k : Codec C) where
-  -- with four harmed segments at most, and no line by which the path dies or its address is taken back, neither end of the only path of a mild
-  -- script is ever dead
-  abbrev pub FewLossesEndNone : Type 0
-  FewLossesEndNone = (script : Script) (path : PathLine) (file_a file_b : List ℕ) (turns : List Turn) → IsMild script path file_a file_b
-      → list_all is_harmless_to_ends script.lines ≡ true → harmed k 0 turns (opened script file_a file_b) ≤ 4
-      → AnEndDied 0 (run_of k script file_a file_b turns) → ⊥

@@ -1,17 +1,16 @@
 -- What is known of each moment of a connection by a script of one path, as long as no end of the path is dead.
-use Rattle.std.specs.Prelude.{ℕ, ◌-◌, ◌^◌, ◌≡◌, ◌<◌, ◌≤◌, true, false, List, length}
+use Rattle.std.specs.Prelude.{ℕ, ◌-◌, ◌^◌, ◌≡◌, ◌<◌, true, false, List, length}
 use Rattle.std.specs.List.{list_all}
 use Rattle.sides.specs.declared.side.Side.{Side}
 use Rattle.link_script.specs.declared.script.PathLine.{PathLine}
 use Rattle.link_script.specs.declared.script.Script.{Script}
 use Rattle.subflow_tcp.specs.States.{is_dead}
-use Rattle.path_core.specs.Codec.{Codec}
 use Rattle.path_core.specs.State.{PathState, end_at}
 use Rattle.path_core.specs.Values.{Carried, values}
 use Rattle.world_laws.specs.Openings.{Start}
 use Rattle.world_laws.specs.RoundDone.{reached}
 use Rattle.world_laws.specs.Worlds.{WorldState, Turn}
-use Rattle.whole_paths.specs.Finish.{AnEndDied, IsBrief, IsMild, IsPathAt, harmed, is_harmless_to_ends, opened, run_of}
+use Rattle.whole_paths.specs.Finish.{IsMild, IsPathAt, is_harmless_to_ends}
 
 -- the moment is one after these turns, fewer than 2^64 - 1, and both ends of path 0 live
 pub record RunsAlive (start : Start) (w : WorldState Carried) : Type 0 where
@@ -26,8 +25,3 @@ pub record RunsAlive (start : Start) (w : WorldState Carried) : Type 0 where
 pub record HarmsNoEnd (script : Script) (path : PathLine) (file_a file_b : List ℕ) : Type 0 where
   pub mild : IsMild script path file_a file_b
   pub harmless : list_all is_harmless_to_ends script.lines ≡ true
-
--- with four harmed segments at most no end of the path is ever dead, by fewer than 2^64 - 1 turns
-abbrev pub BriefLossesEndNone : {C : Type 0} → Codec C → Type 0
-BriefLossesEndNone k = (script : Script) (path : PathLine) (file_a file_b : List ℕ) (turns : List Turn) → HarmsNoEnd script path file_a file_b → IsBrief script turns
-    → harmed k 0 turns (opened script file_a file_b) ≤ 4 → AnEndDied 0 (run_of k script file_a file_b turns) → ⊥

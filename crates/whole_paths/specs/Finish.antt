@@ -172,17 +172,51 @@ module _ {C : Type 0} (k : Codec C) where
   abbrev pub BriefPathsDeliver : Patience → Type 0
   BriefPathsDeliver = WholePathsDeliverWhere IsBrief
 
-  -- as soon as so many rounds have ended they are delivered, or an end died, however much is lost
-  abbrev pub OnePathEnds : Patience → Type 0
-  OnePathEnds enough = (script : Script) (path : PathLine) (file_a file_b : List ℕ) (turns : List Turn) → IsMild script path file_a file_b
+  -- As soon as so many rounds have ended they are delivered, or an end died, however much is lost. It is said of scripts and turns that are so
+  -- besides.
+  abbrev pub OnePathEndsWhere : (Script → List Turn → Type 0) → Patience → Type 0
+  OnePathEndsWhere Also enough = (script : Script) (path : PathLine) (file_a file_b : List ℕ) (turns : List Turn) → IsMild script path file_a file_b → Also script turns
       → AreLawful k turns (opened script file_a file_b) → IsEnough enough script path file_a file_b turns (rounds_in turns)
       → let w = run_of script file_a file_b turns in (outcome_of w.crew ≡ Delivered) ⊎ AnEndDied 0 w
 
-  -- with four harmed segments at most, and no line by which the path dies or its address is taken back, no end does
-  abbrev pub FewLossesFinish : Patience → Type 0
-  FewLossesFinish enough = (script : Script) (path : PathLine) (file_a file_b : List ℕ) (turns : List Turn) → IsMild script path file_a file_b
+  -- of all
+  abbrev pub OnePathEnds : Patience → Type 0
+  OnePathEnds = OnePathEndsWhere (λ script turns. Unit {0})
+
+  -- by turns so few that no count of segments ends
+  abbrev pub OneBriefPathEnds : Patience → Type 0
+  OneBriefPathEnds = OnePathEndsWhere IsBrief
+
+  -- with four harmed segments at most, and no line by which the path dies or its address is taken back, neither end of the path is ever dead
+  abbrev pub FewLossesEndNoneWhere : (Script → List Turn → Type 0) → Type 0
+  FewLossesEndNoneWhere Also = (script : Script) (path : PathLine) (file_a file_b : List ℕ) (turns : List Turn) → IsMild script path file_a file_b → Also script turns
+      → list_all is_harmless_to_ends script.lines ≡ true → harmed k 0 turns (opened script file_a file_b) ≤ 4
+      → AnEndDied 0 (run_of script file_a file_b turns) → ⊥
+
+  abbrev pub BriefLossesEndNone : Type 0
+  BriefLossesEndNone = FewLossesEndNoneWhere IsBrief
+
+  -- so they are delivered
+  abbrev pub FewLossesFinishWhere : (Script → List Turn → Type 0) → Patience → Type 0
+  FewLossesFinishWhere Also enough = (script : Script) (path : PathLine) (file_a file_b : List ℕ) (turns : List Turn) → IsMild script path file_a file_b → Also script turns
       → list_all is_harmless_to_ends script.lines ≡ true → harmed k 0 turns (opened script file_a file_b) ≤ 4
       → AreLawful k turns (opened script file_a file_b) → IsEnough enough script path file_a file_b turns (rounds_in turns)
+      → outcome_of (run_of script file_a file_b turns).crew ≡ Delivered
+
+  -- of all
+  abbrev pub FewLossesFinish : Patience → Type 0
+  FewLossesFinish = FewLossesFinishWhere (λ script turns. Unit {0})
+
+  -- by turns so few that no count of segments ends
+  abbrev pub BriefLossesFinish : Patience → Type 0
+  BriefLossesFinish = FewLossesFinishWhere IsBrief
+
+  -- With at most four lines that lose or delay a segment, and none that speaks of a whole direction, they are delivered: but for the turns this is said
+  -- of the script's text alone.
+  abbrev pub BriefFewLinesFinish : Patience → Type 0
+  BriefFewLinesFinish enough = (script : Script) (path : PathLine) (file_a file_b : List ℕ) (turns : List Turn) → IsMild script path file_a file_b → IsBrief script turns
+      → list_all is_harmless_to_ends script.lines ≡ true → list_all (λ line. not (is_on_direction line)) script.lines ≡ true → harms_to 0 script ≤ 4
+      → AreLawful k turns (opened script file_a file_b) → enough script path file_a file_b (harms_to 0 script) ≤ rounds_in turns
       → outcome_of (run_of script file_a file_b turns).crew ≡ Delivered
 
 -- where no line speaks of a direction, each segment that is harmed uses a line

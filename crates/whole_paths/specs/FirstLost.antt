@@ -44,7 +44,7 @@ pub data MendsFirstOn (s : Side) (debts by : ℕ) (p q : PathState Carried) : Ty
   -- a segment is harmed
   harmed : (t : Side) → is_harmed t p q ≡ true → MendsFirstOn s debts by p q
   -- there is news, by which the timer may have started anew, and the first record isn't acknowledged whole
-  news : (first : Record) → IsFirst first (end_at s q) → IsNews (end_at s p) (end_at s q) → MendsFirstOn s debts by p q
+  news : (first : Record) → IsFirst first (end_at s p) → IsFirst first (end_at s q) → IsNews (end_at s p) (end_at s q) → MendsFirstOn s debts by p q
 
 -- by a turn of a mild connection between open ends
 abbrev pub LostRecordsAreMended : Type 0

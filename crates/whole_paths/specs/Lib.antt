@@ -1,3 +1,4 @@
+pub mod AckedData
 pub mod Acknowledged
 pub mod AgendaSteps
 pub mod AnswerWaits
@@ -35,7 +36,8 @@ pub mod ExpiriesInARow
 pub mod Deaths
 pub mod ExpirySegments
 pub mod AnsweredExpiries
-pub mod FewLossesDeliver
+pub mod HeardBelow
+pub mod HeardSaid
 pub mod KeptAddresses
 pub mod Debts
 pub mod FewLossesEnd
@@ -102,6 +104,11 @@ pub mod Waits
 pub mod WindowRoom
 pub mod WindowWaits
 pub mod WindowsHeard
+pub mod WideWindows
+pub mod BareSegments
+pub mod FinsComing
+pub mod OneDebt
+pub mod WindowsComing
 pub mod Writers
 pub mod EndedStreams
 pub mod Ends
@@ -134,3 +141,14 @@ pub mod FirstSigns
 pub mod SignWaits
 pub mod OpeningCourses
 pub mod UnaSaid
+pub mod EdgeRises
+pub mod ExpiryMeanings
+pub mod DebtKinds
+pub mod Directions
+pub mod DirectionWaits
+pub mod CutRecords
+pub mod OpenFirst
+pub mod SharpPaths
+pub mod SynsSoon
+pub mod FirstPiecesSoon
+pub mod AnswersSoon

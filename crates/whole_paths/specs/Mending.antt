@@ -1,6 +1,7 @@
 -- What becomes of all that the ends of a path sent: it comes in time, or it is to be mended, since a segment was harmed.
 use Rattle.std.specs.Prelude.{ℕ, ◌+◌, ◌-◌, ◌^◌, ◌≡◌, ◌<◌, ◌≤◌, ◌⊎◌, Bool, true, false, Some, List, [], ◌∷◌, ◌++◌, length, slice_get}
 use Rattle.sides.specs.declared.side.Side.{Side}
+use Rattle.sides.specs.declared.side.Side.TheVariants.{B}
 use Rattle.sides.specs.Side.{peer}
 use Rattle.path_segments.specs.Spelled.{PlainSegment}
 use Rattle.link_model.specs.declared.flight.Flight.{Flight}
@@ -21,6 +22,7 @@ use Rattle.world_laws.specs.Laws.{Always}
 use Rattle.world_laws.specs.Members.{HoldsOfKind}
 use Rattle.world_laws.specs.NeverFalls.{StripsNothing}
 use Rattle.world_laws.specs.Openings.{Start}
+use Rattle.world_laws.specs.RoundDone.{reached}
 use Rattle.world_laws.specs.Worlds.{Turn, WorldState}
 use Rattle.whole_paths.specs.Brought.{IsThere}
 use Rattle.whole_paths.specs.Copies.{IsUnderWay}
@@ -31,7 +33,8 @@ use Rattle.whole_paths.specs.Kept.{IsSameRecord}
 use Rattle.whole_paths.specs.Mapped.{IsMapped}
 use Rattle.whole_paths.specs.Mild.{IsMildStart}
 use Rattle.whole_paths.specs.News.{one_if}
-use Rattle.whole_paths.specs.OpenCourses.{IsOpenAfter}
+use Rattle.whole_paths.specs.OpenCourses.{IsNow}
+use Rattle.whole_paths.specs.Straying.{IsOpen, IsOpenFrom}
 
 -- ---- one segment
 
@@ -139,7 +142,7 @@ pub record IsMended (p : PathState Carried) : Type 0 where
   pub records : (s : Side) → Every (IsWell s p) (end_at s p).tcp.send.records
   pub told : (s : Side) → IsToldSoon s p
 
--- ---- by turns between open ends
+-- ---- by turns
 
 -- the record was sent before, but for how often
 pub record WasSent (e : PathEnd) (t : Record) : Type 0 where
@@ -172,18 +175,26 @@ pub record AnswersStay (s : Side) (p q : PathState Carried) : Type 0 where
       → ((end_at (peer s) q).tcp.due.ack ≡ true) ⊎ ((is_harmed (peer s) p q ≡ true) ⊎ IsToldBy s (end_at (peer s) p).tcp.recv.edge (p.clock + 400) q)
 
 module _ (start : Start) (turns : List Turn) (turn : Turn) where
-  -- a turn of a mild connection, before which and after which both ends of path 0 are open
-  pub record IsOpenTurn : Type 0 where
+  -- a turn of a mild connection, before which and after which this holds of path 0
+  pub record IsTurnWhere (Holds : PathState Carried → Type 0) : Type 0 where
     pub mild : IsMildStart start
-    pub before : IsOpenAfter start turns
-    pub after : IsOpenAfter start (turns ++ turn ∷ [])
+    pub before : IsNow Holds (reached values start turns)
+    pub after : IsNow Holds (reached values start (turns ++ turn ∷ []))
+
+  -- both ends are open
+  abbrev pub IsOpenTurn : Type 0
+  IsOpenTurn = IsTurnWhere IsOpen
+
+  -- both are past the handshake, and B's may send a DSS
+  abbrev pub IsBegunTurn : Type 0
+  IsBegunTurn = IsTurnWhere (IsOpenFrom B)
 
 -- each record stays well
 abbrev pub EachRecordStaysWell : Type 0
-EachRecordStaysWell = (start : Start) (turns : List Turn) (turn : Turn) (h : IsOpenTurn start turns turn) (s : Side)
+EachRecordStaysWell = (start : Start) (turns : List Turn) (turn : Turn) (h : IsBegunTurn start turns turn) (s : Side)
     → RecordsStayWell s h.before.path h.after.path
 
 -- each answer comes soon
 abbrev pub EachAnswerComesSoon : Type 0
-EachAnswerComesSoon = (start : Start) (turns : List Turn) (turn : Turn) (h : IsOpenTurn start turns turn) (s : Side)
+EachAnswerComesSoon = (start : Start) (turns : List Turn) (turn : Turn) (h : IsBegunTurn start turns turn) (s : Side)
     → AnswersStay s h.before.path h.after.path

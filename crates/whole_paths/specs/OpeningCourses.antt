@@ -1,53 +1,23 @@
 -- A connection over one path from its beginning on: after rounds enough the path is whole, or all of both streams is with the peers, or an end of it died.
-use Rattle.std.specs.Prelude.{ℕ, ◌+◌, ◌-◌, ◌*◌, ◌^◌, ◌≡◌, ◌<◌, ◌≤◌, ◌⊎◌, true, false, List, [], ◌∷◌, length}
-use Rattle.sides.specs.declared.side.Side.{Side}
+use Rattle.std.specs.Prelude.{ℕ, ◌+◌, ◌-◌, ◌*◌, ◌^◌, ◌≡◌, ◌<◌, ◌≤◌, ◌⊎◌, false, List, length}
 use Rattle.sides.specs.declared.side.Side.TheVariants.{B}
-use Rattle.subflow_send.specs.Records.{Record}
-use Rattle.subflow_send.specs.declared.record.RecordKind.TheVariants.{Data}
-use Rattle.link_script.specs.declared.script.PathLine.{PathLine}
-use Rattle.link_script.specs.declared.script.Script.{Script}
-use Rattle.path_core.specs.Codec.{Codec}
-use Rattle.path_core.specs.State.{PathState, end_at}
+use Rattle.path_core.specs.State.{PathState}
 use Rattle.path_core.specs.Values.{Carried, values}
 use Rattle.world_laws.specs.declared.outcome.Outcome.TheVariants.{Delivered}
-use Rattle.world_laws.specs.Openings.{PathPlan, Start, opened_world, start_of}
+use Rattle.world_laws.specs.Openings.{PathPlan, Start, opened_world}
 use Rattle.world_laws.specs.Outcomes.{outcome_of}
 use Rattle.world_laws.specs.RoundDone.{reached}
 use Rattle.world_laws.specs.Worlds.{Turn, WorldState, AreLawful}
-use Rattle.whole_paths.specs.AsFar.{stage}
 use Rattle.whole_paths.specs.Courses.{round_end}
 use Rattle.whole_paths.specs.Delivery.{AllIsThere}
-use Rattle.whole_paths.specs.Finish.{AnEndDied, IsBrief, IsEnough, IsMild, IsPathAt, IsWhole, Patience, harmed, opened, rounds_in, run_of}
+use Rattle.whole_paths.specs.Finish.{AnEndDied, IsPathAt, IsWhole, Patience, harmed, rounds_in}
 use Rattle.whole_paths.specs.GoingOn.{IsAboutToGoOn, going_side}
 use Rattle.whole_paths.specs.OnePathScripts.{Allowance, BeginsWithOnePath, for_all_news, rounds_within}
 use Rattle.whole_paths.specs.OnlyPaths.{news_within}
-use Rattle.whole_paths.specs.OpeningWaits.{AwaitsOpening, IsAlive}
+use Rattle.whole_paths.specs.OpeningWaits.{AwaitsOpening}
 use Rattle.whole_paths.specs.SenderWaits.{AwaitsARecordOf}
 use Rattle.whole_paths.specs.SignWaits.{AwaitsFirstSign}
 use Rattle.whole_paths.specs.Straying.{IsOpenFrom}
-
--- ---- how the ends stand to one another
-
--- A's first piece isn't acknowledged, before which nothing came to B behind the SYN
-pub record HasFirstPiece (p : PathState Carried) : Type 0 where
-  pub first : Record
-  pub others : List Record
-  pub records : p.a.tcp.send.records ≡ first ∷ others
-  pub kind : first.kind ≡ Data
-  pub position : first.pos ≡ 1
-  pub edge : p.b.tcp.recv.edge ≡ 1
-
--- What is so of path 0 while neither of its ends is dead: A may send a DSS only once B may. Where B may send none yet, though both are past the
--- handshake, A's first piece waits. And where A may send none yet, an end of B's without a record was granted nothing, and knows of no window that
--- is shut.
-pub record OpensFirmly (p : PathState Carried) : Type 0 where
-  pub sure : p.a.modes.clear ≡ true → p.b.modes.clear ≡ true
-  pub piece : p.agenda ≡ [] → ((s : Side) → 3 ≤ stage (end_at s p).tcp.state) → p.b.modes.clear ≡ false → HasFirstPiece p
-  pub idle : p.agenda ≡ [] → p.a.modes.clear ≡ false → p.b.modes.clear ≡ true → p.b.tcp.send.records ≡ [] → (p.b.sending.granted ≡ []) × (p.b.sending.shut ≡ false)
-
--- at every moment
-abbrev pub AlwaysOpensFirmly : Start → Type 0
-AlwaysOpensFirmly start = (turns : List Turn) (p : PathState Carried) → IsPathAt 0 (reached values start turns) p → IsAlive p → OpensFirmly p
 
 -- ---- waits
 
@@ -75,13 +45,13 @@ IsOpenOrDone w = IsWhole 0 w ⊎ AllIsThere w
 
 -- in fewer than 2^64 - 1 turns
 abbrev pub OpensWithin : Allowance → Type 0
-OpensWithin enough = (start : Start) (plan : PathPlan) (turns : List Turn) (most : ℕ) → BeginsWithOnePath start plan → AlwaysOpensFirmly start
+OpensWithin enough = (start : Start) (plan : PathPlan) (turns : List Turn) (most : ℕ) → BeginsWithOnePath start plan
     → AreLawful values turns (opened_world start) → length turns < 2 ^ 64 - 1 → harmed values 0 turns (opened_world start) ≤ most
     → enough start most < 100 * rounds_in turns → IsOpenOrDone (reached values start turns) ⊎ AnEndDied 0 (reached values start turns)
 
 -- Both files are delivered, or an end died, after rounds enough for both: until the path is whole, and from then on.
 abbrev pub DeliversWithin : Allowance → Type 0
-DeliversWithin enough = (start : Start) (plan : PathPlan) (turns : List Turn) (most : ℕ) → BeginsWithOnePath start plan → AlwaysOpensFirmly start
+DeliversWithin enough = (start : Start) (plan : PathPlan) (turns : List Turn) (most : ℕ) → BeginsWithOnePath start plan
     → AreLawful values turns (opened_world start) → length turns < 2 ^ 64 - 1 → harmed values 0 turns (opened_world start) ≤ most
     → 2 * enough start most + 500 < 100 * rounds_in turns → (outcome_of (reached values start turns).crew ≡ Delivered) ⊎ AnEndDied 0 (reached values start turns)
 
@@ -94,9 +64,3 @@ for_twice enough start harms = 2 * enough start harms + 200
 -- Enough rounds from the beginning on: twice those for all news that there can be, and for each segment that is harmed.
 abbrev pub opening_patience : Patience
 opening_patience = rounds_within (for_twice (for_all_news news_within))
-
--- As soon as so many rounds of a brief run have ended both files are delivered, or an end died, however much is lost, where the ends open firmly.
-abbrev pub FirmPathsEnd : {C : Type 0} → Codec C → Patience → Type 0
-FirmPathsEnd k enough = (script : Script) (path : PathLine) (file_a file_b : List ℕ) (turns : List Turn) → IsMild script path file_a file_b → IsBrief script turns
-    → AlwaysOpensFirmly (start_of script file_a file_b) → AreLawful k turns (opened script file_a file_b) → IsEnough k enough script path file_a file_b turns (rounds_in turns)
-    → let w = run_of k script file_a file_b turns in (outcome_of w.crew ≡ Delivered) ⊎ AnEndDied 0 w

@@ -19,15 +19,15 @@ use Rattle.whole_paths.specs.Mild.{IsMildStart}
 abbrev pub Owes : PathEnd → Type 0
 Owes e = (e.tcp.due.ack ≡ true) ⊎ (e.tcp.due.syn_ack ≡ true)
 
--- the segment acknowledges at SND.NXT and nothing more, or is the SYN/ACK
+-- the segment acknowledges at SND.NXT and nothing more, where no SYN/ACK is due, or is the SYN/ACK, where no acknowledgement is
 pub data IsReply (c : Profile) (s : Side) (e : PathEnd) (x : PlainSegment) : Type 0 where
-  acks : x ≡ ack_said c s e.tcp.send.nxt None e → IsReply c s e x
-  opens : x ≡ syn_ack_said c s e → IsReply c s e x
+  acks : e.tcp.due.syn_ack ≡ false → x ≡ ack_said c s e.tcp.send.nxt None e → IsReply c s e x
+  opens : e.tcp.due.ack ≡ false → x ≡ syn_ack_said c s e → IsReply c s e x
 
 -- as the path becomes another one, whose ends both live
 pub data OwedGoes (s : Side) (p q : PathState Carried) : Type 0 where
-  -- it is owed still
-  owes : Owes (end_at s q) → OwedGoes s p q
+  -- as much is owed still
+  owes : (end_at s q).tcp.due ≡ (end_at s p).tcp.due → OwedGoes s p q
   -- the link takes it, at the same tick
   goes : (x : PlainSegment) → IsReply p.profile s (end_at s p) x → q.link ≡ handed values s x p → q.clock ≡ p.clock → OwedGoes s p q
   -- an end is dead

@@ -5,6 +5,7 @@ use Rattle.sides.specs.declared.side.Side.{Side}
 use Rattle.sides.specs.Side.{peer}
 use Rattle.send_book.specs.State.{acked_len}
 use Rattle.reassembly_book.specs.State.{received}
+use Rattle.stream_lanes.specs.Words.{Every}
 use Rattle.actor_desk.specs.Words.{pick}
 use Rattle.path_core.specs.State.{PathState, end_at}
 use Rattle.path_core.specs.Values.{Carried, values}
@@ -15,7 +16,7 @@ use Rattle.world_laws.specs.Worlds.{Turn, all_over}
 use Rattle.whole_paths.specs.Delivery.{IsAllThere}
 use Rattle.whole_paths.specs.Finish.{IsPathAt}
 use Rattle.whole_paths.specs.GoingOn.{steps_of}
-use Rattle.whole_paths.specs.Mending.{IsMended, IsToldSoon}
+use Rattle.whole_paths.specs.Mending.{IsToldSoon, IsWell}
 use Rattle.whole_paths.specs.OnePathScripts.{BeginsWithOnePath}
 use Rattle.whole_paths.specs.OpenCourses.{IsOpenAfter}
 use Rattle.whole_paths.specs.SentInOrder.{sent_up_to}
@@ -48,11 +49,13 @@ module _ (start : Start) where
   abbrev pub written_after : Side → List Turn → ℕ
   written_after s turns = length (written_by s (reached values start turns)).written
 
-  -- as a round is over nothing of path 0 is to be mended, and the side's congestion window holds two full segments
+  -- As a round is over, each record of the side on path 0 is well, its end is told soon how far its peer is, or all of the side's stream is there; and
+  -- the side's congestion window holds two full segments.
   pub record IsWellAfter (s : Side) (turns : List Turn) : Type 0 where
     pub path : PathState Carried
     pub here : IsPathAt 0 (reached values start turns) path
-    pub mended : IsMended path
+    pub records : Every (IsWell s path) (end_at s path).tcp.send.records
+    pub told : IsToldSoon s path ⊎ IsAllThere s (reached values start turns)
     pub wide : 2 * path.profile.mss ≤ (end_at s path).tcp.congestion.reno.window
 
   -- What the peer could tell of the stream after the first turns is heard after the others: all that its side had received is acknowledged, and
@@ -74,10 +77,11 @@ abbrev pub EachRoundReads : Type 0
 EachRoundReads = (start : Start) (plan : PathPlan) (v u : List Turn) → BeginsWithOnePath start plan → IsRound start v u → (s : Side)
     → received (arrived_at (peer s) (reached values start v)) ≤ read_after start s u
 
--- In four rounds all comes that is sent, where nothing is to be mended; or all of the stream is there.
+-- In four rounds all comes that is sent, where each record of the side is well; or all of the stream is there.
 abbrev pub FourRoundsBring : Type 0
 FourRoundsBring = (start : Start) (plan : PathPlan) (v u : List Turn) → BeginsWithOnePath start plan → Rounds start 4 v u → (s : Side)
-    → (p q : PathState Carried) → IsPathAt 0 (reached values start v) p → IsPathAt 0 (reached values start u) q → IsMended p
+    → (p q : PathState Carried) → IsPathAt 0 (reached values start v) p → IsPathAt 0 (reached values start u) q
+    → Every (IsWell s p) (end_at s p).tcp.send.records
     → IsAllThere s (reached values start u) ⊎ (sent_up_to (end_at s p).tcp.send ≤ (end_at (peer s) q).tcp.recv.edge)
 
 -- And the end hears how far the peer was, where it was to be told soon.

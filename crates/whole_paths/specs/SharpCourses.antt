@@ -87,6 +87,7 @@ module _ (start : Start) (plan : PathPlan) (most : ℕ) (Mended : ℕ → List T
 
 -- Where exchanges go on so by each start, whole paths deliver both files with `patience`, or an end died early.
 abbrev pub SharpExchangesEnd : Type 1
-SharpExchangesEnd = (Mended : Start → ℕ → List Turn → Type 0) (Waits : Start → ℕ → ℕ → ℕ → List Turn → Type 0)
-    → ((start : Start) (plan : PathPlan) (most : ℕ) → BeginsWithOnePath start plan → SharpExchanges start plan most (Mended start) (Waits start most))
+SharpExchangesEnd = (Mended : Start → PathPlan → ℕ → ℕ → List Turn → Type 0) (Waits : Start → PathPlan → ℕ → ℕ → ℕ → List Turn → Type 0)
+    → ((start : Start) (plan : PathPlan) (most : ℕ) → BeginsWithOnePath start plan
+    → SharpExchanges start plan most (Mended start plan most) (Waits start plan most))
     → BriefPathsEnd values patience × BriefPathsEnd octets patience

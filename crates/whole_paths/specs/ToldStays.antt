@@ -8,7 +8,7 @@ use Rattle.path_core.specs.Values.{Carried}
 use Rattle.world_laws.specs.Openings.{PathPlan, Start}
 use Rattle.world_laws.specs.Worlds.{Turn}
 use Rattle.whole_paths.specs.Finish.{is_harmed}
-use Rattle.whole_paths.specs.Mending.{IsOpenTurn, IsToldBy, IsToldSoon}
+use Rattle.whole_paths.specs.Mending.{IsBegunTurn, IsToldBy, IsToldSoon}
 use Rattle.whole_paths.specs.OnePathScripts.{BeginsWithOnePath}
 
 -- of a side, as the path becomes another one
@@ -28,4 +28,4 @@ pub record ToldStays (s : Side) (p q : PathState Carried) : Type 0 where
 
 abbrev pub WhoIsToldStaysTold : Type 0
 WhoIsToldStaysTold = (start : Start) (plan : PathPlan) (turns : List Turn) (turn : Turn) → BeginsWithOnePath start plan
-    → (h : IsOpenTurn start turns turn) (s : Side) → ToldStays s h.before.path h.after.path
+    → (h : IsBegunTurn start turns turn) (s : Side) → ToldStays s h.before.path h.after.path

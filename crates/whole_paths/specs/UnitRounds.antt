@@ -1,19 +1,23 @@
 -- In thirteen rounds in which nothing is to be mended a stream goes on by a unit: a full segment more is read, or its end is told; as long as not all
 -- of both streams is with the peers.
-use Rattle.std.specs.Prelude.{ℕ, suc, zero, ◌+◌, ◌*◌, ◌≡◌, ◌<◌, ◌≤◌, ◌⊎◌, true, List, [], ◌∷◌, ◌++◌}
+use Rattle.std.specs.Prelude.{ℕ, suc, zero, ◌+◌, ◌-◌, ◌*◌, ◌≡◌, ◌<◌, ◌≤◌, ◌⊎◌, true, List, [], ◌∷◌, ◌++◌}
 use Rattle.sides.specs.declared.side.Side.{Side}
-use Rattle.path_core.specs.Values.{values}
+use Rattle.path_core.specs.State.{PathState}
+use Rattle.path_core.specs.Values.{Carried, values}
 use Rattle.world_laws.specs.Openings.{PathPlan, Start}
+use Rattle.world_laws.specs.Promises.{written_by}
 use Rattle.world_laws.specs.RoundDone.{reached}
 use Rattle.world_laws.specs.Worlds.{Turn, all_over}
 use Rattle.whole_paths.specs.Courses.{round_end}
-use Rattle.whole_paths.specs.Delivery.{AllIsThere}
+use Rattle.whole_paths.specs.Delivery.{AllIsThere, IsAllThere}
 use Rattle.whole_paths.specs.EndRounds.{EndIsKnown, FinIsSent}
+use Rattle.whole_paths.specs.Finish.{IsPathAt}
 use Rattle.whole_paths.specs.GoingOn.{steps_of}
+use Rattle.whole_paths.specs.Mending.{IsToldSoon}
 use Rattle.whole_paths.specs.Mild.{IsMildStart}
 use Rattle.whole_paths.specs.OnePathScripts.{BeginsWithOnePath}
 use Rattle.whole_paths.specs.OpenCourses.{IsOpenAfter}
-use Rattle.whole_paths.specs.SegmentRounds.{IsHeard, IsRound, IsWellAfter, StaysOpen}
+use Rattle.whole_paths.specs.SegmentRounds.{IsHeard, IsRound, IsWellAfter, StaysOpen, read_after}
 use Rattle.whole_paths.specs.SharpCourses.{most_units, units}
 
 -- ---- rounds after each of which all is well
@@ -46,10 +50,28 @@ module _ (start : Start) (Well : List Turn → Type 0) where
 
 -- ---- a unit
 
--- As rounds pass after which all is well, what the peer could tell of a stream is heard in five of them, and a DATA_FIN that was sent comes in four.
+-- As rounds pass after which all is well, what the peer could tell of a stream is heard in five of them, or all of it is there; and a DATA_FIN that
+-- was sent comes in four.
 pub record WhatIsToldIsHeard (start : Start) (plan : PathPlan) (Well : List Turn → Type 0) : Type 0 where
-  pub heard : (s : Side) (v u : List Turn) → WellRounds start Well 5 v u → IsHeard start plan s v u
+  pub heard : (s : Side) (v u : List Turn) → WellRounds start Well 5 v u → IsAllThere s (reached values start u) ⊎ IsHeard start plan s v u
   pub fins : (s : Side) (v u : List Turn) → WellRounds start Well 4 v u → FinIsSent start s v → EndIsKnown start s u
+
+-- Of that the Data ACKs need no more than that each end is told soon how far its peer is, or all of its stream is there. So what is left is that the
+-- windows that are told are heard, and that each DATA_FIN comes which is sent.
+pub record AreToldSoon (start : Start) (s : Side) (turns : List Turn) : Type 0 where
+  pub path : PathState Carried
+  pub here : IsPathAt 0 (reached values start turns) path
+  pub told : IsToldSoon s path ⊎ IsAllThere s (reached values start turns)
+
+pub record WindowsAndEndsAreHeard (start : Start) (plan : PathPlan) (Well : List Turn → Type 0) : Type 0 where
+  pub windows : (s : Side) (v u : List Turn) → WellRounds start Well 5 v u
+      → IsAllThere s (reached values start u) ⊎ (read_after start s v + (plan.mss - 28) ≤ (written_by s (reached values start u)).edge)
+  pub fins : (s : Side) (v u : List Turn) → WellRounds start Well 4 v u → FinIsSent start s v → EndIsKnown start s u
+
+abbrev pub WhatIsToldIsHeardSo : Type 1
+WhatIsToldIsHeardSo = (start : Start) (plan : PathPlan) (Well : List Turn → Type 0) → BeginsWithOnePath start plan
+    → ((turns : List Turn) → Well turns → (s : Side) → AreToldSoon start s turns)
+    → WindowsAndEndsAreHeard start plan Well → WhatIsToldIsHeard start plan Well
 
 -- nothing of path 0 is to be mended, and both congestion windows hold two full segments
 abbrev pub IsAllWell : Start → List Turn → Type 0

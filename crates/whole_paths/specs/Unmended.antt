@@ -12,7 +12,7 @@ use Rattle.world_laws.specs.RoundDone.{reached}
 use Rattle.world_laws.specs.Worlds.{Turn}
 use Rattle.whole_paths.specs.Debts.{Beginning, OwesOn, Stepping}
 use Rattle.whole_paths.specs.Finish.{IsPathAt, is_harmed}
-use Rattle.whole_paths.specs.Mending.{IsOpenTurn, IsRecordOf, IsToldSoon, IsWell}
+use Rattle.whole_paths.specs.Mending.{IsOpenTurn, IsRecordOf, IsToldSoon, IsWell, IsBegunTurn}
 use Rattle.whole_paths.specs.OnePathScripts.{BeginsWithOnePath}
 use Rattle.whole_paths.specs.News.{one_if}
 
@@ -55,7 +55,7 @@ pub record LosesNoMore (s : Side) (p q : PathState Carried) : Type 0 where
 
 -- by a turn of a mild connection between open ends
 abbrev pub HarmsAloneLoseRecords : Type 0
-HarmsAloneLoseRecords = (start : Start) (turns : List Turn) (turn : Turn) (h : IsOpenTurn start turns turn) (s : Side)
+HarmsAloneLoseRecords = (start : Start) (turns : List Turn) (turn : Turn) (h : IsBegunTurn start turns turn) (s : Side)
     → LosesNoMore s h.before.path h.after.path
 
 -- No more is to be mended of what the side sends, but for one if a segment of it is harmed; and where none is, the peer is told what it was.

@@ -1,33 +1,33 @@
 //! What mild connections do whose path stays whole, as clauses of functions that do nothing.
 ghost use Rattle.path_core.specs.Octets.{octets};
 ghost use Rattle.path_core.specs.Values.{values};
+ghost use Rattle.whole_paths.specs.AckedData.{FourRoundsAcknowledge, PositionsAreAckedAsBytes};
 ghost use Rattle.whole_paths.specs.AnswerWaits.{AnswersAreAwaitedAlways};
 ghost use Rattle.whole_paths.specs.AskStages.{OpenAsksAreAnswered};
 ghost use Rattle.whole_paths.specs.AwaitedThere.{WhatIsAwaitedIsThere};
+ghost use Rattle.whole_paths.specs.Clear.{BIsClearFirst, BIsIdleBefore, BSendsNothingBefore, NothingComesBefore, TheFirstPieceWaits};
 ghost use Rattle.whole_paths.specs.DataLeft.{WhatIsLeftIsData};
 ghost use Rattle.whole_paths.specs.Deliveries.{WhoIsToldHasAll};
 ghost use Rattle.whole_paths.specs.Delivery.{WhatIsFinishedIsThere, WhatIsThereIsDelivered, WhatIsThereStays};
 ghost use Rattle.whole_paths.specs.EndRounds.{AnEndIsTold};
 ghost use Rattle.whole_paths.specs.EndedStreams.{WhatEndedIsAcknowledged};
-ghost use Rattle.whole_paths.specs.Finish.{HarmsUseLines, BriefPathsDeliver};
-ghost use Rattle.whole_paths.specs.FirstLost.{LostRecordsAreAwaited, LostRecordsAreMended};
+ghost use Rattle.whole_paths.specs.Finish.{HarmsUseLines, BriefPathsDeliver, OneBriefPathEnds};
 ghost use Rattle.whole_paths.specs.GoingOn.{RoundsBeginToGoOn, RoundsGoOn, StepsLetItGoOn, EndsGoOn};
 ghost use Rattle.whole_paths.specs.FirstSigns.{EachFirstSignComes};
 ghost use Rattle.whole_paths.specs.Halted.{WhoHaltsGoesOnHalting};
 ghost use Rattle.whole_paths.specs.Lanes.Laws.{LossyLanesEnd, LossyLanesFinish};
-ghost use Rattle.whole_paths.specs.KeptAddresses.{FirstAddressesStay, HarmlessEndsDieOfExpiries};
+ghost use Rattle.whole_paths.specs.HeardBelow.{HeardLiesBelow};
+ghost use Rattle.whole_paths.specs.HeardSaid.{WhatIsHeardWasSaid};
 ghost use Rattle.whole_paths.specs.LastFin.{FinsAreLast};
 ghost use Rattle.whole_paths.specs.Mending.{EachAnswerComesSoon, EachRecordStaysWell};
-ghost use Rattle.whole_paths.specs.Mends.{WhatRunsOutIsMended};
 ghost use Rattle.whole_paths.specs.Mild.{IsPromisedMildly, KeysAreKnown, LinksAreMild, MappingIsKept, MildScriptsStartMildly, NeverBreaks};
-ghost use Rattle.whole_paths.specs.MildDeaths.{MildEndsDieOfExpiries};
 ghost use Rattle.whole_paths.specs.OwedGoes.{WhatIsOwedGoes};
 ghost use Rattle.whole_paths.specs.OnePathScripts.{EndsAsItBegins, MildScriptsBeginWithOnePath, OnlyWaysStay, BriefPathsEnd, WaysStay, WhatIsThereInTimeIsDelivered, for_all_news};
 ghost use Rattle.whole_paths.specs.OnlyPaths.{long_patience, news_within};
 ghost use Rattle.whole_paths.specs.OpenAsks.{OpenAsksAreInTime, OpenAsksGoOn, OpenEndsHardlyGoAwry};
 ghost use Rattle.whole_paths.specs.OverOctets.{FewLossesFinishAsOverValues, OctetsAreAsFarAsValues, OnePathEndsAsOverValues, BriefPathsDeliverAsOverValues, WholePathsDeliverAsOverValues};
 ghost use Rattle.whole_paths.specs.OpenCourses.{WhatHoldsUpCounts};
-ghost use Rattle.whole_paths.specs.OpeningCourses.{opening_patience, DeliversWithin, FirmPathsEnd, OpensWithin};
+ghost use Rattle.whole_paths.specs.OpeningCourses.{opening_patience, DeliversWithin, OpensWithin};
 ghost use Rattle.whole_paths.specs.OpeningWaits.{EndsOpenOrArePast, LivingEndsOpenOrArePast, OpeningsAreAwaited};
 ghost use Rattle.whole_paths.specs.Outstanding.{WhatIsOutstandingIsAwaited};
 ghost use Rattle.whole_paths.specs.Overruns.{NoEndOverruns};
@@ -37,7 +37,7 @@ ghost use Rattle.whole_paths.specs.Received.{HoldsOfOnlyPaths};
 ghost use Rattle.whole_paths.specs.RecordWaits.{NoRoundCounts, RecordsAreAwaitedAlways};
 ghost use Rattle.whole_paths.specs.RisesOwed.{WhatRisesIsOwed};
 ghost use Rattle.whole_paths.specs.SegmentRounds.{ASegmentIsRead, EachRoundReads, EachRoundWrites, FourRoundsBring, FourRoundsTell};
-ghost use Rattle.whole_paths.specs.ClearRounds.{EightRoundsClear, FourRoundsClear, LostRecordsAreFirst, LostRecordsStay, WhatIsReachedIsFirst};
+ghost use Rattle.whole_paths.specs.ClearRounds.{EightRoundsClear, FourRoundsClear};
 ghost use Rattle.whole_paths.specs.OctetsPassed.{AllComesUpToLost, OctetsArePassed, WellOctetsCome};
 ghost use Rattle.whole_paths.specs.RecordsPassed.{FirstRecordsArePassed, RecordsComeInTime, WholeRecordsArePassed};
 ghost use Rattle.whole_paths.specs.SenderWaits.{SendersAreAwaited};
@@ -49,12 +49,16 @@ ghost use Rattle.whole_paths.specs.SignWaits.{FirstSignsAreAwaited};
 ghost use Rattle.whole_paths.specs.StayingWhole.{WholePathsStayWhole};
 ghost use Rattle.whole_paths.specs.Straying.{OpenEndsHardlyStray, SendersHardlyStray, WholePathsAreOpen};
 ghost use Rattle.whole_paths.specs.ToldStays.{WhoIsToldStaysTold};
-ghost use Rattle.whole_paths.specs.Unmended.{DebtsGoOn, HarmsAloneAreOwed, HarmsAloneLoseRecords};
+ghost use Rattle.whole_paths.specs.Unmended.{HarmsAloneLoseRecords};
 ghost use Rattle.whole_paths.specs.UnitRounds.{AUnitIsMade, AllUnitsAreThere, ShortWaitsGoOn};
 ghost use Rattle.whole_paths.specs.Unstopped.{MildPathsAreNeverStopped};
-ghost use Rattle.whole_paths.specs.WindowRoom.{EachWindowHasRoom};
+ghost use Rattle.whole_paths.specs.WindowRoom.{EachWindowHasRoom, LivingWindowsHaveRoom, NoWindowIsShutBefore};
 ghost use Rattle.whole_paths.specs.WindowWaits.{WindowsAreAwaitedAlways};
 ghost use Rattle.world_laws.specs.Promises.{HoldsAnyway};
+ghost use Rattle.whole_paths.specs.BareSegments.{BareSegmentsAreTaken};
+ghost use Rattle.whole_paths.specs.FinsComing.{DataFinsComeSoon, DataFinsStaySoon, FourRoundsEnd};
+ghost use Rattle.whole_paths.specs.WindowsComing.{FourRoundsOpen, WindowsComeSoon};
+ghost use Rattle.whole_paths.specs.WideWindows.{WideWindowsStay};
 
 /// A law: where no line takes options away, alters payload or lets a side close at once, both sides go by mappings of pieces, always.
 ///
@@ -88,28 +92,6 @@ pub fn mild_links_change_nothing()
 pub fn mild_scripts_never_break()
     ensures values { IsPromisedMildly values (λ start w. NeverBreaks w) }
     ensures octets { IsPromisedMildly octets (λ start w. NeverBreaks w) }
-{}
-
-/// A law: in a mild connection an end of path 0 dies by its sixth expiry in a row, by the line by which the path dies, or as a side took the
-/// path's address back (RFC 8684, section 3.4.2), as long as its peer lives too.
-///
-/// By each turn by which one of them is dead that both lived before, one of these came next. Nothing else kills one: no reset is under way
-/// between two ends that live, none is refused, and no mapping clashes or is missing.
-pub fn mild_ends_die_of_expiries()
-    ensures { MildEndsDieOfExpiries }
-{}
-
-/// A law: no side counts the address of path 0 as removed, always, where no line of the script takes it back (RFC 8684, section 3.4.2) or lets
-/// a path die.
-///
-/// Neither book is told to take id 0 back, no path has it to note, no segment says so, and no end hears it.
-pub fn first_addresses_stay()
-    ensures { FirstAddressesStay }
-{}
-
-/// A law: in a mild connection without such lines an end of path 0 dies by its sixth expiry in a row alone, as long as its peer lives too.
-pub fn harmless_ends_die_of_expiries()
-    ensures { HarmlessEndsDieOfExpiries }
 {}
 
 /// A law: as long as both ends of path 0 of a mild connection live, what an end owes its peer goes: an acknowledgement of what came, at
@@ -260,8 +242,9 @@ pub fn no_round_counts()
     ensures { NoRoundCounts }
 {}
 
-/// A law: a record of data that is well stays well by each turn of a mild connection between open ends, or a segment of its side is harmed.
+/// A law: a record of data that is well stays well by each turn of a mild connection, or a segment of its side is harmed.
 ///
+/// The turn goes between two moments at which both ends are past the handshake, and B's may send a DSS; A's may send its first piece with both keys.
 /// Such a record is to be sent; or each of its octets came to the peer, with its mapping; or a copy of it is under way that comes within 400 ticks,
 /// twice the longest delay. One that comes by a tick, or came, is there by that tick still, also behind a gap, and though it is acknowledged
 /// meanwhile (`comes`); and one that is sent in the turn is there within 400 ticks, or harmed (`sent`).
@@ -269,7 +252,8 @@ pub fn each_record_stays_well()
     ensures { EachRecordStaysWell }
 {}
 
-/// A law: an acknowledgement that an end owes goes, and is harmed or heard within 400 ticks, by each turn of a mild connection between open ends.
+/// A law: an acknowledgement that an end owes goes, and is harmed or heard within 400 ticks, by each turn of a mild connection between ends past the
+/// handshake, B's of which may send a DSS.
 ///
 /// It is owed still, or goes in the turn and acknowledges all that came to the end by then, where its peer's window has room for all that the end
 /// sent (`owed`). From then on its peer heard so much, or the answer is under way to it, and comes by the same tick (`comes`): one that is overtaken
@@ -278,13 +262,16 @@ pub fn each_answer_comes_soon()
     ensures { EachAnswerComesSoon }
 {}
 
-/// A law: between open ends of the only path of a mild connection no end sent more than 2^20 positions past RCV.NXT of its peer, so that the
+/// A law: between living ends of the only path of a mild connection no end sent more than 2^20 positions past RCV.NXT of its peer, so that the
 /// peer's window has room for all it sent, its FIN included.
 ///
 /// An unfinished end has no more outstanding than the window (`no_end_overruns`). Of one that sent its FIN all but the FIN is there
-/// (`what_is_finished_is_there`).
+/// (`what_is_finished_is_there`). So it is past the handshake (`opened`). And until A's end sends something behind its SYN it knows of no window that is shut
+/// (`unshut`): B's SYN/ACK told it one that is open.
 pub fn each_window_has_room()
-    ensures { EachWindowHasRoom }
+    ensures living { LivingWindowsHaveRoom }
+    ensures opened { EachWindowHasRoom }
+    ensures unshut { NoWindowIsShutBefore }
 {}
 
 /// A law: an end of path 0 of a mild connection owes an acknowledgement as its RCV.NXT moves over octets.
@@ -295,23 +282,13 @@ pub fn what_rises_is_owed()
     ensures { WhatRisesIsOwed }
 {}
 
-/// A law: between open ends of the only path of a mild connection an end that is told soon how far its peer is stays so, or an answer was harmed.
+/// A law: on the only path of a mild connection, once B's end may send a DSS, an end past the handshake that is told soon how far its peer is stays
+/// so, or an answer was harmed.
 ///
 /// The peer's answer goes (`each_answer_comes_soon`), since the end's window has room for it (`each_window_has_room`); where RCV.NXT rises
 /// meanwhile the next answer is owed (`what_rises_is_owed`).
 pub fn who_is_told_stays_told()
     ensures { WhoIsToldStaysTold }
-{}
-
-/// A law: between open ends of the only path of a mild connection no more is to be mended of what a side sends, but for one if a segment of it is
-/// harmed.
-pub fn harms_alone_are_owed()
-    ensures { HarmsAloneAreOwed }
-{}
-
-/// A law: debts go on so, by each step and as a round begins.
-pub fn debts_go_on()
-    ensures { DebtsGoOn }
 {}
 
 /// A law: a wait for a record of data goes on between open ends of a mild connection until the record is acknowledged, or something is
@@ -551,20 +528,52 @@ pub fn whole_paths_deliver()
     ensures values { BriefPathsDeliver values long_patience }
 {}
 
-/// A law: over one path both files are delivered, or an end of the path died, after rounds enough from the beginning of the connection, where its
-/// ends open firmly, however much is lost, late or repeated (`delivers`).
+/// A law: over one path A's end may send a DSS only where B's may (RFC 8684, section 3.1).
 ///
-/// After half of these rounds the path is whole, or all of both streams is with the peers, or an end died (`opens`). That the ends open firmly is
-/// a premise: A may send a DSS only once B may; A's first piece waits while B, past the handshake, may send none; and until A may, an end of B's
-/// without a record was granted nothing and knows of no shut window (RFC 8684, section 3.1). What else it needs is so: an end that may send a DSS
-/// is past the handshake, and until A may, A's end hasn't finished, and its side knows no end of B's stream (`clear_ends_are_past`). It is said
-/// of mild connections over one path with buffers of 4,096 octets at least, and of fewer than 2^64 - 1 turns; and of scripts of one path, over
-/// segments as values and over octets (`values`, `octets`). Enough rounds are as many as in `whole_paths_deliver`, twice.
-pub fn firm_openings_deliver()
+/// It may by a DSS that it heard, and B's end sends none before it may, and nothing behind its SYN (`quiet`). So it is on the only path of a mild
+/// connection, at every moment.
+pub fn b_is_clear_first()
+    ensures first { BIsClearFirst }
+    ensures quiet { BSendsNothingBefore }
+{}
+
+/// A law: over one path nothing comes to an end behind its peer's SYN until the end may send a DSS, while no end is dead (RFC 8684, section 3.1).
+///
+/// It holds no mapping by which a byte could be passed, and no FIN came, since the peer sends one only once it may send a DSS. So it is at every
+/// moment of a mild connection.
+pub fn nothing_comes_before()
+    ensures { NothingComesBefore }
+{}
+
+/// A law: over one path A's first piece waits while B, past the handshake, may send no DSS (RFC 8684, section 3.1).
+///
+/// Each copy that takes B's end past the handshake shows both keys, which B hears in its turn, unless A sent more than its SYN. So where a turn is
+/// over, both ends are past the handshake, none is dead, and B may send none, the piece is A's first record, and nothing came to B behind the SYN.
+pub fn the_first_piece_waits()
+    ensures { TheFirstPieceWaits }
+{}
+
+/// A law: over one path an end of B's without a record was granted nothing, and knows of no window that is shut, until A may send a DSS (RFC 8684,
+/// section 3.1).
+///
+/// A's SYN tells a window that isn't shut, and B's end asks for bytes behind it. It is said where a turn is over, no end is dead and B may send a
+/// DSS; of mild connections whose sides buffer an octet at least.
+pub fn b_is_idle_before()
+    ensures { BIsIdleBefore }
+{}
+
+/// A law: over one path both files are delivered, or an end of the path died, after rounds enough from the beginning of the connection, however much
+/// is lost, late or repeated (`octets`, `values`).
+///
+/// It is said of mild scripts, by which no option is taken away, no payload is altered and no side closes at once, and of fewer than 2^64 - 1 turns:
+/// the link counts the segments of each side below that. After half of these rounds the path is whole, or all of both streams is with the peers, or
+/// an end died (`opens`); then they go on as in `whole_paths_deliver` (`delivers`), whose rounds are enough twice. Both are said of connections over
+/// one path with buffers of 4,096 octets at least.
+pub fn one_path_ends()
     ensures opens { OpensWithin (for_all_news news_within) }
     ensures delivers { DeliversWithin (for_all_news news_within) }
-    ensures octets { FirmPathsEnd octets opening_patience }
-    ensures values { FirmPathsEnd values opening_patience }
+    ensures octets { OneBriefPathEnds octets opening_patience }
+    ensures values { OneBriefPathEnds values opening_patience }
 {}
 
 /// A law: on a lane that loses segments all is acknowledged, or the end gave up, after five rounds or so for each segment and two
@@ -574,39 +583,14 @@ pub fn lossy_lanes_finish()
     ensures finish { LossyLanesFinish }
 {}
 
-/// A law: no more records of data of a side may be lost than before, but one for a segment that is harmed, between open ends (RFC 9293, section
-/// 3.10.7.4).
+/// A law: no more records of data of a side may be lost than before, but one for a segment that is harmed, between ends past the handshake, B's of
+/// which may send a DSS (RFC 9293, section 3.10.7.4).
 ///
 /// A record may be lost that isn't well: one that was sent, isn't with the peer, and doesn't come within 400 ticks. By each turn of a mild
 /// connection that `each_record_stays_well` speaks of the records of a side that may be lost are these still, or fewer; where a segment of the
 /// side is harmed there is one more at most, and none where the end owed an acknowledgement, since that goes alone.
 pub fn harms_alone_lose_records()
     ensures { HarmsAloneLoseRecords }
-{}
-
-/// A law: what an end sent is mended as its timer runs out, unless a segment is harmed once more (RFC 6298, section 5, rule 5.4).
-///
-/// Once the timer ran out, by a turn between open ends of a mild connection, the first record alone may be lost, and is to go again. As it goes
-/// it is harmed, or each record of the end is well: the first one comes within 400 ticks, each other one is to be sent.
-pub fn what_runs_out_is_mended()
-    ensures { WhatRunsOutIsMended }
-{}
-
-/// A law: where the first record of a side may be lost, there is one less that may be by the tick to which its timer runs, unless a segment is
-/// harmed, between open ends (RFC 6298, section 5).
-///
-/// By each turn that stays so to the same tick; or fewer records may be lost: SND.UNA rose past it, or it went again; or a segment of the path
-/// is harmed. Or there is news by which the timer may have started anew, though SND.UNA isn't past the record.
-pub fn lost_records_are_mended()
-    ensures { LostRecordsAreMended }
-{}
-
-/// A law: such a wait begins where a turn is over, and ends within a minute (RFC 6298, section 2, rule 2.5).
-///
-/// Where path 0 is open, its turn is over, and the first record of a side is one that may be lost, its timer runs for 60,000 ticks at most; and
-/// no such wait ends before the round does.
-pub fn lost_records_are_awaited()
-    ensures { LostRecordsAreAwaited }
 {}
 
 /// A law: where a turn is over, a record that came whole, and begins at RCV.NXT or before it, lies below it (RFC 9293, section 3.10.7.4).
@@ -655,22 +639,6 @@ pub fn four_rounds_clear()
     ensures told { EightRoundsClear }
 {}
 
-/// A law: where SND.UNA has reached a record that may be lost, that is the first one, or one less may be lost.
-///
-/// It is said of path 0 of a mild connection between open ends.
-pub fn what_is_reached_is_first()
-    ensures { WhatIsReachedIsFirst }
-{}
-
-/// A law: in eight rounds without a harm a record that may be lost becomes the first one, or one less may be lost (RFC 9293, section 3.4).
-///
-/// It is said of rounds of a mild connection over one path between open ends, where the end was to be told soon how far its peer was after the first
-/// four. By turns without a harm no more records may be lost (`stays`).
-pub fn lost_records_are_first()
-    ensures stays { LostRecordsStay }
-    ensures first { LostRecordsAreFirst }
-{}
-
 /// A law: a record of data that comes by a tick comes by that tick still, by each turn of a mild connection between open ends, until it is
 /// acknowledged (RFC 9293, section 3.10.7.4).
 ///
@@ -678,4 +646,70 @@ pub fn lost_records_are_first()
 /// ends, or is acknowledged (`due`).
 pub fn records_come_in_time()
     ensures { RecordsComeInTime }
+{}
+
+/// A law: on the only path of a mild connection bytes are acknowledged as positions are (RFC 8684, section 3.3.2).
+///
+/// Where the path's turn is over, neither of its ends is dead, and a side's sent no FIN, as many bytes of its stream are acknowledged as positions of
+/// its subflow, but for that of the SYN: to its end, and in its send book. So in four rounds between open ends all is acknowledged that the peer's
+/// side had received, where the end was to be told soon how far its peer was; or all of the stream is there (`rounds`).
+pub fn positions_are_acked_as_bytes()
+    ensures positions { PositionsAreAckedAsBytes }
+    ensures rounds { FourRoundsAcknowledge }
+{}
+
+/// A law: what an end is to hear of a copy it was to hear before, or the copy says it that the end takes next; and no Data ACK counts but one that the
+/// end was to hear (RFC 8684, section 3.3.2).
+///
+/// By any turn. Where the side fell back to plain TCP, or sends by an infinite mapping, the subflow's acknowledgements count in its place.
+pub fn what_is_heard_was_said()
+    ensures octets { WhatIsHeardWasSaid octets }
+    ensures values { WhatIsHeardWasSaid values }
+{}
+
+/// A law: on the only path of a mild connection no more bytes are acknowledged to an end than positions of its subflow, but for that of the SYN, as
+/// long as neither end is dead; or all of the stream is with the peer (RFC 8684, section 3.3.2).
+pub fn heard_lies_below()
+    ensures { HeardLiesBelow }
+{}
+
+/// A law: a congestion window of two full segments holds two still, by any turn, unless the end's timer runs out (RFC 5681, section 3.1).
+///
+/// Acknowledgements widen it, or bring it back to its threshold, which is two segments at least; a fast retransmission leaves it above that; and an
+/// expiry alone takes it to one.
+pub fn wide_windows_stay()
+    ensures octets { WideWindowsStay octets }
+    ensures values { WideWindowsStay values }
+{}
+
+/// A law: between open ends a segment without an octet is taken as it arrives, unless its end takes one before that goes past it (RFC 9293, section
+/// 3.10.7.4): then more was sent behind it.
+///
+/// It is said of turns of a mild connection, and of a segment before whose position all stands that the end has: so it is with each that an end sends
+/// at SND.NXT, and no reset; and one that is sent is harmed, or comes within 400 ticks, where the peer's window has room for what was sent before.
+pub fn bare_segments_are_taken()
+    ensures { BareSegmentsAreTaken }
+{}
+
+/// A law: past the handshake of a mild connection a DATA_FIN that is sent is harmed, or comes within 400 ticks and is heard, unless more is sent behind
+/// it (RFC 8684, section 3.3.3).
+///
+/// By each turn: one that comes by a tick comes by it still, or is heard; or more was sent behind it, so that it may be overtaken, and doesn't count
+/// then (`by_turn`). An end sends its DATA_FIN once its end is known, though bytes before it wait for a shut window. Over one path it stays so that the
+/// DATA_FIN wasn't sent, or comes so, but for a harm (`stays`); and in four rounds the peer's side knows where the stream ends (`rounds`).
+pub fn data_fins_come_soon()
+    ensures by_turn { DataFinsComeSoon }
+    ensures stays { DataFinsStaySoon }
+    ensures rounds { FourRoundsEnd }
+{}
+
+/// A law: past the handshake of a mild connection a window that a segment without an octet tells is harmed, or comes within 400 ticks and is heard,
+/// unless more is sent behind it (RFC 8684, section 3.3.5).
+///
+/// By each turn: one that comes by a tick comes by it still, or the side may send up to its edge; or more was sent behind it, so that it may be
+/// overtaken (`by_turn`). The window begins at the place of the Data ACK that the segment has. In four rounds over one path the side may send so far
+/// (`rounds`).
+pub fn windows_come_soon()
+    ensures by_turn { WindowsComeSoon }
+    ensures rounds { FourRoundsOpen }
 {}

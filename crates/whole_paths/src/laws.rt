@@ -208,8 +208,8 @@ pub fn each_expiry_sends_all_again()
     ensures values { EachExpirySendsAllAgain values }
 {}
 
-/// A law: an acceptable copy that comes ends the expiries in a row of its end (RFC 6298, section 5), and one that lies outside the window, is a
-/// SYN, or acknowledges what wasn't sent, is owed an acknowledgement in its turn, or the SYN/ACK (RFC 9293, section 3.10.7.4).
+/// A law: an acceptable copy that comes ends the expiries in a row of its end (RFC 6298, section 5), and one that lies outside the window, is a SYN,
+/// or acknowledges what wasn't sent, is owed an acknowledgement in its turn, or the SYN/ACK by a half-open end (RFC 9293, section 3.10.7.4).
 pub fn each_copy_that_comes_counts()
     ensures { EachCopyThatComesCounts }
 {}
@@ -252,10 +252,10 @@ pub fn timers_run_on()
 /// A law: where a timer runs out, the first record that isn't acknowledged is sent again, and the timer runs anew (RFC 6298, section 5,
 /// rules 5.4 to 5.6).
 ///
-/// The timer runs twice as long as before, and for a minute at most. The end sends the record before anything else, once the bytes that
-/// its path was granted are given back, and the link takes the segment as it takes any: with the record's position, flags and octets, and
-/// the options and the acknowledgement of now. The sixth expiry without an acceptable segment in between ends the end. Where no record is
-/// left, an acknowledgement goes in its place.
+/// The timer runs twice as long as before, for a minute at most, and what was outstanding is so still. The end sends the record before anything
+/// else, once the bytes that its path was granted are given back, and the link takes the segment as it takes any: with the record's position,
+/// flags and octets, and the options and the acknowledgement of now. The sixth expiry without an acceptable segment in between ends the end.
+/// Where no record is left, an acknowledgement goes in its place, with what waits for an answer, or one position before SND.UNA as a probe.
 pub fn what_runs_out_goes_again()
     ensures octets { WhatRunsOutGoesAgain octets }
     ensures values { WhatRunsOutGoesAgain values }
@@ -355,7 +355,7 @@ pub fn each_confirmation_counts()
 /// as the end's reassembly book told it last (RFC 8684, section 3.3.2).
 ///
 /// Once the end may send a DSS, and as long as its side doesn't fall back to plain TCP, such are an acknowledgement, a record for the first
-/// time or again, a notice, a DATA_FIN and a FIN. A segment with a SYN has none, nor has a reset.
+/// time or again, a notice, a DATA_FIN and a FIN; before that each has such a DSS, or none. A segment with a SYN has none, nor has a reset.
 pub fn each_segment_has_a_data_ack()
     ensures octets { EachSegmentHasADataAck (List ℕ) }
     ensures values { EachSegmentHasADataAck Carried }
@@ -569,7 +569,8 @@ pub fn what_is_in_order_is_passed()
 /// A law: a copy of a piece that comes to an open end is taken in order, with its mapping, or it came before (RFC 9293, section 3.10.7.4;
 /// RFC 8684, section 3.3.1).
 ///
-/// The copy is neither stripped nor altered, on the path that opens the connection, and a DSS maps its bytes. Where
+/// The copy is neither stripped nor altered, on the path that opens the connection, and a DSS maps its bytes, or the option that shows both keys
+/// those of A's first piece. Where
 /// RCV.NXT is one of its positions, all of them lie in the window, what it acknowledges was sent, and the side didn't fall back to plain
 /// TCP, the end takes it. Where RCV.NXT is past it, it lies outside the window. `what_is_in_hand_is_acknowledged` says what follows of
 /// both. The segment of a record that an end sends with its own mapping is such a piece (`records`), and a copy of it that was under way

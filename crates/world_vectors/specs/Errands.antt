@@ -1,5 +1,5 @@
 -- What a caller asks.
-use Rattle.std.specs.Prelude.{ℕ, ◌-◌, ◌==◌, Option, Some, None, [], ◌∷◌, if◌then◌else◌}
+use Rattle.std.specs.Prelude.{◌-◌, ◌==◌, Option, Some, None, [], ◌∷◌, if◌then◌else◌}
 use Rattle.sides.specs.declared.side.Side.TheVariants as side
 use Rattle.send_book.specs.declared.call.SendCall.{SendCall}
 use Rattle.send_book.specs.declared.call.SendCall.TheVariants as calls

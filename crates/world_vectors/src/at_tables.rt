@@ -12,7 +12,7 @@ use actor_desk::{Books, Crew, Notes};
 use actor_turn::OpenGate;
 use case_fields::Case;
 use octet_text::Text;
-use ruled_desk::{TurnGiver, dismiss_all, open_turns, round_at_tables, serve_all};
+use ruled_desk::{TurnGiver, dismiss_all, meet_all, open_turns, round_at_tables, serve_all};
 use send_book::{SendBook, SendCall, SendReply};
 use stamped_book::{Book, Pass, Refusal, Stamped};
 use std::alloc::{AllocError, Global};
@@ -21,7 +21,7 @@ use std::thread::{Threads, join_mut};
 use world_core::World;
 
 /// Puts the answer to a line.
-pub fn at_tables<'a, R: Threads + Wait + Sync>(rt: &R, case: &mut Case<'a>, line: &'a str) {
+pub fn at_tables<R: Threads + Wait + Sync>(rt: &R, case: &mut Case, line: &'static str) {
     let Some((opening, rounds)) = line.split_once(" then ") else {
         return case.refuse();
     };
@@ -45,15 +45,15 @@ pub fn at_tables<'a, R: Threads + Wait + Sync>(rt: &R, case: &mut Case<'a>, line
 }
 
 /// Lets the books go, as those of a world without actors.
-fn let_go(case: &Case<'_>, books: Books) {
+fn let_go(case: &Case, books: Books) {
     World::from_parts(books, Vec::new(case.alloc), true).close();
 }
 
 /// All rounds, beside the threads of two workers: the books after them.
-fn beside_workers<'a, R: Threads + Wait + Sync>(
+fn beside_workers<R: Threads + Wait + Sync>(
     rt: &R,
-    case: &mut Case<'a>,
-    rounds: &'a str,
+    case: &mut Case,
+    rounds: &'static str,
     known: [u64; 3],
     books: Books,
 ) -> Books {
@@ -67,30 +67,31 @@ fn beside_workers<'a, R: Threads + Wait + Sync>(
         { serve_all(rt, alloc, &mut workers, &OpenGate) },
         &mut || -> Books
             requires { IsSome waits × All (λ giver. giver ≡ None) givers.items }
-            ensures { waits.exit ≡ None }
         { after_rounds(rt, case, rounds, known, &mut waits, &mut givers) },
     );
-    let None = waits else { unreachable!() };
+    if let Some(left) = waits {
+        let_go(case, left);
+    }
     books
 }
 
-/// All rounds over the books that wait: the books after them.
-fn after_rounds<'a, R: Wait>(
+/// All rounds over the books that wait, once the workers have come: the books after them.
+fn after_rounds<R: Wait>(
     rt: &R,
-    case: &mut Case<'a>,
-    rounds: &'a str,
+    case: &mut Case,
+    rounds: &'static str,
     known: [u64; 3],
     waits: &mut Option<Books>,
     givers: &mut Vec<TurnGiver<Caller>>,
 ) -> Books
     requires waits { IsSome waits.old }
     requires rest { All (λ giver. giver ≡ None) givers.old.items }
-    ensures { waits.new ≡ None }
 {
     let Some(mut books) = waits.take() else {
         unreachable!()
     };
     let mut known = known;
+    meet_all(rt, givers.as_slice());
     for round in rounds.split(" then ") {
         case.read(round, " ");
         books = after_round(rt, case, &mut known, books, givers);
@@ -102,7 +103,7 @@ fn after_rounds<'a, R: Wait>(
 /// A round: the books after it.
 fn after_round<R: Wait>(
     rt: &R,
-    case: &mut Case<'_>,
+    case: &mut Case,
     known: &mut [u64; 3],
     books: Books,
     givers: &mut [TurnGiver<Caller>],
@@ -127,7 +128,7 @@ fn after_round<R: Wait>(
 }
 
 /// The three actors of a round, with what they know.
-fn crew_of(case: &mut Case<'_>, known: &[u64; 3]) -> Result<Vec<Crew<Caller>>, AllocError>
+fn crew_of(case: &mut Case, known: &[u64; 3]) -> Result<Vec<Crew<Caller>>, AllocError>
     ensures { IfOk result (λ crew. AreActors 0 crew.items) }
 {
     let first = actor_of(case, 0, known[0]);
@@ -137,7 +138,7 @@ fn crew_of(case: &mut Case<'_>, known: &[u64; 3]) -> Result<Vec<Crew<Caller>>, A
 }
 
 /// Who asks what the next fields tell, with its stamp.
-fn actor_of(case: &mut Case<'_>, actor: u8, stamp: u64) -> Crew<Caller>
+fn actor_of(case: &mut Case, actor: u8, stamp: u64) -> Crew<Caller>
     ensures { result.pass.actor ≡ actor }
 {
     let errand = match case.word() {
@@ -174,7 +175,7 @@ fn end_word(ended: Result<(), Refusal>) -> &'static str {
 }
 
 /// Puts A's send book, and how many entries there are elsewhere, on two lines with LF before each.
-fn put_books(case: &mut Case<'_>, books: &Books) {
+fn put_books(case: &mut Case, books: &Books) {
     put_journal(case, &books.send_a);
     put_written(case, books.send_a.book());
     let elsewhere = books.send_b.journal().len() as u64
@@ -182,8 +183,7 @@ fn put_books(case: &mut Case<'_>, books: &Books) {
         + books.reassembly_b.journal().len() as u64
         + books.control_a.journal().len() as u64
         + books.control_b.journal().len() as u64;
-    case.put(", entries elsewhere ");
-    case.say(&elsewhere);
+    case.say_behind(", entries elsewhere ", &elsewhere);
 }
 
 /// How many entries of the journal are an actor's.
@@ -206,18 +206,15 @@ fn rises(book: &Stamped<SendBook>) -> bool {
     true
 }
 
-fn put_journal(case: &mut Case<'_>, book: &Stamped<SendBook>) {
-    case.put("\n    entries ");
-    case.say(&book.journal().len());
+fn put_journal(case: &mut Case, book: &Stamped<SendBook>) {
+    case.say_behind("\n    entries ", &book.journal().len());
     case.put(" (");
     case.put_numbers(
         ", ",
         &[made_by(book, 0), made_by(book, 1), made_by(book, 2)],
     );
-    case.put("), rising ");
-    case.say(&rises(book));
-    case.put(", last stamp ");
-    case.say(&book.last_stamp());
+    case.say_behind("), rising ", &rises(book));
+    case.say_behind(", last stamp ", &book.last_stamp());
     case.put(", last reply ");
     case.put(match book.journal().last() {
         Some(entry) => reply_word(&entry.reply),
@@ -255,7 +252,7 @@ fn is_open(alloc: Global, book: &SendBook) -> bool {
 }
 
 /// Puts how many octets are written, and whether more may be.
-fn put_written(case: &mut Case<'_>, book: &SendBook) {
+fn put_written(case: &mut Case, book: &SendBook) {
     case.put("\n    written ");
     if let Some(written) = written_in(book) {
         case.say(&written);

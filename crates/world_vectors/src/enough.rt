@@ -6,7 +6,7 @@ use case_fields::Case;
 use clean_finish::rounds_enough;
 
 /// Puts the bound that a line asks for, whose fields the case has.
-pub fn enough(case: &mut Case<'_>, line: &str) {
+pub fn enough(case: &mut Case, line: &str) {
     let (_, script) = (case.word(), case.word());
     let (length_a, length_b): (u64, u64) = (case.number(), case.number());
     if length_a > 16_777_216 || length_b > 16_777_216 {

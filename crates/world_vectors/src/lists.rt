@@ -27,7 +27,7 @@ fn ended(
 }
 
 /// Puts the answer to a line, whose fields the case has.
-pub fn list<'a>(case: &mut Case<'a>, line: &'a str) {
+pub fn list(case: &mut Case, line: &'static str) {
     case.put(line);
     case.put("\n  ");
     let fields = case.rest();
@@ -37,7 +37,7 @@ pub fn list<'a>(case: &mut Case<'a>, line: &'a str) {
 }
 
 /// What is shown of the run that the fields of a case tell.
-fn list_run(case: &mut Case<'_>) -> Result<String, CaseFault> {
+fn list_run(case: &mut Case) -> Result<String, CaseFault> {
     let alloc = case.alloc;
     let words = words_of(alloc, case.word())?;
     let failing = failing(alloc, case.word())?;

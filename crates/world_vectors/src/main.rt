@@ -26,7 +26,7 @@ mod tables;
 
 use actor_turn::OpenGate;
 use at_tables::at_tables;
-use case_fields::{Case, CaseFault, Recorder, Task, put_report};
+use case_fields::{Case, CaseFault, Recorder, Task, kept_line, put_report};
 use enough::enough;
 use lists::list;
 use meeting::meeting;
@@ -44,7 +44,7 @@ use tables::table;
 fn ended<R: Threads + Wait + Sync>(
     rt: &R,
     alloc: Global,
-    task: &Task<'_>,
+    task: &Task,
     words: &[String],
     mut outside: Recorder,
 ) -> (Status, Recorder) {
@@ -56,12 +56,7 @@ fn ended<R: Threads + Wait + Sync>(
 }
 
 /// Puts how a run ends, and what is shown of it. A serial run leaves its log in `log`.
-fn put_run<R: Threads + Wait + Sync>(
-    rt: &R,
-    case: &mut Case<'_>,
-    task: &Task<'_>,
-    log: &mut Vec<u8>,
-) {
+fn put_run<R: Threads + Wait + Sync>(rt: &R, case: &mut Case, task: &Task, log: &mut Vec<u8>) {
     match task.words(case.alloc) {
         Ok(words) => put_run_of(rt, case, task, words.as_slice(), log),
         Err(_) => case.fail(),
@@ -71,8 +66,8 @@ fn put_run<R: Threads + Wait + Sync>(
 /// Puts how the run of these words ends.
 fn put_run_of<R: Threads + Wait + Sync>(
     rt: &R,
-    case: &mut Case<'_>,
-    task: &Task<'_>,
+    case: &mut Case,
+    task: &Task,
     words: &[String],
     log: &mut Vec<u8>,
 ) {
@@ -88,22 +83,15 @@ fn put_run_of<R: Threads + Wait + Sync>(
 }
 
 /// Puts how a run ended, and what is shown of the outside then.
-fn put_ended(
-    case: &mut Case<'_>,
-    task: &Task<'_>,
-    status: &Status,
-    outside: &Recorder,
-    log: &mut Vec<u8>,
-) {
-    case.put("\n  ");
-    case.tell(status);
+fn put_ended(case: &mut Case, task: &Task, status: &Status, outside: &Recorder, log: &mut Vec<u8>) {
+    case.tell_behind("\n  ", status);
     put_report(case, task.shown, outside);
     if task.is_serial() {
         keep_log(case, log, outside.port(Port::Log));
     }
 }
 
-fn keep_log(case: &mut Case<'_>, log: &mut Vec<u8>, told: &[u8]) {
+fn keep_log(case: &mut Case, log: &mut Vec<u8>, told: &[u8]) {
     match Vec::from_slice(case.alloc, told) {
         Ok(told) => *log = told,
         Err(_) => case.fail(),
@@ -111,10 +99,10 @@ fn keep_log(case: &mut Case<'_>, log: &mut Vec<u8>, told: &[u8]) {
 }
 
 /// Puts what is printed for a line of standard input.
-fn put_answer<'a, R: Threads + Wait + Sync>(
+fn put_answer<R: Threads + Wait + Sync>(
     rt: &R,
-    case: &mut Case<'a>,
-    line: &'a str,
+    case: &mut Case,
+    line: &'static str,
     log: &mut Vec<u8>,
 ) {
     if line.is_empty() || line.starts_with("#") {
@@ -131,11 +119,11 @@ fn put_answer<'a, R: Threads + Wait + Sync>(
 }
 
 /// Puts the answer to a line all of whose fields have ` | ` between them.
-fn put_other<'a, R: Threads + Wait + Sync>(
+fn put_other<R: Threads + Wait + Sync>(
     rt: &R,
-    case: &mut Case<'a>,
+    case: &mut Case,
     name: &str,
-    line: &'a str,
+    line: &'static str,
     log: &mut Vec<u8>,
 ) {
     case.read(line, " | ");
@@ -154,7 +142,7 @@ fn put_other<'a, R: Threads + Wait + Sync>(
 fn answer<R: Threads + Wait + Sync>(
     rt: &R,
     alloc: Global,
-    line: &str,
+    line: &'static str,
     log: &mut Vec<u8>,
 ) -> Result<String, CaseFault> {
     let mut case = Case::new(alloc, line);
@@ -178,9 +166,9 @@ fn print_answer(
 fn main(rt: HostRuntime) -> io::Result<()> {
     let mut log = Vec::new(rt.alloc());
     for line in rt.lines(rt.alloc()) {
-        let line = line?;
-        let answered = answer(&rt, rt.alloc(), line.as_str(), &mut log);
-        print_answer(&rt, line.as_str(), answered)?;
+        let line = kept_line(line?);
+        let answered = answer(&rt, rt.alloc(), line, &mut log);
+        print_answer(&rt, line, answered)?;
     }
     Ok(())
 }

@@ -23,7 +23,7 @@ fn run_at<R: Threads + Wait + Sync>(
 }
 
 /// Puts what is printed of a run by threads at the gate that a line tells, whose fields the case has.
-pub fn meeting<'a, R: Threads + Wait + Sync>(rt: &R, case: &mut Case<'a>, line: &'a str) {
+pub fn meeting<R: Threads + Wait + Sync>(rt: &R, case: &mut Case, line: &'static str) {
     let places = match case.rest().split_once(" | ") {
         Some((places, _)) => places,
         None => "",
@@ -40,12 +40,7 @@ pub fn meeting<'a, R: Threads + Wait + Sync>(rt: &R, case: &mut Case<'a>, line: 
 }
 
 /// Puts what is printed of a run by threads at this gate.
-fn put_met<R: Threads + Wait + Sync>(
-    rt: &R,
-    case: &mut Case<'_>,
-    task: &Task<'_>,
-    gate: &CountingGate,
-) {
+fn put_met<R: Threads + Wait + Sync>(rt: &R, case: &mut Case, task: &Task, gate: &CountingGate) {
     match task.words(case.alloc) {
         Ok(words) => put_met_by(rt, case, task, words.as_slice(), gate),
         Err(_) => case.fail(),
@@ -55,8 +50,8 @@ fn put_met<R: Threads + Wait + Sync>(
 /// Puts what is printed of the run of these words.
 fn put_met_by<R: Threads + Wait + Sync>(
     rt: &R,
-    case: &mut Case<'_>,
-    task: &Task<'_>,
+    case: &mut Case,
+    task: &Task,
     words: &[String],
     gate: &CountingGate,
 ) {
@@ -66,8 +61,7 @@ fn put_met_by<R: Threads + Wait + Sync>(
     };
     let outside = Recorder::new(alloc, outside);
     let (status, outside) = run_at(rt, alloc, words, outside, gate);
-    case.put("\n  ");
-    case.tell(&status);
+    case.tell_behind("\n  ", &status);
     put_report(case, task.shown, &outside);
     put_meeting(case, gate, outside.port(Port::Log));
 }

@@ -13,7 +13,7 @@ use subflow_worker::threaded_round;
 use world_core::World;
 
 /// Puts the answer to a line, whose fields the case has.
-pub fn first_round<R: Threads + Wait + Sync>(rt: &R, case: &mut Case<'_>, line: &str) {
+pub fn first_round<R: Threads + Wait + Sync>(rt: &R, case: &mut Case, line: &str) {
     case.put(line);
     case.put("\n  ");
     let (_, script, file_a, file_b) = (case.word(), case.word(), case.word(), case.word());
@@ -24,7 +24,7 @@ pub fn first_round<R: Threads + Wait + Sync>(rt: &R, case: &mut Case<'_>, line: 
 }
 
 /// Puts how a connection's first round ended, each actor's turn in a thread of its own, over books behind locks.
-fn put_round<R: Threads + Wait + Sync>(rt: &R, case: &mut Case<'_>, input: &Input)
+fn put_round<R: Threads + Wait + Sync>(rt: &R, case: &mut Case, input: &Input)
     requires { HasRanges input.now.script }
 {
     let Ok(world) = World::open(case.alloc, input) else {

@@ -31,8 +31,8 @@ const LAST_TICK: u64 = 1 << 62;
 
 /// Segments that go to the link of a path from a side.
 #[derive(Clone, Copy)]
-struct Injected<'a> {
-    digits: &'a str,
+struct Injected {
+    digits: &'static str,
     path: u8,
     from: Side,
 }
@@ -50,28 +50,23 @@ enum Shown {
 
 /// What a case tells besides its input.
 #[derive(Clone, Copy)]
-struct Told<'a> {
+struct Told {
     rounds: u64,
     /// Whether A has an application.
     has_a: bool,
     shown: Shown,
-    injected: Injected<'a>,
+    injected: Injected,
 }
 
-fn shown_of(case: &mut Case<'_>) -> Shown {
-    match case.word() {
-        "log" => Shown::Log,
-        "sums" => Shown::Sums,
-        "ends" => Shown::Ends,
-        _ => {
-            case.refuse();
-            Shown::Log
-        }
-    }
-}
+/// What is shown, by its name.
+const SHOWN: [(&str, Shown); 3] = [
+    ("log", Shown::Log),
+    ("sums", Shown::Sums),
+    ("ends", Shown::Ends),
+];
 
 /// What goes to a link.
-fn injected_of<'a>(case: &mut Case<'a>) -> Injected<'a> {
+fn injected_of(case: &mut Case) -> Injected {
     let digits = case.word();
     let path = if case.has_more() { case.number() } else { 0 };
     let from = if case.has_more() { case.word() } else { "a" };
@@ -83,17 +78,17 @@ fn injected_of<'a>(case: &mut Case<'a>) -> Injected<'a> {
 }
 
 /// What a case tells behind its script and its files, of which this is A's.
-fn told_of<'a>(case: &mut Case<'a>, file_a: &str) -> Told<'a> {
+fn told_of(case: &mut Case, file_a: &str) -> Told {
     Told {
         rounds: case.number(),
         has_a: file_a != "none",
-        shown: shown_of(case),
+        shown: case.one_of(&SHOWN, Shown::Log),
         injected: injected_of(case),
     }
 }
 
 /// Puts the answer to a line, whose fields the case has.
-pub fn path(case: &mut Case<'_>, line: &str) {
+pub fn path(case: &mut Case, line: &str) {
     let fields = case.rest();
     case.read(fields, " | ");
     let (script, file_a, file_b) = (case.word(), case.word(), case.word());
@@ -105,7 +100,7 @@ pub fn path(case: &mut Case<'_>, line: &str) {
 }
 
 /// Puts what is shown of the run of this script and of these files.
-fn put_path(case: &mut Case<'_>, told: &Told<'_>, script: &str, file_a: &str, file_b: &str) {
+fn put_path(case: &mut Case, told: &Told, script: &str, file_a: &str, file_b: &str) {
     if !matches!(told.shown, Shown::Sums) {
         case.put("\n");
     }
@@ -118,7 +113,7 @@ fn put_path(case: &mut Case<'_>, told: &Told<'_>, script: &str, file_a: &str, fi
 }
 
 /// Puts what is shown of the run of a case.
-fn put_run(case: &mut Case<'_>, told: &Told<'_>, input: &Input)
+fn put_run(case: &mut Case, told: &Told, input: &Input)
     requires { HasRanges input.now.script }
 {
     let (seed, width) = (input.script.seed, width_of(&input.script));
@@ -134,7 +129,7 @@ fn put_run(case: &mut Case<'_>, told: &Told<'_>, input: &Input)
 }
 
 /// Lines come behind the log.
-fn append(case: &mut Case<'_>, log: &mut Text, lines: Result<Text, AllocError>) {
+fn append(case: &mut Case, log: &mut Text, lines: Result<Text, AllocError>) {
     match lines {
         Ok(lines) if log.append(lines.as_bytes()).is_ok() => {}
         _ => case.fail(),
@@ -142,47 +137,38 @@ fn append(case: &mut Case<'_>, log: &mut Text, lines: Result<Text, AllocError>) 
 }
 
 /// The rounds of a case.
-fn make_rounds(
-    case: &mut Case<'_>,
-    told: &Told<'_>,
-    log: &mut Text,
-    books: &mut Books,
-    crew: &mut [Crew],
-) {
+fn make_rounds(case: &mut Case, told: &Told, log: &mut Text, books: &mut Books, crew: &mut [Crew]) {
     for number in 0..told.rounds {
-        make_turns(case, told, log, books, crew);
+        let stamp = make_turns(case, told, log, books, crew);
         let end = round_line(case.alloc, number);
         append(case, log, end);
-        begin_round(case, crew);
+        begin_round(case, crew, stamp);
         if number == 0 {
             inject(case, &told.injected, crew);
         }
     }
 }
 
-/// The turns of all actors, in the order of their numbers.
+/// The turns of all actors, in the order of their numbers: the greatest stamp that one knows then.
 fn make_turns(
-    case: &mut Case<'_>,
-    told: &Told<'_>,
+    case: &mut Case,
+    told: &Told,
     log: &mut Text,
     books: &mut Books,
     crew: &mut [Crew],
-) {
+) -> u64 {
+    let mut stamp = 0;
     for actor in crew.iter_mut() {
         if told.has_a || actor.pass.actor > 0 {
             make_turn(case, told.shown, log, books, actor);
         }
+        stamp = stamp.max(actor.pass.stamp);
     }
+    stamp
 }
 
 /// The turn of an actor, whose steps are told.
-fn make_turn(
-    case: &mut Case<'_>,
-    shown: Shown,
-    log: &mut Text,
-    books: &mut Books,
-    actor: &mut Crew,
-) {
+fn make_turn(case: &mut Case, shown: Shown, log: &mut Text, books: &mut Books, actor: &mut Crew) {
     let made = actor.list.len();
     if turn(case.alloc, actor, books, &OpenGate).is_err() {
         case.fail();
@@ -193,7 +179,7 @@ fn make_turn(
 }
 
 /// What is shown of a step comes behind the log, or behind the answer.
-fn tell(case: &mut Case<'_>, shown: Shown, log: &mut Text, note: &Note) {
+fn tell(case: &mut Case, shown: Shown, log: &mut Text, note: &Note) {
     if matches!(shown, Shown::Ends) {
         return put_place(case, &note.ask);
     }
@@ -201,40 +187,28 @@ fn tell(case: &mut Case<'_>, shown: Shown, log: &mut Text, note: &Note) {
     append(case, log, line);
 }
 
-/// The greatest stamp that an actor knows.
-fn greatest(crew: &[Crew]) -> u64 {
-    let mut stamp = 0;
-    for actor in crew {
-        stamp = stamp.max(actor.pass.stamp);
-    }
-    stamp
-}
-
-/// Each actor knows the greatest stamp that one knows, and begins the next round.
-fn begin_round(case: &mut Case<'_>, crew: &mut [Crew]) {
-    let stamp = greatest(crew);
+/// Each actor knows this stamp, and begins the next round.
+fn begin_round(case: &mut Case, crew: &mut [Crew], stamp: u64) {
     for actor in crew.iter_mut() {
         raise(&mut actor.pass, stamp);
         begin(case, &mut actor.member);
     }
 }
 
-fn begin(case: &mut Case<'_>, member: &mut Member) {
+fn begin(case: &mut Case, member: &mut Member) {
     match member {
         Member::App(app) => app.next_round(),
-        Member::Path(path) => begin_path(case, path),
+        Member::Path(path) => {
+            if !path.has_ended() || path.round_end() > LAST_TICK {
+                return case.refuse();
+            }
+            path.next_round();
+        }
     }
-}
-
-fn begin_path(case: &mut Case<'_>, path: &mut Path) {
-    if !path.has_ended() || path.round_end() > LAST_TICK {
-        return case.refuse();
-    }
-    path.next_round();
 }
 
 /// The link of the path takes what the case has for it.
-fn inject(case: &mut Case<'_>, injected: &Injected<'_>, crew: &mut [Crew]) {
+fn inject(case: &mut Case, injected: &Injected, crew: &mut [Crew]) {
     for actor in crew.iter_mut() {
         if let Member::Path(path) = &mut actor.member {
             if path.number() == injected.path {
@@ -244,7 +218,7 @@ fn inject(case: &mut Case<'_>, injected: &Injected<'_>, crew: &mut [Crew]) {
     }
 }
 
-fn inject_at(case: &mut Case<'_>, injected: &Injected<'_>, path: &mut Path) {
+fn inject_at(case: &mut Case, injected: &Injected, path: &mut Path) {
     for digits in injected.digits.split(',') {
         match octets_of(case.alloc, digits) {
             Ok(octets) if path.inject(injected.from, octets.as_slice()).is_ok() => {}
@@ -254,7 +228,7 @@ fn inject_at(case: &mut Case<'_>, injected: &Injected<'_>, path: &mut Path) {
 }
 
 /// Puts the line of a copy that arrived, of octets that were to be placed, or of an end that was told; nothing of other steps.
-fn put_place(case: &mut Case<'_>, ask: &Ask) {
+fn put_place(case: &mut Case, ask: &Ask) {
     match ask {
         Ask::Local(LocalStep::Arrive { to, copy }) => put_words(case, "  arrive ", *to, *copy),
         Ask::Reassembly(side, ReassemblyCall::Place { at, bytes }) => {
@@ -268,19 +242,18 @@ fn put_place(case: &mut Case<'_>, ask: &Ask) {
     case.put("\n");
 }
 
-fn put_words(case: &mut Case<'_>, word: &str, side: Side, number: u64) {
+fn put_words(case: &mut Case, word: &str, side: Side, number: u64) {
     case.put(word);
     case.put(side.word());
-    case.put(" ");
-    case.say(&number);
+    case.say_behind(" ", &number);
 }
 
 /// Puts what is shown of a run that has ended.
-fn put_end(case: &mut Case<'_>, told: &Told<'_>, mut log: Text, world: World) {
+fn put_end(case: &mut Case, told: &Told, mut log: Text, world: World) {
     let last = outcome_line(case.alloc, told_outcome(world.outcome()));
     append(case, &mut log, last);
     match told.shown {
-        Shown::Log => put_lines(case, log.as_bytes()),
+        Shown::Log => case.put_text(log.as_bytes()),
         Shown::Sums => {
             let read_by_b = read_since(case.alloc, &world, &[], 1);
             put_read(case, "read-by-b", read_by_b);
@@ -293,15 +266,8 @@ fn put_end(case: &mut Case<'_>, told: &Told<'_>, mut log: Text, world: World) {
     world.close();
 }
 
-fn put_lines(case: &mut Case<'_>, log: &[u8]) {
-    match String::from_utf8_lossy(case.alloc, log) {
-        Ok(log) => case.put(log.as_str()),
-        Err(_) => case.fail(),
-    }
-}
-
 /// Puts how much a reader read, and its digest.
-fn put_read(case: &mut Case<'_>, name: &str, read: Result<Text, AllocError>) {
+fn put_read(case: &mut Case, name: &str, read: Result<Text, AllocError>) {
     match read {
         Ok(read) => put_port(case, name, read.as_bytes()),
         Err(_) => case.fail(),

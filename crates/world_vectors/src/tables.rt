@@ -23,7 +23,7 @@ use world_core::Stepped;
 const MOST_STEPS: u32 = 10_000;
 
 /// Puts the answers to the calls of a line.
-pub fn table(case: &mut Case<'_>, line: &str) {
+pub fn table(case: &mut Case, line: &str) {
     let mut table = ConnectionTable::new(case.alloc);
     case.put(line);
     case.put("\n ");
@@ -35,7 +35,7 @@ pub fn table(case: &mut Case<'_>, line: &str) {
 }
 
 /// One call.
-fn put_call(case: &mut Case<'_>, table: &mut ConnectionTable) {
+fn put_call(case: &mut Case, table: &mut ConnectionTable) {
     match case.word() {
         "admit" => {
             let (seed, paths) = (case.number(), case.number());
@@ -70,7 +70,7 @@ fn input_with(alloc: Global, seed: u64, paths: u8) -> Result<Input, CaseFault>
 }
 
 /// Admits a connection, and shows its number, or why it isn't.
-fn admit(case: &mut Case<'_>, table: &mut ConnectionTable, seed: u64, paths: u8) {
+fn admit(case: &mut Case, table: &mut ConnectionTable, seed: u64, paths: u8) {
     case.put(" ");
     match input_with(case.alloc, seed, paths) {
         Ok(input) => put_admitted(case, table.admit(&input)),
@@ -78,20 +78,19 @@ fn admit(case: &mut Case<'_>, table: &mut ConnectionTable, seed: u64, paths: u8)
     }
 }
 
-fn put_admitted(case: &mut Case<'_>, admitted: Result<u8, AdmitFault>) {
+fn put_admitted(case: &mut Case, admitted: Result<u8, AdmitFault>) {
     match admitted {
         Ok(number) => case.say(&number),
         Err(AdmitFault::Full) => case.put("full"),
         Err(AdmitFault::SameToken { holder }) => {
-            case.put("same:");
-            case.say(&holder);
+            case.say_behind("same:", &holder);
         }
         Err(AdmitFault::Memory) => case.fail(),
     }
 }
 
 /// Admits a connection for each of these seeds.
-fn admit_each(case: &mut Case<'_>, table: &mut ConnectionTable) {
+fn admit_each(case: &mut Case, table: &mut ConnectionTable) {
     let (from, to): (u64, u64) = (case.number(), case.number());
     for seed in from..=to {
         admit(case, table, seed, 1);
@@ -99,22 +98,20 @@ fn admit_each(case: &mut Case<'_>, table: &mut ConnectionTable) {
 }
 
 /// Shows where a segment goes.
-fn put_route(case: &mut Case<'_>, route: Route) {
+fn put_route(case: &mut Case, route: Route) {
     match route {
         Route::To(home) => {
-            case.put(" to:");
-            case.say(&home);
+            case.say_behind(" to:", &home);
         }
         Route::Unknown { token } => {
-            case.put(" unknown:");
-            case.say(&token);
+            case.say_behind(" unknown:", &token);
         }
         Route::NotJoin => case.put(" not-join"),
     }
 }
 
 /// Shows where octets go.
-fn route(case: &mut Case<'_>, table: &ConnectionTable) {
+fn route(case: &mut Case, table: &ConnectionTable) {
     let addresses = Addresses {
         source: case.four(),
         destination: case.four(),
@@ -124,7 +121,7 @@ fn route(case: &mut Case<'_>, table: &ConnectionTable) {
 }
 
 /// Shows where the segment goes that comes to B by the actor's next step, if one comes that asks to join.
-fn put_join(case: &mut Case<'_>, table: &ConnectionTable, connection: u8, actor: u8) {
+fn put_join(case: &mut Case, table: &ConnectionTable, connection: u8, actor: u8) {
     if connection >= table.len() {
         return case.refuse();
     }
@@ -145,7 +142,7 @@ fn is_made(stepped: &Stepped) -> bool {
 }
 
 /// Makes a step, and answers whether the turn hadn't ended.
-fn step(case: &mut Case<'_>, table: &mut ConnectionTable, connection: u8, actor: u8) -> bool {
+fn step(case: &mut Case, table: &mut ConnectionTable, connection: u8, actor: u8) -> bool {
     if connection >= table.len() {
         case.refuse();
         return false;
@@ -160,7 +157,7 @@ fn step(case: &mut Case<'_>, table: &mut ConnectionTable, connection: u8, actor:
 }
 
 /// The steps of an actor, up to the end of its turn.
-fn turn(case: &mut Case<'_>, table: &mut ConnectionTable, connection: u8, actor: u8) {
+fn turn(case: &mut Case, table: &mut ConnectionTable, connection: u8, actor: u8) {
     for _ in 0..MOST_STEPS {
         put_join(case, table, connection, actor);
         if !step(case, table, connection, actor) {
@@ -170,7 +167,7 @@ fn turn(case: &mut Case<'_>, table: &mut ConnectionTable, connection: u8, actor:
 }
 
 /// A serial round of a connection.
-fn round(case: &mut Case<'_>, table: &mut ConnectionTable, connection: u8) {
+fn round(case: &mut Case, table: &mut ConnectionTable, connection: u8) {
     if connection >= table.len() {
         return case.refuse();
     }
@@ -184,7 +181,7 @@ fn round(case: &mut Case<'_>, table: &mut ConnectionTable, connection: u8) {
 }
 
 /// Shows the seed of a connection, and how many rounds its list of turns has.
-fn put_turns(case: &mut Case<'_>, table: &ConnectionTable, connection: u8) {
+fn put_turns(case: &mut Case, table: &ConnectionTable, connection: u8) {
     if connection >= table.len() {
         return case.refuse();
     }
@@ -193,14 +190,12 @@ fn put_turns(case: &mut Case<'_>, table: &ConnectionTable, connection: u8) {
         .iter()
         .filter(|turn| matches!(turn, Turn::Round))
         .count();
-    case.put(" seed:");
-    case.say(&table.input(connection).script.seed);
-    case.put(" rounds:");
-    case.say(&rounds);
+    case.say_behind(" seed:", &table.input(connection).script.seed);
+    case.say_behind(" rounds:", &rounds);
 }
 
 /// Serial rounds of a connection.
-fn rounds(case: &mut Case<'_>, table: &mut ConnectionTable) {
+fn rounds(case: &mut Case, table: &mut ConnectionTable) {
     let connection: u8 = case.number();
     let count: u16 = case.number();
     for _ in 0..count {

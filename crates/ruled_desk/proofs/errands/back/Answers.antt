@@ -1,12 +1,11 @@
-use Rattle.ruled_desk.proofs.Words.{sym, ◌∙◌, ap, subst, Rode}
-use Rattle.std.specs.Box.{box_value}
+use Rattle.ruled_desk.proofs.Words.{sym, subst, HasPass, Rode}
 use Rattle.ruled_desk.proofs.SentOut.{fetched, not_sent, sent_out}
 use Rattle.ruled_desk.proofs.errands.back.Goals as goal
 
-pub fetch-requires : goal.fetch-requires
-fetch-requires g c =
+pub come_home-requires : goal.come_home-requires
+come_home-requires g c =
     let out = sent_out c.args.desk.now c.requires.0 c.args.giver.now c.args.kept c.in-None.is c.requires.1 in
-    (out.0, out.1)
+    (out.0, out.1, subst (λ d. HasPass d out.0.rider) (sym out.3) (subst (λ r. HasPass c.args.desk.now r) (sym out.2) c.requires.2))
 
 pub returns-in-Some-clause-rode : goal.returns-in-Some-clause-rode
 returns-in-Some-clause-rode g c rider sent has =
@@ -15,5 +14,4 @@ returns-in-Some-clause-rode g c rider sent has =
 
 pub returns-in-None-clause-rode : goal.returns-in-None-clause-rode
 returns-in-None-clause-rode g c rider sent has =
-    subst (λ back. Rode g.A.Actor.asks g.A.Actor.takes c.args.desk.now rider back) (sym (c.into_rider.ensures ∙ ap (λ errand. errand.rider) c.into_inner.ensures))
-    (fetched g.A.Actor.asks g.A.Actor.takes c.args.desk.now rider c.args.giver.now c.args.kept (box_value c.fetch.result).rider c.in-None.is sent c.fetch.ensures.done)
+    fetched g.A.Actor.asks g.A.Actor.takes c.args.desk.now rider c.args.giver.now c.args.kept c.come_home.result c.in-None.is sent c.come_home.ensures.rode

@@ -1,4 +1,4 @@
-use Rattle.ruled_desk.proofs.Words.{◌≡◌, refl, sym, ◌∙◌, ap, subst, ◌⊎◌, inr, List, length, length-map, Crew, AreNumbered, EndsAsTurns, IsWholeRound}
+use Rattle.ruled_desk.proofs.Words.{refl, sym, ◌∙◌, ap, subst, ◌⊎◌, inr, List, length, length-map, Crew, AreNumbered, EndsAsTurns, IsWholeRound}
 use Rattle.ruled_desk.proofs.Words.{OneIsFull, OneKnowsLast, crew_of, without_pass, NoTurnMade}
 use Rattle.std.proofs.Common.{OnOk}
 use Rattle.ruled_desk.proofs.WholeRounds.{crew_again, numbered_riders, same_extend}

@@ -1,5 +1,5 @@
-use Rattle.whole_paths.proofs.Came as came
+use Rattle.whole_paths.proofs.UnaSaid as said
 use Rattle.whole_paths.proofs.laws.each_acknowledgement_is_said.Goals as goal
 
 pub returns : goal.returns
-returns c = came.each_una_is_said
+returns c = said.each_una_is_said

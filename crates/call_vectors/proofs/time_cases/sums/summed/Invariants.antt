@@ -1,0 +1,5 @@
+use Rattle.std.proofs.Common.{◌≡◌, ◌<◌, length}
+use Rattle.call_vectors.proofs.time_cases.sums.summed.Given as goal
+
+abbrev pub invariant-loop-turn : goal.invariant-loop-turn
+invariant-loop-turn l = (l.sum < 65536) × (length l.octets ≡ length l.fn.octets)

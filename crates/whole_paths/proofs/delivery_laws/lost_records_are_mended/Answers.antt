@@ -1,5 +1,0 @@
-use Rattle.whole_paths.proofs.FirstLost as records
-use Rattle.whole_paths.proofs.delivery_laws.lost_records_are_mended.Goals as goal
-
-pub returns : goal.returns
-returns c = records.lost_records_are_mended
