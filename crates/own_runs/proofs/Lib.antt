@@ -4,6 +4,7 @@ mod AckRuns
 mod AckTrace
 mod Acking
 mod Acknowledged
+mod AgendaFits
 mod AnswersAsked
 mod AnswersShow
 mod Bearing
@@ -70,6 +71,8 @@ mod OpenCounts
 mod OpenFlows
 mod Openers
 mod Opening
+mod OpeningArrivals
+mod OpeningEnds
 mod OpeningHears
 mod OpeningRuns
 mod Own
@@ -84,6 +87,7 @@ mod Passed
 mod PayloadsPlaced
 mod Pending
 mod Placing
+mod PlainSends
 mod Reached
 mod ReadEnds
 mod ReadingBack
