@@ -331,8 +331,8 @@ module _ (start : Start) (plain : IsPlain start) (whole : IsWhole start) (fit : 
         said_so : PathOpens (Opened later n) (Answered later n) (Spoke later n) (Fell before n) p
         said_so =
             let grown : PathOpens (Opened later n) (Answered later n) (Spoke before n) (Fell before n) p =
-                more_path (Opened before n) (Answered before n) (Spoke before n) (Opened later n) (Answered later n) (Spoke before n) (Fell before n) (Fell before n)
-                (was_more start (SynAt n) before turn) (was_more start (AnswersAt n) before turn) (λ is. is) (λ s is. is) p h.0 in
+            more_path (Opened before n) (Answered before n) (Spoke before n) (Opened later n) (Answered later n) (Spoke before n) (Fell before n) (Fell before n)
+            (was_more start (SynAt n) before turn) (was_more start (AnswersAt n) before turn) (λ is. is) (λ s is. is) p h.0 in
             record {
               copies = grown.copies;
               heard = grown.heard;
@@ -370,15 +370,24 @@ module _ (start : Start) (plain : IsPlain start) (whole : IsWhole start) (fit : 
 
             falls : (y : Sending) → turn_sending turn (world_run octets before (opened_world start)) ≡ Some y → ResetsAt n s y → Spoke later n → (turn ≡ Turn.Step i) × ResetNow p s
             falls y is holds spoke =
-                let own : Own y = own_so y is holds.0 in
-                (own.turns, (own.sends, own.next, sym (ap (λ (z : Sending). z.from) own.same) ∙ holds.1,
-                ap (λ (sg : PlainSegment). sg.rst) (sym (same_segment p own.sends)) ∙ sym (ap (λ (z : Sending). z.segment.rst) own.same) ∙ holds.2, hears s spoke))
+                let own : Own y = own_so y is holds.0 in (
+                  own.turns,
+                  (
+                    own.sends,
+                    own.next,
+                    sym (ap (λ (z : Sending). z.from) own.same) ∙ holds.1,
+                    ap (λ (sg : PlainSegment). sg.rst) (sym (same_segment p own.sends)) ∙ sym (ap (λ (z : Sending). z.segment.rst) own.same) ∙ holds.2,
+                    hears s spoke,
+                  ),
+                )
 
         -- where it sends nothing now
         pub quiet_so : ((t : ToSend) → turn ≡ Turn.Step i → first_sends p.agenda p ≡ Some t → ⊥) → PathSo later p
-        quiet_so quiet =
-            (more_path (Opened later n) (Answered later n) (Spoke later n) (Opened later n) (Answered later n) (Spoke later n) (Fell before n) (Fell later n) (λ is. is) (λ is. is) (λ is. is)
-            (λ s said. ⊎_elim (λ was. was) (λ now. absurd (quiet now.1.0 now.0 now.1.1)) (reset_so s said)) p said_so, owes_so)
+        quiet_so quiet = (
+          more_path (Opened later n) (Answered later n) (Spoke later n) (Opened later n) (Answered later n) (Spoke later n) (Fell before n) (Fell later n) (λ is. is) (λ is. is) (λ is. is)
+              (λ s said. ⊎_elim (λ was. was) (λ now. absurd (quiet now.1.0 now.0 now.1.1)) (reset_so s said)) p said_so,
+          owes_so,
+        )
 
         -- its own step
         module _ (is_turn : turn ≡ Turn.Step i) where
@@ -411,10 +420,11 @@ module _ (start : Start) (plain : IsPlain start) (whole : IsWhole start) (fit : 
           pub step_is : (r : Reply) → PathSo later (takes values r p)
           step_is r =
               subst
-              (λ (m : ℕ). PathOpens (Opened later m) (Answered later m) (Spoke later m) (Fell later m) (takes values r p) × Owes (Opened later m) (takes values r p)) (sym (takes_keeps values r p).2)
-              (takes_so (Opened later n) (Answered later n) (Spoke later n) (Fell before n) r p said_so owes_so (Fell later n) settles says
-              (λ s said. ⊎_elim (λ was. inl was) (λ now. inr now.1) (reset_so s said)),
-              takes_owes (Opened later n) (Answered later n) (Spoke later n) (Fell before n) r p said_so owes_so)
+              (λ (m : ℕ). PathOpens (Opened later m) (Answered later m) (Spoke later m) (Fell later m) (takes values r p) × Owes (Opened later m) (takes values r p)) (sym (takes_keeps values r p).2) (
+                takes_so (Opened later n) (Answered later n) (Spoke later n) (Fell before n) r p said_so owes_so (Fell later n) settles says
+                    (λ s said. ⊎_elim (λ was. inl was) (λ now. inr now.1) (reset_so s said)),
+                takes_owes (Opened later n) (Answered later n) (Spoke later n) (Fell before n) r p said_so owes_so,
+              )
 
     -- after the turn
     module _ (met : WorldMet start.key_a start.key_b (v before)) (h : WorldOpens before (v before)) where
