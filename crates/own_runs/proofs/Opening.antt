@@ -49,8 +49,10 @@ use Rattle.subflow_tcp.specs.Opening.{after_begin}
 use Rattle.subflow_tcp.specs.State.{has_records}
 use Rattle.subflow_tcp.specs.States.{is_closed_to_segments, is_dead, is_waiting, may_finish}
 use Rattle.subflow_tcp.specs.Taking.{after_death, after_syn, unkept}
+use Rattle.subflow_tcp.specs.declared.dues.Due.{Due as Dues}
 use Rattle.subflow_tcp.specs.declared.handshake.State.{State as EndPhase}
 use Rattle.subflow_tcp.specs.declared.segments.Occasion.{Occasion}
+use Rattle.subflow_tcp.specs.declared.segments.Outgoing.{Outgoing}
 use Rattle.world_laws.proofs.Falls.FailedChecks.{fail_answered_so, infinite_came_so}
 use Rattle.world_laws.proofs.Keys.WhatWakes.{is_up}
 use Rattle.world_laws.proofs.Lanes.Saying.{handed_kept}
@@ -71,11 +73,12 @@ un : (b : Bool) → not b ≡ true → b ≡ false
 un true is = absurd (false≢true is)
 un false is = refl
 
-same_parts : (x y : Parts) → y.state ≡ x.state → y.send ≡ x.send → y.due ≡ x.due → y.timer ≡ x.timer → y.answer ≡ x.answer → y ≡ x
-same_parts x y state send due timer answer = by x y state send due timer answer
-  where
-    by : (x y : Parts) → y.state ≡ x.state → y.send ≡ x.send → y.due ≡ x.due → y.timer ≡ x.timer → y.answer ≡ x.answer → y ≡ x
-    by x y a b c d e = cc
+abbrev the_parts : EndPhase → SendState → Dues → Option ℕ → Option Outgoing → Parts
+the_parts state send due timer answer = record { state = state; send = send; due = due; timer = timer; answer = answer }
+
+same_parts : (a a2 : EndPhase) (b b2 : SendState) (c c2 : Dues) (d d2 : Option ℕ) (e e2 : Option Outgoing) → a2 ≡ a → b2 ≡ b → c2 ≡ c → d2 ≡ d → e2 ≡ e
+    → the_parts a2 b2 c2 d2 e2 ≡ the_parts a b c d e
+same_parts a a2 b b2 c c2 d d2 e e2 v w x y z = rw (v, w, x, y, z) refl
 
 only_parts : (w : EndWrites) → spares w ≡ true → (e f : PathEnd) → Only w e f → parts_of f ≡ parts_of e
 only_parts w is e f x =
@@ -83,7 +86,7 @@ only_parts w is e f x =
     let send = and_parts (not w.send) _ phase.1 in
     let copy = and_parts (not w.copy) _ send.1 in
     let last = and_parts (not w.due) (not w.timing) copy.1 in
-    same_parts (parts_of e) (parts_of f)
+    same_parts e.tcp.state f.tcp.state e.tcp.send f.tcp.send e.tcp.due f.tcp.due e.tcp.timing.timer f.tcp.timing.timer e.treated.answer f.treated.answer
     (unwritten w.phase e.tcp.state f.tcp.state (un w.phase phase.0) (ap (λ (v : EndView). v.phase) x.same))
     (unwritten w.send e.tcp.send f.tcp.send (un w.send send.0) (ap (λ (v : EndView). v.send) x.same))
     (unwritten w.due e.tcp.due f.tcp.due (un w.due last.0) (ap (λ (v : EndView). v.due) x.same))

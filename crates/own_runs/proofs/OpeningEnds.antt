@@ -9,7 +9,7 @@ use Rattle.loss_recovery.specs.Timers.{timer_settled}
 use Rattle.loss_recovery.specs.declared.timers.Timing.{Timing}
 use Rattle.subflow_send.specs.Records.{Record, SendState}
 use Rattle.subflow_send.specs.Rules.{after_resent, expired_records, fin_sent, first_sent, first_unsent_sent, is_fin, is_unsent}
-use Rattle.subflow_send.specs.declared.record.RecordKind.{RecordKind}
+use Rattle.subflow_send.specs.Sendings.{sent_again}
 use Rattle.subflow_tcp.specs.Dues.{only_reset}
 use Rattle.subflow_tcp.specs.Emitting.{is_syn}
 use Rattle.subflow_tcp.specs.State.{EndState, has_records}
@@ -104,7 +104,7 @@ unsent_syn now [] h = absurd h
 unsent_syn now (r ∷ x ∷ rs) h = absurd h
 unsent_syn now (r ∷ []) h = by (is_unsent r)
   where
-    by : (b : Bool) → OneSyn (if b then record r { sending = _ } ∷ [] else r ∷ [])
+    by : (b : Bool) → OneSyn (if b then record r { sending = sent_again now r.sending } ∷ [] else r ∷ [])
     by true = h
     by false = h
 
@@ -123,7 +123,7 @@ fin_syn now [] h = absurd h
 fin_syn now (r ∷ x ∷ rs) h = absurd h
 fin_syn now (r ∷ []) h = by (is_fin r.kind)
   where
-    by : (b : Bool) → is_syn (if b then record r { sending = _ } else r).kind ≡ true
+    by : (b : Bool) → is_syn (if b then record r { sending = sent_again now r.sending } else r).kind ≡ true
     by true = h
     by false = h
 

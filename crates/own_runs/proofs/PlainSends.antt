@@ -1,7 +1,7 @@
 -- What an end sends that is no reset is sent by one that isn't closed; and what is no SYN either, where both SYNs are acknowledged. A reset kills its end, or answers a
 -- SYN at one that listens.
-use Rattle.std.proofs.Common.{◌≡◌, refl, sym, ap, ◌∙◌, subst, ℕ, ◌&&◌, ◌-◌, not, find, inl, inr, ◌⊎◌, ⊎_elim, Bool, true, false, if◌then◌else◌, Option, Some, None, is_some, List, [], ◌∷◌}
-use Rattle.std.specs.List.{slice_get}
+use Rattle.std.proofs.Common.{◌≡◌, refl, sym, ap, ◌∙◌, subst, ℕ, ◌&&◌, ◌-◌, not, inl, inr, ◌⊎◌, ⊎_elim, Bool, true, false, if◌then◌else◌, Option, Some, None, is_some, List, [], ◌∷◌}
+use Rattle.std.specs.List.{find, slice_get}
 use Rattle.std.specs.Option.{IfSome}
 use Rattle.std.proofs.lemmas.Bool.{and_parts, both_ways, false≢true}
 use Rattle.actor_desk.specs.declared.ask.Reply.{Reply}
@@ -25,7 +25,7 @@ use Rattle.path_core.specs.declared.said.SegmentKind.{SegmentKind}
 use Rattle.path_core.specs.MpJoin.{is_listening}
 use Rattle.path_core.specs.OptionsOut.{ack_said, carried_said, noted_said, record_or_ack, syn_ack_said}
 use Rattle.path_core.specs.Profile.{Profile}
-use Rattle.path_core.specs.Standing.{is_connected}
+use Rattle.path_core.specs.Standing.{is_connected, may_note}
 use Rattle.path_core.specs.State.{PathState, end_at, goes_on}
 use Rattle.path_core.specs.Treating.{answered_item, item_of}
 use Rattle.path_core.specs.Turns.{FirstStands}
@@ -178,7 +178,7 @@ module _ (U T V : Type 0) (X : Side → Type 0) (p : PathState Carried) (h : Pat
       let both = and_parts (is_opening (end_at s p).tcp.state) _ stood in
       sends_syn p _ (opening_open (end_at s p).tcp.state both.0) (λ before. unsent_syn p.profile s (end_at s p) (end_at s p).tcp.send.records ((still s).syns before) both.1)
   send_sends (SendDuty.FastClose s) stood fits = sends_met p _ (and_parts (is_connected (end_at s p).tcp.state) _ stood).0
-  send_sends (SendDuty.Notice s) stood fits = sends_met p _ (and_parts (is_connected (end_at s p).tcp.state) _ (and_parts (is_connected (end_at s p).tcp.state && _) _ stood).0).0
+  send_sends (SendDuty.Notice s) stood fits = sends_met p _ (and_parts (is_connected (end_at s p).tcp.state) _ (and_parts (may_note (end_at s p)) _ stood).0).0
   send_sends (SendDuty.DataFin s) stood fits = sends_met p _ (finishing_met (end_at s p).tcp.state (and_parts (may_finish (end_at s p).tcp.state) _ stood).0)
   send_sends (SendDuty.Fin s) stood fits = sends_met p _ (finishing_met (end_at s p).tcp.state (and_parts (may_finish (end_at s p).tcp.state) _ stood).0)
   send_sends (SendDuty.SynAck s) stood fits = sends_syn p _ (fits refl) (λ before. refl)
