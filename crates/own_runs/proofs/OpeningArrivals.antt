@@ -261,7 +261,7 @@ module _ (U T V : Type 0) (X : Side → Type 0) where
   module _ (r : Reply) (p : PathState Carried) (h : PathOpens U T V X p) where
     -- a copy arrives
     module _ (due : Due) where
-      q : PathState Carried
+      abbrev q : PathState Carried
       q = record (at_tick due.tick p) { link = after_delivery due p.link }
 
       opens_q : PathOpens U T V X q

@@ -14,7 +14,7 @@ use Rattle.path_agenda.specs.declared.duty.AskDuty.{AskDuty}
 use Rattle.path_agenda.specs.declared.duty.Duty.{Duty}
 use Rattle.path_agenda.specs.declared.duty.SendDuty.{SendDuty}
 use Rattle.path_agenda.specs.declared.duty.StepDuty.{StepDuty}
-use Rattle.path_core.specs.Duties.{answered, stands}
+use Rattle.path_core.specs.Duties.{answered, ask_for, stands}
 use Rattle.path_core.specs.Events.{next_event}
 use Rattle.path_core.specs.Looking.{duty_sends, first_sends, segment_sent}
 use Rattle.path_core.specs.MpJoin.{is_listening}
@@ -463,7 +463,7 @@ module _ (start : Start) (plain : IsPlain start) (whole : IsWhole start) (fit : 
 
           silent : (p : PathState Carried) (ds : List Duty) → p.agenda ≡ ds → asks_first values ds p ≡ None → (t : ToSend) → first_sends ds p ≡ Some t → ⊥
           silent p [] same asks t next = cc
-          silent p (d ∷ ds) same asks t next = (let never : Some _ ≡ None = asks in cc)
+          silent p (d ∷ ds) same asks t next = (let never : Some (ask_for values d p) ≡ None = asks in cc)
 
           by : (o : Option Ask) → member_asks values c.member ≡ o → WorldOpens later (asked values actor o c (v before))
           by None asks = λ i d at. quiet_member i d at (λ p is t turns next.
