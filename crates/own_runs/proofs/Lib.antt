@@ -5,6 +5,7 @@ mod AckTrace
 mod Acking
 mod Acknowledged
 mod AgendaFits
+mod AllKept
 mod AnswersAsked
 mod AnswersShow
 mod Bearing
