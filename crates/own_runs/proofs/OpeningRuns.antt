@@ -1,6 +1,6 @@
 -- At every moment of a whole run: both SYNs of a path are acknowledged at an end only where B's SYN/ACK was sent, which acknowledges A's SYN; B answers a SYN that was
 -- sent; and an end that sent a reset behind a SYN of B's is dead.
-use Rattle.std.proofs.Common.{append_assoc, append-nil, ◌≡◌, refl, sym, ap, ◌∙◌, subst, ℕ, suc, inl, inr, ◌⊎◌, ⊎_elim, Bool, true, false, if◌then◌else◌, Option, Some, None, List, [], ◌∷◌, ◌++◌, map}
+use Rattle.std.proofs.Common.{append_assoc, append-nil, ◌≡◌, refl, sym, ap, ◌∙◌, subst, ℕ, suc, ◌+◌, inl, inr, ◌⊎◌, ⊎_elim, Bool, true, false, if◌then◌else◌, Option, Some, None, List, [], ◌∷◌, ◌++◌, map}
 use Rattle.std.specs.List.{slice_get}
 use Rattle.std.specs.Option.{IfSome, option_map}
 use Rattle.std.proofs.lemmas.Bool.{both_ways, false≢true}

@@ -2,7 +2,7 @@
 use Rattle.std.proofs.Common.{◌≡◌, refl, sym, ap, ◌∙◌, subst, zero, suc, ◌<◌, arith, ℕ, inl, inr, ◌⊎◌, ⊎_elim, ◌||◌, Bool, true, false, Option, Some, None, List, [], ◌∷◌, ◌++◌, append-nil}
 use Rattle.std.specs.List.{list_any, slice_get}
 use Rattle.std.specs.Option.{IfSome}
-use Rattle.std.proofs.lemmas.Bool.{both_ways, false≢true}
+use Rattle.std.proofs.lemmas.Bool.{both_ways, false≢true, or_cases, or_left, or_right}
 use Rattle.actor_desk.specs.Books.{books_in}
 use Rattle.mptcp_options.specs.declared.capable.CapableKeys.TheVariants.{Both, NoKey, Sender, WithData}
 use Rattle.path_core.specs.Looking.{first_sends, segment_sent}
@@ -66,7 +66,7 @@ module _ (start : Start) (plain : IsPlain start) (whole : IsWhole start) (fit : 
   -- but for the key
   pub record OpensSo (path : ℕ) (s : Side) (sg : PlainSegment) : Type 0 where
     pub answers : s ≡ B → IsSynAck sg → WasSaid start (OpensAt path) turns
-    pub plain : sg.syn ≡ false → sg.rst ≡ false → WasSaid start (AnswersAt path) turns × (WasReset start path s turns → ⊥)
+    pub behind : sg.syn ≡ false → sg.rst ≡ false → WasSaid start (AnswersAt path) turns × (WasReset start path s turns → ⊥)
 
   path_so : (p : PathState Carried) → IsSettled p → PathSo start plain whole fit turns p → PathAlso OpensSo p
   path_so p settles h = by (first_sends p.agenda p) (sends_at (WasSaid start (OpensAt n) turns) (WasSaid start (AnswersAt n) turns) (WasSaid start (SynsAt n) turns) (λ s. WasReset start n s turns) p h.0 p.agenda h.1 settles)
@@ -86,7 +86,7 @@ module _ (start : Start) (plain : IsPlain start) (whole : IsWhole start) (fit : 
       by None well = tt
       by (Some t) well = record {
         answers = λ of_b is. h.0.asked (subst (λ (s : Side). is_closed_to_segments (end_at s p).tcp.state ≡ false) of_b (well.opened (inr is.syn)));
-        plain = λ syn rst. let is = well.plain syn rst in
+        behind = λ syn rst. let is = well.plain syn rst in
             (met t.from is, λ said. both_ways (is_dead (end_at t.from p).tcp.state) (met_so (end_at t.from p).tcp.state is).living (fell t.from said));
       }
 
@@ -108,19 +108,8 @@ module _ (start : Start) (plain : IsPlain start) (whole : IsWhole start) (fit : 
 -- payload has an option that maps it, and a DATA_FIN one that tells it
 any_more : (f g : PlainOption → Bool) (os : List PlainOption) → ((o : PlainOption) → f o ≡ true → g o ≡ true) → list_any f os ≡ true → list_any g os ≡ true
 any_more f g [] more is = is
-any_more f g (o ∷ os) more is = by (f o) refl is
-  where
-    first : (b : Bool) → b ≡ true → b || list_any g os ≡ true
-    first true is = refl
-    first false is = absurd (false≢true is)
-
-    rest : (b : Bool) → list_any g os ≡ true → b || list_any g os ≡ true
-    rest true is = refl
-    rest false is = is
-
-    by : (b : Bool) → f o ≡ b → b || list_any f os ≡ true → g o || list_any g os ≡ true
-    by true here is = first (g o) (more o here)
-    by false here is = rest (g o) (any_more f g os more is)
+any_more f g (o ∷ os) more is =
+    ⊎_elim (λ here. or_left (g o) (list_any g os) (more o here)) (λ later. or_right (g o) (list_any g os) (any_more f g os more later)) (or_cases (f o) (list_any f os) is)
 
 mapping_bears : (o : PlainOption) → maps_octets o ≡ true → bears_option o ≡ true
 mapping_bears (Dss next (Some (Bytes place position len fin checksum))) is = refl
@@ -163,8 +152,8 @@ left_so : (start : Start) (plain : IsPlain start) (whole : IsWhole start) (fit :
     → OpensSo start plain whole fit turns path s sg → BearsPlain path s sg → LeftAt start turns path s sg
 left_so start plain whole fit turns path s sg option key opens bears = record {
   answers = λ joins of_b is. opens.answers of_b is;
-  plain = λ syn rst. (opens.plain syn rst).0;
-  bears = λ is. let it = bears.bears is in (opens.plain it.0 it.1).1;
+  plain = λ syn rst. (opens.behind syn rst).0;
+  bears = λ is. let it = bears.bears is in (opens.behind it.0 it.1).1;
   key = λ is of_a. inl (key of_a (option is));
 }
 
