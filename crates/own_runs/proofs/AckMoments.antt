@@ -1,5 +1,5 @@
 -- Where at each moment of a whole run the segments that are sent next come in time, each segment of its trace does, with all else that is known of it.
-use Rattle.std.proofs.Common.{◌≡◌, refl, sym, ap, ◌∙◌, subst, ℕ, zero, suc, ◌⊎◌, ◌+◌, ◌<◌, ◌≤◌, true, false, Option, Some, None, option_map, inl, inr, ⊎_elim, List, [], ◌∷◌, ◌++◌, append-nil, append_assoc, arith}
+use Rattle.std.proofs.Common.{◌≡◌, refl, sym, ap, ◌∙◌, subst, ℕ, ◌⊎◌, ◌≤◌, Option, Some, None, option_map, inl, inr, ⊎_elim, List, [], ◌∷◌, ◌++◌, append-nil, append_assoc, arith}
 use Rattle.std.specs.List.{slice_get}
 use Rattle.std.specs.Option.{IfSome, option_and_then, option_to_list}
 use Rattle.link_trace.specs.declared.sent.Sent.{Sent}
@@ -10,11 +10,8 @@ use Rattle.path_segments.specs.Options.{PlainOption}
 use Rattle.path_segments.specs.Spelled.{PlainSegment}
 use Rattle.path_segments.specs.declared.segment.PathOption.TheVariants.{Dss}
 use Rattle.run_trace.specs.Trace.{sent_as, sent_at, sent_by, trace_of}
-use Rattle.sides.specs.Side.{peer}
-use Rattle.sides.specs.declared.side.Side.TheVariants.{A, B}
 use Rattle.sides.specs.declared.side.Side.{Side}
 use Rattle.stream_lanes.specs.Duo.{Duo}
-use Rattle.stream_lanes.specs.Words.{Every}
 use Rattle.world_core.specs.Looking.{crew_path, member_path}
 use Rattle.world_laws.specs.Actors.{Actor, ActorCrew}
 use Rattle.world_laws.specs.NeverFalls.{IsWhole}
@@ -26,8 +23,7 @@ use Rattle.own_runs.proofs.AckRuns.{AllTimed, EndedIn, ShownIn, WholeTimed}
 use Rattle.own_runs.proofs.AckTrace.{AckSaid, IsKnown}
 use Rattle.own_runs.proofs.Acking.{OptionAcks}
 use Rattle.own_runs.proofs.ComesTimes.{comes_at}
-use Rattle.own_runs.proofs.EndRuns.{TellsEnd}
-use Rattle.own_runs.proofs.InTime.{AnswersAt, AnswersPath, ComesAt, InTime, KeyAt, OpensAt, OpensPath, ResetsAt, ResetsPath, Sending, SynsAt, SynsPath, TellsKey, TimeAt, WasReset, WasSaid, crew_sending, member_sending, path_sending, sending_as, turn_sending, was_last, was_more, was_split}
+use Rattle.own_runs.proofs.InTime.{AnswersAt, AnswersPath, ComesAt, InTime, KeyAt, OpensAt, OpensPath, ResetsPath, Sending, SynsAt, SynsPath, TellsKey, TimeAt, WasReset, WasSaid, crew_sending, member_sending, path_sending, sending_as, turn_sending, was_last, was_more, was_split}
 use Rattle.own_runs.proofs.LateJoins.{ComesBehind}
 use Rattle.own_runs.proofs.Moments.{IsSpoken, MemberAlso, MemberSpeaks, PathAlso, PathSpeaks, WorldAlso, WorldSpeaks, path_sends, world_speaks}
 use Rattle.own_runs.proofs.NextTrace.{AcksBy, also_next, octets_append, wants_at, wants_up}

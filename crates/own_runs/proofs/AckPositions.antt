@@ -1,9 +1,9 @@
 -- What a stream of the judge has seen behind a segment with mappings: the place of each position of its payload that is mapped there. And a Data ACK
 -- of places that were seen is no fault.
-use Rattle.std.proofs.Common.{◌≡◌, refl, sym, ap, ◌∙◌, subst, ℕ, zero, suc, ◌⊎◌, inl, inr, ⊎_elim, ◌&&◌, ◌+◌, ◌-◌, ◌%◌, ◌^◌, ◌<◌, ◌≤◌, ◌==◌, nat_lt, Bool, true, false, if◌then◌else◌, Option, Some, None, option_map, Ok, Err, List, [], ◌∷◌, arith}
+use Rattle.std.proofs.Common.{◌≡◌, refl, sym, ap, ◌∙◌, subst, ℕ, zero, suc, ◌⊎◌, inl, inr, ⊎_elim, ◌&&◌, ◌+◌, ◌-◌, ◌%◌, ◌^◌, ◌<◌, ◌≤◌, ◌==◌, nat_lt, Bool, true, false, if◌then◌else◌, Option, Some, None, option_map, List, [], ◌∷◌, arith}
 use Rattle.std.specs.Prelude.{All, is_some, option_and_then, slice_get}
 use Rattle.std.specs.Option.{IfSome, option_or}
-use Rattle.std.proofs.lemmas.Bool.{cases_lt, eq-eqb, false≢true, le-leb, le-ltb, lt-ltb, ne_eqb, or_right}
+use Rattle.std.proofs.lemmas.Bool.{cases_lt, eq-eqb, false≢true, le-leb, lt-ltb, ne_eqb, or_right}
 use Rattle.std.proofs.lemmas.List.Elements.{All-head, All-nil, All-tail}
 use Rattle.sides.specs.Side.{peer}
 use Rattle.mptcp_options.specs.Value.{OptionValue}
@@ -33,7 +33,7 @@ use Rattle.seen_streams.specs.declared.told.ToldMapping.{ToldMapping}
 use Rattle.seen_streams.specs.declared.told.Waiting.{Waiting}
 use Rattle.rule_book.specs.Facts.{Facts, first_of, payload_at}
 use Rattle.rule_book.specs.Stream.{acked_each, behind_acks, behind_payload, fin_taken, judged_at, mapped_each, mapped_one, mapped_with, summed, told_in, within_each}
-use Rattle.own_runs.proofs.FinePositions.{NumberIs, near_so}
+use Rattle.own_runs.proofs.FinePositions.{near_so}
 use Rattle.own_runs.proofs.OwnPositions.{same_position}
 use Rattle.own_runs.proofs.MapPositions.{Fine, StreamFine, Holds, LaneFine, OfferIs, OffersWell, Sit, Sits, Summed, fault_so, mapped_so, offer_so, within}
 use Rattle.first_runs.specs.declared.run.Run.{Run}

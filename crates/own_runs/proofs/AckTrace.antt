@@ -1,5 +1,5 @@
 -- Behind each segment of a whole run's capture: the flows of paths whose SYN was answered are open, what was shown was seen, and no Data ACK was of more.
-use Rattle.std.proofs.Common.{◌≡◌, refl, sym, ap, ◌∙◌, subst, ℕ, zero, suc, ◌+◌, ◌-◌, ◌%◌, ◌^◌, ◌<◌, ◌≤◌, ◌⊎◌, inl, inr, ⊎_elim, ◌||◌, not, nat_lt, Bool, true, false, if◌then◌else◌, Option, Some, None, is_some, List, [], ◌∷◌, length, map, max, arith}
+use Rattle.std.proofs.Common.{◌≡◌, refl, sym, ap, ◌∙◌, subst, ℕ, zero, suc, ◌+◌, ◌-◌, ◌%◌, ◌^◌, ◌<◌, ◌≤◌, ◌⊎◌, inl, inr, ⊎_elim, ◌||◌, not, nat_lt, Bool, true, false, if◌then◌else◌, Option, Some, None, is_some, List, [], ◌∷◌, length, map, arith}
 use Rattle.std.specs.Prelude.{All, IfSome}
 use Rattle.std.specs.List.{list_any, slice_get}
 use Rattle.std.specs.Option.{option_map, option_or, unwrap_or}
@@ -10,12 +10,10 @@ use Rattle.path_segments.specs.Spelling.{subflow_number}
 use Rattle.std.proofs.lemmas.Bool.{cases_lt, eqb-true, false≢true, lt-ltb, ltb-true, or_cases, or_left, or_right}
 use Rattle.std.proofs.lemmas.List.Elements.{All-cons, All-head, All-nil}
 use Rattle.capture_reader.specs.Seen.{Seen}
-use Rattle.judge_laws.proofs.Books.{grown_stays}
 use Rattle.judge_laws.proofs.Flows.{KeysGo, keys_same, put_go, taken_keys}
 use Rattle.judge_laws.proofs.Steps.{books_go}
 use Rattle.judge_laws.proofs.Standing.{some_same}
 use Rattle.judge_laws.specs.GoesOn.{stream_in}
-use Rattle.judge_rules.specs.Mappings.{offer_of}
 use Rattle.judge_rules.specs.Numbers.{first_number}
 use Rattle.link_trace.specs.declared.sent.Sent.{Sent}
 use Rattle.mptcp_options.proofs.OptionLaws.{read_again}
@@ -32,7 +30,6 @@ use Rattle.path_segments.specs.Options.{PlainOption, said_option}
 use Rattle.path_segments.specs.Spelled.{PlainSegment}
 use Rattle.path_segments.specs.declared.segment.PathMapping.TheVariants.{Bytes, End, Infinite}
 use Rattle.path_segments.specs.declared.segment.PathOption.TheVariants.{Capable, Dss, Fail, Join}
-use Rattle.path_segments.specs.declared.spelling.Spelling.{Spelling}
 use Rattle.rule_book.specs.Judged.{grown, judged, judged_belonging, judged_flow, judged_in_flow, judged_known, judged_place, with_wrong_token}
 use Rattle.rule_book.specs.State.{BookValue, JudgedValue, LanesValue, stream_at}
 use Rattle.seen_connections.specs.Asked.{answered_by, asked_by, first_answer, first_asked}
@@ -51,16 +48,16 @@ use Rattle.sides.specs.declared.side.Side.TheVariants.{A, B}
 use Rattle.sides.specs.declared.side.Side.{Side}
 use Rattle.stream_lanes.specs.Duo.{Duo}
 use Rattle.stream_lanes.specs.Words.{Every}
-use Rattle.world_laws.specs.Openings.{PathPlan, Start, path_begins}
+use Rattle.world_laws.specs.Openings.{Start, path_begins}
 use Rattle.world_laws.specs.Promises.{NumbersFit}
 use Rattle.path_segments.specs.Spelling.{data_number}
 use Rattle.world_laws.proofs.Numbers.TellSmall.{IsShort, IsStray}
-use Rattle.own_runs.specs.KeysShown.{maps_key, shows_key, shows_keys}
-use Rattle.own_runs.proofs.AckPositions.{EndsIn, EndsOffer, IsCovered}
+use Rattle.own_runs.specs.KeysShown.{maps_key, shows_keys}
+use Rattle.own_runs.proofs.AckPositions.{EndsIn}
 use Rattle.own_runs.proofs.FinePositions.{NumberIs}
 use Rattle.own_runs.proofs.EndRuns.{TellsEnd}
 use Rattle.own_runs.proofs.FineMoments.{IsMapped, Offered, content, file_len}
-use Rattle.own_runs.proofs.InTime.{AnswersPath, InTime, IsSynAck, OpensPath, ResetsPath, SynsPath, TellsKey, has_octets, is_bearing, tells_end}
+use Rattle.own_runs.proofs.InTime.{AnswersPath, InTime, OpensPath, ResetsPath, SynsPath, TellsKey, has_octets, is_bearing, tells_end}
 use Rattle.own_runs.proofs.JudgedHere.{IsJudged, fin_here, is_judged, item_of, key_here, key_of_a, seen_here}
 use Rattle.own_runs.proofs.KeptCovers.{maps_first, shows_both}
 use Rattle.own_runs.proofs.LateJoins.{ComesBehind, Says}
@@ -81,8 +78,7 @@ use Rattle.own_runs.proofs.OwnUntold.{BookUntold, tell}
 use Rattle.own_runs.proofs.ShownAcks.{IsShown}
 use Rattle.own_runs.proofs.ShownSeen.{ShowsAt, ends_here, ends_seen, shows_seen, value_ends}
 use Rattle.own_runs.proofs.TokenPackets.{AllHold as TokensHeld, segment_so as tokens_so}
-use Rattle.own_runs.proofs.TokenSegments.{Asked, IsBehind, IsCapable, Opens, Shows, asks_only, behind}
-use Rattle.own_runs.proofs.TokenState.{TokensHold}
+use Rattle.own_runs.proofs.TokenSegments.{Asked, IsBehind, IsCapable, asks_only, behind}
 use Rattle.own_runs.proofs.Values.{drawn}
 
 -- ---- facts of one segment, by another way to say whose it is

@@ -1,33 +1,27 @@
 -- Duties that are done at an end that stands so: a SYN/ACK and an answer at one that isn't closed, a refusal at one that listens, and the answer of a dead end
 -- at a dead one.
-use Rattle.std.proofs.Common.{◌≡◌, refl, sym, ap, ◌∙◌, subst, ℕ, suc, zero, ◌+◌, inl, inr, ◌⊎◌, ⊎_elim, not, Bool, true, false, if◌then◌else◌, Option, Some, None, is_some, List, [], ◌∷◌, ◌++◌, length}
-use Rattle.std.specs.Option.{IfSome}
+use Rattle.std.proofs.Common.{◌≡◌, refl, sym, ap, ◌∙◌, subst, inl, inr, ◌⊎◌, not, Bool, true, false, if◌then◌else◌, Option, Some, None, List, [], ◌∷◌, ◌++◌}
 use Rattle.std.proofs.lemmas.Bool.{and_parts, false≢true}
 use Rattle.actor_desk.specs.Words.{tail_of}
 use Rattle.actor_desk.specs.declared.ask.Reply.{Reply}
 use Rattle.fallback_state.specs.declared.fall.Event.{Event as FallEvent}
 use Rattle.join_handshake.specs.declared.hearing.JoinSyn.{JoinSyn}
-use Rattle.link_model.specs.Steps.{after_delivery, arriving}
-use Rattle.link_model.specs.declared.flight.Flight.{Flight}
-use Rattle.path_agenda.specs.Agenda.{emission, expired, heard_and, leaves, payload_came, rest_of_turn, start_of_turn}
+use Rattle.path_agenda.specs.Agenda.{emission, expired, leaves, rest_of_turn}
 use Rattle.path_agenda.specs.Words.{replaced}
 use Rattle.path_agenda.specs.declared.duty.AskDuty.{AskDuty}
 use Rattle.path_agenda.specs.declared.duty.Duty.{Duty}
 use Rattle.path_agenda.specs.declared.duty.SendDuty.{SendDuty}
-use Rattle.path_agenda.specs.declared.duty.StepDuty.{StepDuty}
 use Rattle.path_agenda.specs.declared.keys.KeyPair.{KeyPair}
-use Rattle.path_core.specs.Breaking.{leaves_unless_dead}
 use Rattle.path_core.specs.Duties.{answered, passed, stands}
 use Rattle.path_core.specs.End.{PathEnd}
-use Rattle.path_core.specs.Events.{after_line, happens_if, next_event}
+use Rattle.path_core.specs.Events.{after_line}
 use Rattle.path_core.specs.Fallback.{answered_fell, fell_duties}
 use Rattle.path_core.specs.MpJoin.{asked_at, is_listening, is_never, join_begun, join_taken, joined_by, keys_begun, syn_of_window}
 use Rattle.path_core.specs.Standing.{is_connected}
-use Rattle.path_core.specs.State.{PathState, at_tick, end_at, goes_on, left, with_agenda}
-use Rattle.path_core.specs.Steps.{answers, settled, takes}
+use Rattle.path_core.specs.State.{PathState, end_at, goes_on, left, with_agenda}
+use Rattle.path_core.specs.Steps.{settled}
 use Rattle.path_core.specs.Timer.{template_fired, timer_fired}
 use Rattle.path_core.specs.Values.{Carried, values}
-use Rattle.path_core.specs.declared.events.Event.{Event}
 use Rattle.path_store.specs.declared.lines.LineAction.{LineAction}
 use Rattle.sides.specs.declared.side.Side.TheVariants.{A, B}
 use Rattle.sides.specs.declared.side.Side.{Side}

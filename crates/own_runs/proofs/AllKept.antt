@@ -1,6 +1,5 @@
 -- The judge ends well with the capture of a whole run: no side broke a rule, and each join's connection was found.
-use Rattle.std.proofs.Common.{◌≡◌, refl, sym, ap, ◌∙◌, ℕ, zero, suc, arith, inl, inr, ◌⊎◌, ◌==◌, ◌&&◌, ◌||◌, not, Bool, true, false, if◌then◌else◌, Option, Some, None, Result, Ok, is_none, is_some, option_map, List, [], ◌∷◌, length, map}
-use Rattle.std.specs.Prelude.{All}
+use Rattle.std.proofs.Common.{◌≡◌, refl, sym, ap, ◌∙◌, ℕ, suc, arith, inl, inr, ◌⊎◌, ◌==◌, ◌&&◌, ◌||◌, not, Bool, true, false, if◌then◌else◌, Option, Some, None, Result, Ok, option_map, List, [], ◌∷◌, length, map}
 use Rattle.std.specs.List.{list_any, slice_get}
 use Rattle.std.proofs.lemmas.Bool.{both_ways, false≢true, or_from}
 use Rattle.capture_reader.specs.Captured.{Captured}
@@ -22,19 +21,17 @@ use Rattle.seen_connections.specs.declared.flow.Opening.{Opening}
 use Rattle.seen_streams.specs.State.{BrokenValue, StreamValue, same_rule}
 use Rattle.sides.specs.declared.side.Side.TheVariants.{A, B}
 use Rattle.sides.specs.declared.side.Side.{Side}
-use Rattle.stream_lanes.specs.Duo.{Duo}
 use Rattle.world_laws.specs.NeverFalls.{IsWhole}
 use Rattle.world_laws.specs.Openings.{Start, opened_world}
 use Rattle.world_laws.specs.Promises.{IsPlain, NumbersFit}
 use Rattle.world_laws.specs.Worlds.{Turn}
 use Rattle.own_runs.specs.Fitting.{RunFits}
 use Rattle.own_runs.specs.Runs.{NoWholeRunBreaks, capture_of}
-use Rattle.own_runs.specs.Traces.{FitsCapture, packet_for}
+use Rattle.own_runs.specs.Traces.{packet_for}
 use Rattle.own_runs.specs.WholeKept.{WholeRunsEndWell}
-use Rattle.own_runs.proofs.AckRuns.{AllTimed, no_whole_run_breaks, paths_are, stood}
+use Rattle.own_runs.proofs.AckRuns.{no_whole_run_breaks, paths_are, stood}
 use Rattle.own_runs.proofs.Fitting.{traces_fit}
 use Rattle.own_runs.proofs.Kept.{no_run_breaks}
-use Rattle.own_runs.proofs.OwnFlows.{Each}
 use Rattle.own_runs.proofs.TimeRuns.{timed}
 use Rattle.own_runs.proofs.TokenFlows.{IsNamed, NamesIts}
 use Rattle.own_runs.proofs.Traces.{traces_are}

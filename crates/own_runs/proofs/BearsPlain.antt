@@ -2,7 +2,7 @@
 use Rattle.std.proofs.Common.{◌≡◌, refl, sym, ap, ◌∙◌, subst, ℕ, ◌⊎◌, inl, inr, ⊎_elim, ◌-◌, ◌&&◌, ◌||◌, not, Bool, true, false, if◌then◌else◌, Option, Some, None, List, [], ◌∷◌}
 use Rattle.std.specs.List.{list_any}
 use Rattle.std.specs.Option.{IfSome}
-use Rattle.std.proofs.lemmas.Bool.{both_ways, false≢true}
+use Rattle.std.proofs.lemmas.Bool.{both_ways}
 use Rattle.path_agenda.specs.Words.{first_of}
 use Rattle.path_agenda.specs.declared.duty.Duty.{Duty}
 use Rattle.path_agenda.specs.declared.duty.SendDuty.{SendDuty}
@@ -15,7 +15,7 @@ use Rattle.path_core.specs.Emission.{ack_resent, answer_said, first_record, firs
 use Rattle.path_core.specs.End.{PathEnd}
 use Rattle.path_core.specs.Fallback.{breaks_by_ack}
 use Rattle.path_core.specs.Looking.{broken_by, duty_sends, first_sends, heard_sends, segment_sent, unsent_sends}
-use Rattle.path_core.specs.OptionsOut.{ack_said, broken_options, capable_options, carried_said, noted_said, own_reset, record_or_ack, record_said, reset_said, segment_of, syn_ack_said, syn_options}
+use Rattle.path_core.specs.OptionsOut.{ack_said, broken_options, capable_options, carried_said, noted_said, own_reset, record_or_ack, reset_said, segment_of, syn_ack_said, syn_options}
 use Rattle.path_core.specs.MpJoin.{is_joined, join_options}
 use Rattle.path_core.specs.Profile.{Profile}
 use Rattle.path_core.specs.State.{PathState, end_at, path_of}
@@ -24,24 +24,20 @@ use Rattle.path_core.specs.Treating.{item_of}
 use Rattle.path_core.specs.Values.{Carried}
 use Rattle.path_segments.specs.Options.{PlainOption}
 use Rattle.path_segments.specs.Spelled.{PlainSegment}
-use Rattle.path_segments.specs.declared.segment.PathMapping.TheVariants.{Bytes}
-use Rattle.path_segments.specs.declared.segment.PathOption.TheVariants.{Capable, Dss}
 use Rattle.sides.specs.declared.side.Side.TheVariants.{A, B}
 use Rattle.sides.specs.declared.side.Side.{Side}
 use Rattle.subflow_send.specs.Records.{Record}
-use Rattle.subflow_send.specs.Rules.{is_unsent}
 use Rattle.subflow_tcp.specs.State.{has_records}
-use Rattle.world_laws.specs.Actors.{Actor, ActorCrew}
+use Rattle.world_laws.specs.Actors.{Actor}
 use Rattle.world_laws.specs.Openings.{Start, opened_world}
 use Rattle.world_laws.specs.Promises.{HasRoom, NumbersFit}
 use Rattle.world_laws.specs.Worlds.{Turn, WorldState, world_run}
 use Rattle.world_laws.specs.declared.member.Member.TheVariants.{App, Path}
 use Rattle.own_runs.proofs.ComesTimes.{also_shown}
 use Rattle.own_runs.proofs.InTime.{has_octets, is_bearing, tells_end}
-use Rattle.own_runs.proofs.Moments.{MemberAlso, MemberSpeaks, PathAlso, PathSpeaks, Spoken, WorldAlso, WorldSpeaks, valued, world_speaks}
+use Rattle.own_runs.proofs.Moments.{MemberAlso, MemberSpeaks, PathAlso, PathSpeaks, Spoken, WorldAlso, valued}
 use Rattle.own_runs.proofs.Speaking.{ToSend}
 use Rattle.world_laws.proofs.Promises.Made.{run_fresh}
-use Rattle.world_laws.specs.Fresh.{shown_world}
 use Rattle.path_core.specs.Values.{values}
 
 -- it is no reset, or bears nothing

@@ -1,5 +1,5 @@
 -- At each moment of a run each SYN of a join that is sent next comes behind the SYN/ACK of path 0, and that behind A's SYN, as its turns sent them.
-use Rattle.std.proofs.Common.{◌≡◌, refl, sym, ap, ◌∙◌, subst, ℕ, zero, suc, map, ⊎_elim, ◌⊎◌, Bool, true, false, Option, Some, None, option_map, List, [], ◌∷◌, ◌++◌, append-nil, append_assoc}
+use Rattle.std.proofs.Common.{◌≡◌, refl, sym, ap, ◌∙◌, subst, ℕ, zero, suc, map, ⊎_elim, false, Option, Some, None, option_map, List, [], ◌∷◌, ◌++◌, append-nil, append_assoc}
 use Rattle.std.specs.List.{slice_get}
 use Rattle.std.specs.Option.{IfSome}
 use Rattle.actor_desk.specs.Books.{books_in}
@@ -8,7 +8,7 @@ use Rattle.path_core.specs.MpJoin.{is_joined}
 use Rattle.path_core.specs.Octets.{octets}
 use Rattle.path_core.specs.Said.{said_by}
 use Rattle.path_core.specs.Shown.{shown_path}
-use Rattle.path_core.specs.State.{PathState, end_at, path_of}
+use Rattle.path_core.specs.State.{PathState, path_of}
 use Rattle.path_core.specs.Values.{Carried, values}
 use Rattle.path_segments.specs.Spelled.{PlainSegment}
 use Rattle.sides.specs.declared.side.Side.TheVariants.{A, B}
@@ -23,9 +23,9 @@ use Rattle.world_laws.specs.Worlds.{Turn, WorldState, after_turn, world_run}
 use Rattle.world_laws.specs.declared.member.Member.TheVariants.{App, Path}
 use Rattle.own_runs.proofs.InTime.{AnswersAt, ComesAt, OpensAt, Sending, WasSaid, crew_sending, member_sending, path_sending, sending_as, turn_sending, was_last, was_more}
 use Rattle.own_runs.proofs.KeyRuns.{ActorSays, MemberLearns, MemberSays, SaysNext, TurnSays, opened_learns, turn_learns}
-use Rattle.own_runs.proofs.LateJoins.{ComesBehind, Learns, map_at, more_learns, segment_so, shown_same, zero_so}
+use Rattle.own_runs.proofs.LateJoins.{Learns, map_at, more_learns, segment_so, shown_same, zero_so}
 use Rattle.own_runs.proofs.Learning.{IsAlone, IsAnswer}
-use Rattle.own_runs.proofs.Moments.{CrewKnown, MemberAlso, MemberKnown, MemberSpeaks, PathAlso, PathSpeaks, WorldAlso, crew_known, end_shown, first_same, valued}
+use Rattle.own_runs.proofs.Moments.{MemberAlso, MemberKnown, MemberSpeaks, PathAlso, PathSpeaks, WorldAlso, crew_known, end_shown, first_same, valued}
 use Rattle.own_runs.proofs.NextTrace.{run_append}
 use Rattle.own_runs.proofs.Speaking.{ToSend}
 

@@ -1,6 +1,6 @@
 -- What comes before a segment of a whole run: before an answer to a SYN that SYN, before payload and a DATA_FIN the answer of its path, and before or in
 -- A's also A's key.
-use Rattle.std.proofs.Common.{◌≡◌, refl, sym, ap, ◌∙◌, subst, ℕ, inl, inr, ⊎_elim, append_assoc, ◌⊎◌, ◌||◌, not, Bool, true, false, Option, Some, None, option_map, List, [], ◌∷◌, ◌++◌}
+use Rattle.std.proofs.Common.{◌≡◌, refl, sym, ap, ◌∙◌, subst, ℕ, inl, inr, ⊎_elim, append_assoc, ◌⊎◌, ◌||◌, Bool, true, false, Option, Some, None, option_map, List, [], ◌∷◌, ◌++◌}
 use Rattle.std.specs.List.{list_any, slice_get}
 use Rattle.link_trace.specs.declared.sent.Sent.{Sent}
 use Rattle.path_core.specs.Looking.{first_sends, segment_sent}

@@ -1,6 +1,6 @@
 -- Behind a segment of a connection of ours in an open flow: what its payload maps was seen, a DATA_FIN that it tells stands, and A's key is known where
 -- it shows it.
-use Rattle.std.proofs.Common.{◌≡◌, refl, sym, ap, ◌∙◌, subst, ℕ, zero, suc, ◌+◌, ◌%◌, ◌^◌, ◌<◌, ◌≤◌, ◌||◌, ◌&&◌, ◌⊎◌, not, Bool, true, false, if◌then◌else◌, inl, inr, ⊎_elim, Option, Some, None, is_none, is_some, option_map, List, [], ◌∷◌, length, map, max, arith}
+use Rattle.std.proofs.Common.{◌≡◌, refl, sym, ap, ◌∙◌, subst, ℕ, zero, suc, ◌+◌, ◌%◌, ◌^◌, ◌<◌, ◌≤◌, ◌||◌, ◌&&◌, ◌⊎◌, not, Bool, true, false, if◌then◌else◌, ⊎_elim, Option, Some, None, is_none, is_some, option_map, List, [], ◌∷◌, length, map, arith}
 use Rattle.std.specs.Prelude.{All, IfSome}
 use Rattle.std.specs.List.{list_any, slice_get}
 use Rattle.std.proofs.Math.ListN.{set}
@@ -8,20 +8,19 @@ use Rattle.std.proofs.lemmas.Bool.{false≢true}
 use Rattle.std.proofs.lemmas.List.Elements.{All-cons, All-head, All-nil, All-tail}
 use Rattle.std.proofs.lemmas.Option.{slice_get_within}
 use Rattle.capture_reader.specs.Seen.{Seen}
-use Rattle.judge_laws.proofs.Books.{grown_stays, own_stream, peers_stream, set_there}
+use Rattle.judge_laws.proofs.Books.{grown_stays, own_stream, set_there}
 use Rattle.judge_laws.proofs.Flows.{keys_put}
 use Rattle.judge_laws.proofs.Keyed.{keys_told}
 use Rattle.judge_laws.proofs.Standing.{some_same}
 use Rattle.judge_laws.specs.GoesOn.{stream_in}
 use Rattle.judge_rules.specs.Mappings.{offer_of}
 use Rattle.judge_rules.specs.Numbers.{first_number}
-use Rattle.judge_rules.specs.declared.finding.Rule.{Rule}
 use Rattle.mptcp_options.specs.Value.{OptionValue, Capable}
 use Rattle.mptcp_options.specs.declared.capable.CapableKeys.TheVariants.{Both, NoKey, Sender, WithData}
 use Rattle.mptcp_options.specs.declared.capable.CapableKeys.{CapableKeys}
 use Rattle.rule_book.specs.Facts.{Facts, first_of, own_base, own_lane, payload_at}
 use Rattle.rule_book.specs.Judged.{Told, empty_book, empty_lanes, grown, judged, judged_belonging, judged_flow, judged_formed, judged_in_flow, judged_known, judged_opened, judged_place, judged_side, judged_taken, opened_facts, put_back, with_key}
-use Rattle.rule_book.specs.Signals.{KeyedValue, judged_options, keyed_each, told_formless}
+use Rattle.rule_book.specs.Signals.{KeyedValue, judged_options, told_formless}
 use Rattle.rule_book.specs.State.{BookValue, JudgedValue, LanesValue, stream_at, with_stream}
 use Rattle.rule_book.specs.Stream.{Left, gap_counted, judged_at, judged_from}
 use Rattle.segment_wire.specs.Options.{option_octets}
@@ -32,14 +31,13 @@ use Rattle.seen_connections.specs.SameEnds.{ends_in, same_end}
 use Rattle.seen_connections.specs.SeenOptions.{Readable, SeenValue, seen_options}
 use Rattle.seen_connections.specs.declared.asked.Answer.{Answer}
 use Rattle.seen_connections.specs.declared.connections.Keys.{Keys}
-use Rattle.seen_connections.specs.declared.connections.Place.{Place}
 use Rattle.seen_connections.specs.declared.flow.Belongs.{Belongs}
 use Rattle.seen_connections.specs.declared.flow.Flow.{Flow}
 use Rattle.seen_connections.specs.declared.flow.Opened.{Opened}
 use Rattle.seen_connections.specs.declared.flow_list.Found.{Found}
 use Rattle.seen_streams.specs.Acks.{Acked}
 use Rattle.seen_streams.specs.Positions.{position_of}
-use Rattle.seen_streams.specs.State.{LaneValue, StreamValue}
+use Rattle.seen_streams.specs.State.{StreamValue}
 use Rattle.sides.specs.Side.{peer}
 use Rattle.sides.specs.declared.side.Side.TheVariants.{A, B}
 use Rattle.sides.specs.declared.side.Side.{Side}
@@ -52,8 +50,8 @@ use Rattle.own_runs.proofs.MapPositions.{Fine, OffersWell, StreamFine, is_mappin
 use Rattle.own_runs.proofs.OneConnection.{OneHolds}
 use Rattle.own_runs.proofs.OpenCounts.{AreCounted}
 use Rattle.own_runs.proofs.OpenFlows.{IsOpenOn, OpenBelongs, OpensBy, found_on, finds, which_some}
-use Rattle.own_runs.proofs.Own.{Drawn, IsOwn, ValueIs, end_of, own_key}
-use Rattle.own_runs.proofs.OwnFlows.{Each, FlowOn, KeysOwn, NonceIs, counted_on}
+use Rattle.own_runs.proofs.Own.{Drawn, IsOwn, end_of, own_key}
+use Rattle.own_runs.proofs.OwnFlows.{Each, FlowOn, KeysOwn, counted_on}
 use Rattle.own_runs.proofs.OwnOptions.{IsKeyed, IsOf, key_is, options_so, readable_so}
 use Rattle.own_runs.proofs.OwnPackets.{AllHold, lanes_so, opens_so, sender_so}
 use Rattle.own_runs.proofs.OwnUntold.{base_so}

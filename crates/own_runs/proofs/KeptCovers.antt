@@ -1,17 +1,16 @@
 -- What an option of a segment offers is offered by an option that is judged on, and A's key is known behind a segment that shows it.
-use Rattle.std.proofs.Common.{◌≡◌, refl, sym, ap, ◌∙◌, subst, ℕ, ◌⊎◌, inl, inr, ⊎_elim, ◌||◌, ◌==◌, Bool, true, false, if◌then◌else◌, Option, Some, None, is_some, List, [], ◌∷◌, ◌++◌, map}
+use Rattle.std.proofs.Common.{◌≡◌, refl, sym, ap, subst, ℕ, inl, inr, ⊎_elim, ◌||◌, ◌==◌, Bool, true, false, if◌then◌else◌, Option, Some, None, is_some, List, [], ◌∷◌, ◌++◌, map}
 use Rattle.std.specs.Prelude.{All}
 use Rattle.std.specs.List.{list_any}
 use Rattle.std.proofs.lemmas.Bool.{false≢true}
 use Rattle.std.proofs.lemmas.List.Elements.{All-head, All-tail}
-use Rattle.judge_laws.proofs.Flows.{AreTold}
 use Rattle.judge_laws.proofs.Keyed.{keys_told}
 use Rattle.judge_rules.specs.Keys.{first_other, other_key}
 use Rattle.judge_rules.specs.declared.finding.Finding.TheVariants.{Number64}
 use Rattle.judge_rules.specs.declared.finding.Rule.{Rule}
 use Rattle.judge_rules.specs.declared.finding.Verdict.TheVariants.{Broke, Kept, PassedOver}
 use Rattle.judge_rules.specs.declared.finding.Verdict.{Verdict}
-use Rattle.mptcp_options.specs.Value.{OptionValue, Capable, Dss}
+use Rattle.mptcp_options.specs.Value.{OptionValue, Capable}
 use Rattle.mptcp_options.specs.declared.capable.CapableKeys.TheVariants.{Both, NoKey, Sender, WithData}
 use Rattle.mptcp_options.specs.declared.capable.CapableKeys.{CapableKeys}
 use Rattle.rule_book.specs.Facts.{Facts}
@@ -23,8 +22,7 @@ use Rattle.seen_connections.specs.declared.flow.Opening.{Opening}
 use Rattle.sides.specs.declared.side.Side.TheVariants.{A, B}
 use Rattle.sides.specs.declared.side.Side.{Side}
 use Rattle.own_runs.proofs.AckPositions.{AnyOf}
-use Rattle.own_runs.proofs.Own.{Drawn, KeysAre, ValueIs}
-use Rattle.own_runs.proofs.OwnFlows.{KeysOwn}
+use Rattle.own_runs.proofs.Own.{Drawn, ValueIs}
 use Rattle.own_runs.proofs.OwnOptions.{IsKeyed, IsOf, NoBreak, one_so, verdict_so}
 use Rattle.own_runs.proofs.TokenSegments.{IsCapable}
 

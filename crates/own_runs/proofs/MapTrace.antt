@@ -1,64 +1,43 @@
 -- In the capture of a run whose script alters nothing and takes no options away each position has one place, each place the octet of its side's
 -- file, and each checksum is right.
-use Rattle.std.proofs.Common.{◌≡◌, refl, sym, ap, ◌∙◌, subst, ℕ, zero, suc, ◌⊎◌, ◌+◌, ◌-◌, ◌%◌, ◌^◌, ◌<◌, ◌≤◌, true, false, Option, Some, None, option_map, Ok, Result, inl, inr, ⊎_elim, List, [], ◌∷◌, ◌++◌, length, length-append, append-nil, map, arith}
+use Rattle.std.proofs.Common.{◌≡◌, refl, sym, ap, ◌∙◌, subst, ℕ, zero, suc, ◌⊎◌, ◌+◌, ◌-◌, ◌%◌, ◌^◌, ◌<◌, ◌≤◌, true, false, Option, Some, None, inl, inr, ⊎_elim, List, [], ◌∷◌, ◌++◌, length, map, arith}
 use Rattle.std.specs.Prelude.{All, IfSome, get_or}
 use Rattle.std.specs.Int.{from_bool}
 use Rattle.std.specs.List.{list_any}
 use Rattle.std.proofs.lemmas.Bool.{false≢true, or_cases}
-use Rattle.std.proofs.lemmas.List.Elements.{All-cons, All-head, All-nil, All-tail}
-use Rattle.capture_reader.specs.Captured.{Captured}
+use Rattle.std.proofs.lemmas.List.Elements.{All-cons, All-nil}
 use Rattle.capture_reader.specs.Seen.{Seen}
-use Rattle.capture_reader.specs.Steps.{◌>>=◌}
-use Rattle.capture_verdict.specs.Judging.{judged_capture, judged_packets}
-use Rattle.capture_verdict.specs.Sent.{IsSent}
 use Rattle.dss_checksum.specs.Checksum.{dss_checksum}
-use Rattle.judge_laws.specs.GoesOn.{stream_in}
 use Rattle.judge_rules.specs.Mappings.{offer_of}
 use Rattle.judge_rules.specs.Numbers.{first_number}
-use Rattle.judge_rules.specs.declared.acks.ToldPlace.{ToldPlace}
-use Rattle.judge_rules.specs.declared.finding.Rule.{Rule}
 use Rattle.link_trace.specs.declared.sent.Sent.{Sent}
 use Rattle.mptcp_options.specs.Value.{OptionValue}
 use Rattle.mptcp_options.specs.declared.capable.CapableKeys.TheVariants.{Both, NoKey, Sender, WithData}
 use Rattle.octet_text.specs.Prefix.{IsPrefix}
-use Rattle.path_core.specs.Octets.{octets}
 use Rattle.path_segments.specs.Options.{PlainOption, relative_number, said_option}
 use Rattle.path_segments.specs.declared.segment.PathMapping.TheVariants.{Bytes, End, Infinite}
 use Rattle.path_segments.specs.declared.segment.PathOption.TheVariants.{Capable, Dss, Fail}
 use Rattle.path_segments.specs.declared.spelling.Spelling.{Spelling}
-use Rattle.rule_book.specs.Judged.{nothing_judged}
-use Rattle.rule_book.specs.State.{JudgedValue}
-use Rattle.run_trace.specs.Trace.{trace_of}
-use Rattle.seen_octets.specs.declared.octet.Octet.{Octet}
-use Rattle.seen_streams.specs.State.{StreamValue}
 use Rattle.segment_wire.specs.Segment.{Segment}
 use Rattle.sides.specs.Side.{peer}
 use Rattle.sides.specs.declared.side.Side.TheVariants.{A, B}
 use Rattle.sides.specs.declared.side.Side.{Side}
 use Rattle.stream_lanes.specs.Duo.{Duo}
 use Rattle.stream_lanes.specs.Words.{Every}
-use Rattle.world_laws.specs.NeverFalls.{IsWhole}
-use Rattle.world_laws.specs.Openings.{PathPlan, Start, opened_world, path_begins}
-use Rattle.world_laws.specs.Promises.{IsPlain, NumbersFit}
-use Rattle.world_laws.specs.Worlds.{Turn, world_run}
-use Rattle.own_runs.specs.Runs.{DataFinsEndTheFiles, NoWholeRunBreaks, StreamsBeginTheFiles, WholeStreamsAreTheFiles, capture_of, file_of}
-use Rattle.own_runs.specs.Fitting.{RunFits}
-use Rattle.own_runs.specs.Traces.{FitsCapture, packet_for}
-use Rattle.own_runs.proofs.Fitting.{traces_fit}
+use Rattle.world_laws.specs.Openings.{PathPlan, Start, path_begins}
+use Rattle.world_laws.specs.Promises.{NumbersFit}
 use Rattle.own_runs.proofs.AckPositions.{IsCover, IsCovered}
 use Rattle.own_runs.proofs.Bearing.{Carries, maps_octets}
-use Rattle.own_runs.proofs.FineMoments.{BearsMapped, IsMapped, Offered, content, file_len, lane_of, place_at, whole_offers}
+use Rattle.own_runs.proofs.FineMoments.{BearsMapped, IsMapped, Offered, content, file_len, lane_of, place_at}
 use Rattle.own_runs.proofs.FinePositions.{TellsNoFail}
-use Rattle.own_runs.proofs.Kept.{all_on, same_judged}
 use Rattle.own_runs.proofs.MapKept.{IsFine}
-use Rattle.own_runs.proofs.MapPositions.{Bears, OffersWell, Sit, StreamFine, contents, header, is_mapping}
-use Rattle.own_runs.proofs.Moments.{IsSpoken, WorldAlso, trace_spoken}
+use Rattle.own_runs.proofs.MapPositions.{Bears, OffersWell, Sit, contents, header}
+use Rattle.own_runs.proofs.Moments.{IsSpoken}
 use Rattle.own_runs.proofs.Numbered.{first_low, number_so}
 use Rattle.own_runs.proofs.Offering.{AllFine, OptionFine}
 use Rattle.own_runs.proofs.Own.{IsOwn, own_initial, own_key}
-use Rattle.own_runs.proofs.OwnTrace.{found, from_is, is_own, path_is, payload_same, seen_of, segment, seq_is, values_are}
+use Rattle.own_runs.proofs.OwnTrace.{from_is, is_own, path_is, payload_same, seen_of, segment, seq_is, values_are}
 use Rattle.own_runs.proofs.Placing.{PlacedIn}
-use Rattle.own_runs.proofs.Traces.{traces_are}
 use Rattle.own_runs.proofs.Values.{drawn}
 
 -- ---- positions modulo 2^32

@@ -1,18 +1,17 @@
 -- A connection has a book and a flow has lanes; a flow is of a connection only where one is there.
-use Rattle.std.proofs.Common.{◌≡◌, refl, sym, ap, ◌∙◌, subst, ℕ, ◌+◌, ◌<◌, ◌≤◌, ◌||◌, not, Bool, true, false, if◌then◌else◌, Option, Some, None, is_some, List, [], ◌∷◌, ◌++◌, length, length-append, nat_lt, arith}
+use Rattle.std.proofs.Common.{◌≡◌, refl, sym, ap, ◌∙◌, subst, ℕ, ◌+◌, ◌≤◌, ◌||◌, not, Bool, true, false, if◌then◌else◌, Option, Some, None, is_some, List, [], ◌∷◌, ◌++◌, length, length-append, nat_lt, arith}
 use Rattle.std.specs.Prelude.{IfSome}
-use Rattle.std.specs.List.{find, slice_get}
-use Rattle.std.proofs.Math.ListN.{set}
+use Rattle.std.specs.List.{slice_get}
 use Rattle.std.proofs.lemmas.Bool.{false≢true, ltb-false, ltb-true}
 use Rattle.std.proofs.lemmas.List.{length-set}
 use Rattle.std.proofs.lemmas.Option.{slice_get_within}
 use Rattle.capture_reader.specs.Seen.{Seen}
 use Rattle.judge_laws.proofs.Flows.{key_flows}
-use Rattle.rule_book.specs.Judged.{Told, empty_book, empty_lanes, grown, grown_to, judged, judged_belonging, judged_flow, judged_in_flow, judged_known, judged_place, judged_taken, token_in, with_key, with_wrong_token}
+use Rattle.rule_book.specs.Judged.{empty_book, empty_lanes, grown, grown_to, judged, judged_belonging, judged_flow, judged_in_flow, judged_known, judged_place, judged_taken, token_in, with_key, with_wrong_token}
 use Rattle.rule_book.specs.State.{BookValue, JudgedValue, LanesValue}
-use Rattle.seen_connections.specs.Connections.{SeenFlows, answer_of, answered, begins, begun_with, connections_after, ended, flow_after, gone_on, known_after, learnt_by, opened_by, taken, tied, wrong_token}
+use Rattle.seen_connections.specs.Connections.{SeenFlows, answer_of, answered, begins, begun_with, connections_after, ended, flow_after, gone_on, known_after, learnt_by, taken}
 use Rattle.seen_connections.specs.Flows.{begun, counted, flow_between}
-use Rattle.seen_connections.specs.Keys.{belongs_by, has_token, joined}
+use Rattle.seen_connections.specs.Keys.{belongs_by}
 use Rattle.seen_connections.specs.SameEnds.{ends_in}
 use Rattle.seen_connections.specs.declared.asked.Answer.TheVariants as answer
 use Rattle.seen_connections.specs.declared.asked.Answer.{Answer}
@@ -21,7 +20,6 @@ use Rattle.seen_connections.specs.declared.connections.Place.{Place}
 use Rattle.seen_connections.specs.declared.connections.WrongToken.{WrongToken}
 use Rattle.seen_connections.specs.declared.flow.Belongs.{Belongs}
 use Rattle.seen_connections.specs.declared.flow.Flow.{Flow}
-use Rattle.seen_connections.specs.declared.flow.Opened.{Opened}
 use Rattle.seen_connections.specs.declared.flow.Opening.TheVariants as opening
 use Rattle.seen_connections.specs.declared.flow.Opening.{Opening}
 use Rattle.seen_connections.specs.declared.flow_list.Found.{Found}
@@ -29,7 +27,7 @@ use Rattle.seen_connections.specs.declared.known_keys.KnownKey.{KnownKey}
 use Rattle.sides.specs.declared.side.Side.{Side}
 use Rattle.own_runs.proofs.Own.{AnswerIs, Drawn, IsOwn}
 use Rattle.own_runs.proofs.OwnFlows.{Each, counted_on, each_end, each_set, told}
-use Rattle.own_runs.proofs.TokenFlows.{AnyKnown, IsNamed, NamesIts, any_more}
+use Rattle.own_runs.proofs.TokenFlows.{AnyKnown, IsNamed, NamesIts}
 use Rattle.own_runs.proofs.TokenSegments.{Asked, IsBehind}
 use Rattle.own_runs.proofs.TokenState.{TokensHold, begins_none, found_there}
 

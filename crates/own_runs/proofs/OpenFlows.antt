@@ -1,10 +1,9 @@
 -- Which flows of a connection of ours are there behind their SYNs, and which are open behind the answers to them. What is there stays, and what is
 -- open stays open.
-use Rattle.std.proofs.Common.{◌≡◌, refl, sym, ap, ◌∙◌, subst, ℕ, ◌+◌, ◌%◌, ◌^◌, ◌<◌, ◌≤◌, ◌==◌, ◌&&◌, ◌||◌, ⊎_elim, not, Bool, true, false, if◌then◌else◌, Option, Some, None, is_none, is_some, List, [], ◌∷◌, ◌++◌, length, length-append, nat_le, arith}
+use Rattle.std.proofs.Common.{◌≡◌, refl, sym, ap, ◌∙◌, subst, ℕ, ◌+◌, ◌%◌, ◌^◌, ◌&&◌, ◌||◌, not, Bool, true, false, if◌then◌else◌, Option, Some, None, is_none, is_some, List, length, nat_le, arith}
 use Rattle.std.specs.Prelude.{IfSome}
 use Rattle.std.specs.List.{slice_get}
-use Rattle.std.proofs.Math.ListN.{set}
-use Rattle.std.proofs.lemmas.Bool.{and_parts, both_ways, false≢true, le-leb}
+use Rattle.std.proofs.lemmas.Bool.{both_ways, false≢true, le-leb}
 use Rattle.capture_reader.specs.Seen.{Seen}
 use Rattle.judge_laws.proofs.Books.{set_there}
 use Rattle.judge_laws.proofs.Flows.{taken_flows}
@@ -30,7 +29,7 @@ use Rattle.sides.specs.declared.side.Side.TheVariants.{A, B}
 use Rattle.sides.specs.declared.side.Side.{Side}
 use Rattle.own_runs.proofs.OneConnection.{OneHolds}
 use Rattle.own_runs.proofs.Openers.{openers_stay}
-use Rattle.own_runs.proofs.Own.{AnswerIs, Drawn, IsOwn, end_of, first_seq, own_initial, same_place}
+use Rattle.own_runs.proofs.Own.{AnswerIs, Drawn, IsOwn, end_of, own_initial, same_place}
 use Rattle.own_runs.proofs.OwnFlows.{Each, FlowOn, at_end, counted_on, each_end, each_set, taken_so, told}
 use Rattle.own_runs.proofs.TokenFlows.{IsNamed, NamesIts}
 use Rattle.own_runs.proofs.TokenSegments.{Asked, IsBehind, IsCapable}

@@ -1,6 +1,6 @@
 -- What each duty of a path keeps of how it opens: an end sends nothing but SYNs and resets before both SYNs are acknowledged, and those are where B's
 -- SYN/ACK was sent, which acknowledges A's SYN.
-use Rattle.std.proofs.Common.{◌≡◌, refl, sym, ap, ◌∙◌, subst, ℕ, ◌&&◌, ◌==◌, not, inl, inr, ◌⊎◌, ⊎_elim, Bool, true, false, if◌then◌else◌, Option, Some, None, List, [], ◌∷◌, ◌++◌}
+use Rattle.std.proofs.Common.{◌≡◌, refl, sym, ap, ◌∙◌, subst, ℕ, ◌&&◌, ◌==◌, not, ⊎_elim, Bool, true, false, if◌then◌else◌, Option, Some, None, List, [], ◌∷◌}
 use Rattle.std.specs.Option.{IfSome}
 use Rattle.std.proofs.lemmas.Bool.{and_parts, false≢true, both_ways}
 use Rattle.actor_desk.specs.declared.ask.Reply.{Reply}

@@ -1,5 +1,5 @@
 -- What a copy that arrives, and each other event, makes of how a path opens, and of what is to be done then.
-use Rattle.std.proofs.Common.{◌≡◌, refl, sym, ap, ◌∙◌, subst, ℕ, suc, zero, ◌+◌, ◌&&◌, ◌||◌, ◌==◌, not, nat_le, nat_lt, inl, inr, ◌⊎◌, ⊎_elim, Bool, true, false, if◌then◌else◌, Option, Some, None, is_none, List, [], ◌∷◌, length}
+use Rattle.std.proofs.Common.{◌≡◌, refl, sym, ap, ◌∙◌, subst, ℕ, suc, zero, ◌+◌, ◌&&◌, ◌==◌, nat_le, nat_lt, inl, inr, ◌⊎◌, ⊎_elim, Bool, true, false, if◌then◌else◌, Option, Some, None, List, [], length}
 use Rattle.std.specs.Option.{IfSome}
 use Rattle.std.proofs.lemmas.Bool.{and_parts, both_ways, false≢true}
 use Rattle.actor_desk.specs.Words.{tail_of}
@@ -19,7 +19,7 @@ use Rattle.path_core.specs.Judged.{taken_as}
 use Rattle.path_core.specs.MpJoin.{is_joined, is_listening}
 use Rattle.path_core.specs.OptionsIn.{hint_of, items_of, options_heard, owes_by}
 use Rattle.path_core.specs.Standing.{is_connected}
-use Rattle.path_core.specs.State.{PathState, at_tick, end_at, goes_on, with_agenda}
+use Rattle.path_core.specs.State.{PathState, at_tick, end_at, goes_on}
 use Rattle.path_core.specs.Timer.{timer_fired}
 use Rattle.path_core.specs.Values.{Carried, as_arrived, values}
 use Rattle.path_core.specs.declared.events.Event.{Event}
@@ -95,7 +95,7 @@ module _ (c : Copy) (s : EndState) where
   unwanted_state EndPhase.Dead is = refl
   unwanted_state EndPhase.Waiting is = absurd (false≢true is)
   unwanted_state EndPhase.Listen is = absurd (both_ways (is_unwanted (if is_syn_alone c then Meaning.Opens else Meaning.Ignored)) (either_wanted (is_syn_alone c) Meaning.Opens Meaning.Ignored refl refl) is)
-  unwanted_state EndPhase.SynSent is = 
+  unwanted_state EndPhase.SynSent is =
       absurd (both_ways (is_unwanted (if is_at_limit s then Meaning.Ignored else meaning_answering c.acknowledged c s)) (either_wanted (is_at_limit s) Meaning.Ignored (meaning_answering c.acknowledged c s) refl (answering_wanted c.acknowledged)) is)
   unwanted_state _ is = absurd (both_ways (is_unwanted (meaning_connected c s)) connected_wanted is)
 

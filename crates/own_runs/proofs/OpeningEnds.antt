@@ -1,5 +1,5 @@
 -- How an end stands before both SYNs are acknowledged, once they are, and once it is dead; and what keeps it so.
-use Rattle.std.proofs.Common.{◌≡◌, refl, sym, ap, ◌∙◌, subst, ℕ, ◌&&◌, ◌||◌, not, inl, inr, ◌⊎◌, Bool, true, false, if◌then◌else◌, Option, Some, None, is_some, List, [], ◌∷◌, map}
+use Rattle.std.proofs.Common.{◌≡◌, refl, sym, ap, ◌∙◌, subst, ℕ, ◌&&◌, ◌||◌, not, inl, inr, ◌⊎◌, Bool, true, false, if◌then◌else◌, Option, None, is_some, List, [], ◌∷◌, map}
 use Rattle.std.specs.Option.{IfSome}
 use Rattle.std.proofs.lemmas.Bool.{both_ways, false≢true}
 use Rattle.path_core.specs.End.{PathEnd, died}
@@ -8,16 +8,15 @@ use Rattle.path_core.specs.Standing.{is_connected}
 use Rattle.loss_recovery.specs.Timers.{timer_settled}
 use Rattle.loss_recovery.specs.declared.timers.Timing.{Timing}
 use Rattle.subflow_send.specs.Records.{Record, SendState}
-use Rattle.subflow_send.specs.Rules.{after_resent, expired_records, fin_sent, first_sent, first_unsent_sent, is_fin, is_unsent}
+use Rattle.subflow_send.specs.Rules.{expired_records, fin_sent, first_sent, first_unsent_sent, is_fin, is_unsent}
 use Rattle.subflow_send.specs.Sendings.{sent_again}
 use Rattle.subflow_tcp.specs.Dues.{only_reset}
 use Rattle.subflow_tcp.specs.Emitting.{is_syn}
-use Rattle.subflow_tcp.specs.State.{EndState, has_records}
+use Rattle.subflow_tcp.specs.State.{EndState}
 use Rattle.subflow_tcp.specs.States.{after_fin_passed, after_finish, is_closed_to_segments, is_dead, is_waiting, may_finish}
 use Rattle.subflow_tcp.specs.declared.dues.Due.{Due as Dues}
 use Rattle.subflow_tcp.specs.declared.handshake.State.{State as EndPhase}
 use Rattle.subflow_tcp.specs.declared.segments.Outgoing.{Outgoing}
-use Rattle.world_laws.proofs.Keys.AreDrawn.{is_past}
 use Rattle.world_laws.proofs.Keys.WhatWakes.{is_up}
 use Rattle.own_runs.proofs.Learning.{is_unborn}
 

@@ -1,6 +1,6 @@
 -- What a copy that arrives makes of how an end opens: both SYNs are acknowledged where they were, where the copy answers its own SYN, or where it is taken
 -- by an end that answered one.
-use Rattle.std.proofs.Common.{◌≡◌, refl, sym, ap, ◌∙◌, subst, ℕ, arith, ◌&&◌, ◌||◌, not, nat_lt, nat_le, Bool, true, false, if◌then◌else◌, Option, Some, None, ◌⊎◌, ⊎_elim, inl, inr, is_some, List, [], ◌∷◌, option_map}
+use Rattle.std.proofs.Common.{◌≡◌, refl, sym, ap, ◌∙◌, subst, ℕ, arith, Bool, true, false, if◌then◌else◌, Some, ◌⊎◌, ⊎_elim, inl, inr, List, [], ◌∷◌, option_map}
 use Rattle.std.specs.List.{list_any}
 use Rattle.std.proofs.lemmas.Bool.{both_ways, false≢true}
 use Rattle.path_agenda.specs.declared.heard.Heard.{Heard}
@@ -18,7 +18,7 @@ use Rattle.path_segments.specs.declared.position.HeardPosition.TheVariants.{At}
 use Rattle.subflow_send.specs.Rules.{ack_kind, after_acknowledge, sample_of}
 use Rattle.subflow_send.specs.declared.record.AckKind.{AckKind}
 use Rattle.subflow_tcp.specs.Judging.{meaning_of}
-use Rattle.subflow_tcp.specs.Segments.{Copy, occupied}
+use Rattle.subflow_tcp.specs.Segments.{Copy}
 use Rattle.subflow_tcp.specs.State.{EndState}
 use Rattle.subflow_tcp.specs.States.{after_fin_acked, after_handshake, is_closed_to_segments, is_dead, is_half_open}
 use Rattle.subflow_tcp.specs.declared.handshake.State.{State as EndPhase}

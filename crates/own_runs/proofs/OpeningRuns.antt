@@ -32,11 +32,10 @@ use Rattle.sides.specs.Side.{peer}
 use Rattle.sides.specs.declared.side.Side.TheVariants.{A, B}
 use Rattle.sides.specs.declared.side.Side.{Side}
 use Rattle.stream_lanes.proofs.Lists.{Every-map, Every-nil, in_map, in_set}
-use Rattle.stream_lanes.specs.Words.{Every}
 use Rattle.subflow_tcp.specs.State.{EndState}
 use Rattle.subflow_tcp.specs.States.{is_closed_to_segments, is_dead}
 use Rattle.subflow_tcp.specs.declared.handshake.State.{State as EndPhase}
-use Rattle.world_laws.proofs.Joins.TokensAgree.{WorldMet, opened_met, run_met, turn_met}
+use Rattle.world_laws.proofs.Joins.TokensAgree.{WorldMet, opened_met, run_met}
 use Rattle.world_laws.proofs.Keys.ToldAreOwn.{MemberIs}
 use Rattle.world_laws.proofs.Promises.Made.{run_fresh}
 use Rattle.world_laws.proofs.Rounds.Frame.{first_keeps, takes_keeps}
@@ -51,14 +50,14 @@ use Rattle.world_laws.specs.declared.member.Member.TheVariants.{App, Path}
 use Rattle.own_runs.proofs.AgendaFits.{FitsAt, Fits, Led, Owes, OwesAt, duty_owes, is_weighty, owes_settles}
 use Rattle.own_runs.proofs.BookMoments.{numbered}
 use Rattle.own_runs.proofs.ComesTimes.{crew_at}
-use Rattle.own_runs.proofs.DutiesFew.{IsNoEvent, is_events}
+use Rattle.own_runs.proofs.DutiesFew.{IsNoEvent}
 use Rattle.own_runs.proofs.InTime.{AnswersAt, IsSynAck, OpensAt as SynAt, ResetsAt, Sending, SynsAt, WasReset, WasSaid, crew_sending, member_sending, none_reset, none_said, reset_split, sending_as, turn_sending, was_last, was_more, was_split}
-use Rattle.own_runs.proofs.Learning.{IsAlone, is_unborn}
+use Rattle.own_runs.proofs.Learning.{IsAlone}
 use Rattle.own_runs.proofs.Moments.{end_shown, first_same}
 use Rattle.own_runs.proofs.NextTrace.{run_append}
 use Rattle.own_runs.proofs.Opening.{FlightTells, JoinSent, PathOpens, SendsSo, Tells, agenda_so, ask_so, send_so, settled_so, step_so}
 use Rattle.own_runs.proofs.OpeningArrivals.{alike_so, event_owes, event_so}
-use Rattle.own_runs.proofs.OpeningEnds.{is_passive, listening_is}
+use Rattle.own_runs.proofs.OpeningEnds.{is_passive}
 use Rattle.own_runs.proofs.PlainSends.{FallsSo, SendsWell, duty_falls, first_fits, sends_at}
 use Rattle.own_runs.proofs.Speaking.{ToSend}
 

@@ -1,11 +1,9 @@
 -- What a segment of a connection of ours keeps in its flow it keeps of each book and of what was sent on each flow.
-use Rattle.std.proofs.Common.{◌≡◌, refl, sym, ap, ◌∙◌, subst, ℕ, ◌+◌, nat_lt, ◌||◌, Bool, true, false, not, if◌then◌else◌, Option, Some, None, List, [], ◌∷◌, ◌++◌, length}
-use Rattle.std.specs.Prelude.{All, IfSome}
+use Rattle.std.proofs.Common.{◌≡◌, refl, sym, ap, ◌∙◌, subst, ℕ, nat_lt, ◌||◌, Bool, true, false, not, if◌then◌else◌, Option, Some, None, List, [], ◌∷◌, ◌++◌, length}
+use Rattle.std.specs.Prelude.{IfSome}
 use Rattle.std.specs.List.{slice_get}
 use Rattle.std.proofs.Math.ListN.{set}
 use Rattle.std.proofs.Common.{⊎_elim, zero, suc, ◌-◌, ◌⊎◌, inl, inr}
-use Rattle.std.specs.Option.{option_map}
-use Rattle.std.proofs.lemmas.List.Elements.{All-head, All-tail}
 use Rattle.sides.specs.declared.side.Side.{Side}
 use Rattle.sides.specs.declared.side.Side.TheVariants.{A, B}
 use Rattle.sides.specs.Side.{peer}
@@ -18,9 +16,8 @@ use Rattle.seen_connections.specs.declared.flow.Belongs.{Belongs}
 use Rattle.seen_connections.specs.declared.flow.Flow.{Flow}
 use Rattle.seen_connections.specs.Connections.{SeenFlows, taken}
 use Rattle.seen_connections.specs.SameEnds.{same_end}
-use Rattle.seen_streams.specs.State.{StreamValue}
-use Rattle.rule_book.specs.Judged.{Told, empty_book, empty_lanes, grown, grown_to, judged, judged_belonging, judged_flow, judged_in_flow, judged_known, judged_place, judged_taken, nothing_judged, side_of, token_in, token_told, with_wrong_token}
-use Rattle.rule_book.specs.State.{BookValue, JudgedValue, LanesValue, stream_at}
+use Rattle.rule_book.specs.Judged.{Told, empty_book, empty_lanes, grown, grown_to, judged, judged_belonging, judged_flow, judged_in_flow, judged_known, judged_place, judged_taken, side_of, token_in, token_told, with_wrong_token}
+use Rattle.rule_book.specs.State.{BookValue, JudgedValue, LanesValue}
 use Rattle.rule_book.specs.Stream.{Left}
 use Rattle.judge_laws.proofs.Flows.{key_flows}
 use Rattle.judge_laws.proofs.Standing.{set_item, some_same}

@@ -1,6 +1,6 @@
 -- What an end sends that is no reset is sent by one that isn't closed; and what is no SYN either, where both SYNs are acknowledged. A reset kills its end, or answers a
 -- SYN at one that listens.
-use Rattle.std.proofs.Common.{◌≡◌, refl, sym, ap, ◌∙◌, subst, ℕ, ◌&&◌, ◌-◌, not, inl, inr, ◌⊎◌, ⊎_elim, Bool, true, false, if◌then◌else◌, Option, Some, None, is_some, List, [], ◌∷◌}
+use Rattle.std.proofs.Common.{◌≡◌, refl, ap, ℕ, ◌-◌, not, inl, inr, ◌⊎◌, ⊎_elim, Bool, true, false, if◌then◌else◌, Option, Some, None, is_some, List, [], ◌∷◌}
 use Rattle.std.specs.List.{find, slice_get}
 use Rattle.std.specs.Option.{IfSome}
 use Rattle.std.proofs.lemmas.Bool.{and_parts, both_ways, false≢true}
@@ -25,11 +25,10 @@ use Rattle.path_core.specs.MpJoin.{is_listening}
 use Rattle.path_core.specs.OptionsOut.{ack_said, carried_said, noted_said, record_or_ack, syn_ack_said}
 use Rattle.path_core.specs.Profile.{Profile}
 use Rattle.path_core.specs.Standing.{answered_ack_out, is_connected, may_note}
-use Rattle.path_core.specs.State.{PathState, end_at, goes_on}
+use Rattle.path_core.specs.State.{PathState, end_at}
 use Rattle.path_core.specs.Treating.{answered_item, item_of}
 use Rattle.path_core.specs.Turns.{FirstStands}
 use Rattle.path_core.specs.Values.{Carried, values}
-use Rattle.path_segments.specs.Spelled.{PlainSegment}
 use Rattle.sides.specs.declared.side.Side.TheVariants.{A, B}
 use Rattle.sides.specs.declared.side.Side.{Side}
 use Rattle.subflow_send.specs.Records.{Record}
@@ -39,7 +38,7 @@ use Rattle.subflow_tcp.specs.State.{EndState, has_records, is_some_record}
 use Rattle.subflow_tcp.specs.States.{is_closed_to_segments, is_dead, is_opening, may_finish}
 use Rattle.subflow_tcp.specs.declared.handshake.State.{State as EndPhase}
 use Rattle.subflow_tcp.specs.declared.segments.Outgoing.{Outgoing}
-use Rattle.own_runs.proofs.AgendaFits.{Fits, Owes, OwesAt, first_owes, is_lead, is_weighty, put_holds}
+use Rattle.own_runs.proofs.AgendaFits.{Fits, OwesAt, first_owes, is_lead, is_weighty, put_holds}
 use Rattle.own_runs.proofs.Opening.{PathOpens, answer_at, still_at}
 use Rattle.own_runs.proofs.OpeningEnds.{IsReset, OneSyn, TcpStill, finishing_met, is_before, met_so, open_cases}
 use Rattle.own_runs.proofs.Speaking.{ToSend}

@@ -29,14 +29,14 @@ use Rattle.world_laws.specs.Openings.{Start, opened_world}
 use Rattle.world_laws.specs.Promises.{IsPlain, NumbersFit}
 use Rattle.world_laws.specs.Worlds.{Turn, WorldState, world_run}
 use Rattle.world_laws.specs.declared.member.Member.TheVariants.{App, Path}
-use Rattle.own_runs.specs.KeysShown.{KeysShownSo, bears_option, maps_key, shows_key, shows_keys}
+use Rattle.own_runs.specs.KeysShown.{KeysShownSo, bears_option, shows_key, shows_keys}
 use Rattle.own_runs.proofs.AckMoments.{WholeComes, whole_timed}
 use Rattle.own_runs.proofs.AckRuns.{WholeTimed}
 use Rattle.own_runs.proofs.Bearing.{maps_octets}
 use Rattle.own_runs.proofs.BearsPlain.{BearsPlain, bears_at}
 use Rattle.own_runs.proofs.ComesTimes.{also_shown, comes_at, learns_at, says_so}
 use Rattle.own_runs.proofs.FineMoments.{Offered}
-use Rattle.own_runs.proofs.InTime.{AnswersAt, ComesAt, InTime, IsSynAck, KeyAt, OpensAt, SynsAt, TimeAt, WasReset, WasSaid, has_octets, is_bearing, tells_end, was_last, was_more}
+use Rattle.own_runs.proofs.InTime.{AnswersAt, ComesAt, IsSynAck, KeyAt, OpensAt, SynsAt, TimeAt, WasReset, WasSaid, has_octets, is_bearing, tells_end, was_last, was_more}
 use Rattle.own_runs.proofs.KeyBears.{key_at}
 use Rattle.own_runs.proofs.KeyRuns.{TurnSays}
 use Rattle.own_runs.proofs.KeysSaid.{maps_some, shows_at}

@@ -1,5 +1,5 @@
 -- What the judge says of the capture of a connection whose script alters no payload and takes no options away.
-use Rattle.std.specs.Prelude.{◌≡◌, Bool, true, false, ◌⊎◌, Option, Ok, List}
+use Rattle.std.specs.Prelude.{◌≡◌, true, ◌⊎◌, Option, Ok, List}
 use Rattle.capture_verdict.specs.Ending.{ending_of}
 use Rattle.capture_verdict.specs.Judging.{judged_capture}
 use Rattle.capture_verdict.specs.declared.ending.Ending.TheVariants.{Kept, NoConnection}
