@@ -1,11 +1,12 @@
 -- In the capture of a whole run whose segments come in time each position has one place, each place the octet of its side's file, each checksum is
 -- right, and no Data ACK is of more than was seen.
-use Rattle.std.proofs.Common.{◌≡◌, refl, sym, ap, ◌∙◌, subst, ℕ, zero, suc, ◌⊎◌, ◌+◌, ◌-◌, ◌<◌, ◌≤◌, true, false, Option, Some, None, option_map, Ok, Result, inl, inr, ⊎_elim, List, [], ◌∷◌, ◌++◌, length, length-append, append-nil, append_assoc, map, take, drop, arith}
+use Rattle.std.proofs.Common.{◌≡◌, refl, sym, ap, ◌∙◌, subst, ℕ, zero, suc, ◌⊎◌, ◌+◌, ◌-◌, ◌<◌, ◌≤◌, true, false, Option, Some, None, option_map, is_some, Ok, Result, inl, inr, ⊎_elim, List, [], ◌∷◌, ◌++◌, length, length-append, append-nil, append_assoc, map, take, drop, arith}
 use Rattle.std.specs.Prelude.{All, IfSome, get_or}
 use Rattle.std.specs.List.{slice_get}
 use Rattle.std.proofs.lemmas.List.{length-drop, length-take}
 use Rattle.std.proofs.lemmas.List.Elements.{All-cons, All-head, All-nil, All-tail}
-use Rattle.std.proofs.lemmas.Option.{slice_get_within}
+use Rattle.std.proofs.lemmas.Bool.{false≢true}
+use Rattle.std.proofs.lemmas.Option.{slice_get-get_or, slice_get_within}
 use Rattle.capture_reader.specs.Captured.{Captured}
 use Rattle.capture_reader.specs.Seen.{Seen, segment_in_packet}
 use Rattle.capture_reader.specs.Steps.{◌>>=◌}
@@ -30,7 +31,7 @@ use Rattle.world_laws.specs.NeverFalls.{IsWhole}
 use Rattle.world_laws.specs.Openings.{Start, opened_world}
 use Rattle.world_laws.specs.Promises.{IsPlain, NumbersFit}
 use Rattle.world_laws.specs.Worlds.{Turn}
-use Rattle.own_runs.specs.Runs.{DataFinsEndTheFiles, NoWholeRunBreaks, StreamsBeginTheFiles, WholeStreamsAreTheFiles, capture_of, file_of}
+use Rattle.own_runs.specs.Runs.{DataFinsEndTheFiles, NoWholeRunBreaks, SeenOctetsAreTheFiles, StreamsBeginTheFiles, WholeStreamsAreTheFiles, capture_of, file_of}
 use Rattle.own_runs.specs.Fitting.{RunFits}
 use Rattle.own_runs.specs.Traces.{FitsCapture, packet_for}
 use Rattle.own_runs.proofs.AckTrace.{IsKnown, StandsAt, narrowed, raised, stands_next}
@@ -215,6 +216,15 @@ module _ (whole_timed : WholeTimed) where
           by i None is e = cc
           by i (Some o) is e = (is.0, sym (some_is e) ∙ is.1)
 
+      seen_is : (place : ℕ) → stream.seen place ≡ true
+          → (place < length (file_of start s)) × (option_map (λ (o : Octet). o.octet) (stream.octet place) ≡ slice_get (file_of start s) place)
+      seen_is place seen = by (stream.octet place) (fine.octets place) (fine.there place seen)
+        where
+          by : (o : Option Octet) → IfSome o (λ o. (place < length (file_of start s)) × (o.octet ≡ get_or (file_of start s) place 0)) → is_some o ≡ true
+              → (place < length (file_of start s)) × (option_map (λ (o : Octet). o.octet) o ≡ slice_get (file_of start s) place)
+          by None is some = absurd (false≢true some)
+          by (Some o) is some = (is.0, ap (λ (x : ℕ). Some x) is.1 ∙ sym (slice_get-get_or (file_of start s) place 0 is.0))
+
       end_is : (fin : ToldPlace) → stream.fin ≡ Some fin → fin.place ≡ file_len start s
       end_is fin is = subst (λ (o : Option ToldPlace). IfSome o (λ told. told.place ≡ file_len start s)) is fine.fin
 
@@ -224,6 +234,9 @@ module _ (whole_timed : WholeTimed) where
 
   pub streams_are : StreamsBeginTheFiles
   streams_are start turns plain whole fit run side at judged read connection s stream there = prefix start turns plain whole fit run side at judged read connection s stream there
+
+  pub seen_are : SeenOctetsAreTheFiles
+  seen_are start turns plain whole fit run side at judged read connection s stream there = seen_is start turns plain whole fit run side at judged read connection s stream there
 
   pub ends_are : DataFinsEndTheFiles
   ends_are start turns plain whole fit run side at judged read connection s stream there = end_is start turns plain whole fit run side at judged read connection s stream there

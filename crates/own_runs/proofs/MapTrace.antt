@@ -264,6 +264,7 @@ module _ (start : Start) (last : Duo) (fit : NumbersFit start) where
           (wells_so start last x.path s.plan x.from key position (length payload) p same borne.0 s.segment.options s.spoken.placed.options s.also.0)));
       calm = subst (λ (values : List OptionValue). All TellsNoFail values) (sym (values_are (Offered start last) start x s short))
           (calmly start last x.path s.plan x.from s.segment.options s.also.0);
+      whole = refl;
       maps = λ p same j within. subst (λ (from : Side). IsCovered (first_number (own_key (drawn start) from)) p (p + j) own.values) (sym (from_is (Offered start last) start x s short))
           (subst (λ (values : List OptionValue). IsCovered (first_number (own_key (drawn start) x.from)) p (p + j) values) (sym (values_are (Offered start last) start x s short))
           (mapped p j (subst (λ (octets : List ℕ). j < length octets) (payload_same (Offered start last) start x s short) within) s.also.1));
