@@ -77,7 +77,7 @@ module _ (start : Start) (size : HasRoom start) (fit : NumbersFit start) where
     speaks = valued start before size fit
 
     -- a turn sends over octets what it says as values
-    says_so : (P : PlainSegment → Type 0) (side : Side) (turn : Turn) (h : Learns start (Opened before) (Answered before) (v before)) → TurnSays side P turn (v before)
+    pub says_so : (P : PlainSegment → Type 0) (side : Side) (turn : Turn) (h : Learns start (Opened before) (Answered before) (v before)) → TurnSays side P turn (v before)
         → (y : Sending) × (turn_sending turn (world_run octets before (opened_world start)) ≡ Some y) × Said side P y
     says_so P side Turn.Round h said = absurd said
     says_so P side (Turn.Step i) h said =

@@ -191,3 +191,31 @@ module _ (start : Start) (P : Sending → Type 0) (before : List Turn) (turn : T
 
   pub was_last : (y : Sending) → here ≡ Some y → P y → WasSaid start P (before ++ turn ∷ [])
   was_last y sends holds = record { more = before; turn = turn; later = []; is = refl; said = y; sends = sends; holds = holds }
+
+pub none_said : (start : Start) (P : Sending → Type 0) → WasSaid start P [] → ⊥
+none_said start P h = by h.more h.is
+  where
+    by : (more : List Turn) → more ++ h.turn ∷ h.later ≡ [] → ⊥
+    by [] e = cc
+    by (m ∷ more) e = cc
+
+pub none_reset : (start : Start) (n : ℕ) (s : Side) → WasReset start n s [] → ⊥
+none_reset start n s h = by h.more h.is
+  where
+    by : (more : List Turn) → more ++ h.turn ∷ h.later ≡ [] → ⊥
+    by [] e = cc
+    by (m ∷ more) e = cc
+
+-- a reset was sent before the last turn, or by it
+pub reset_split : (start : Start) (n : ℕ) (s : Side) (before : List Turn) (turn : Turn) → WasReset start n s (before ++ turn ∷ []) → WasReset start n s before
+    ⊎ ((y : Sending) × (turn_sending turn (world_run octets before (opened_world start)) ≡ Some y) × ResetsAt n s y × WasSaid start (SynsAt n) (before ++ turn ∷ []))
+reset_split start n s before turn h =
+    ⊎_elim
+    (λ last. inr (
+      h.said,
+      ap (λ (t : Turn). turn_sending t (world_run octets before (opened_world start))) (sym last.1)
+          ∙ ap (λ (ts : List Turn). turn_sending h.turn (world_run octets ts (opened_world start))) (sym last.0) ∙ h.sends,
+      h.holds,
+      subst (λ (ts : List Turn). WasSaid start (SynsAt n) ts) (ap (λ (ts : List Turn). ts ++ h.turn ∷ []) last.0 ∙ ap (λ (t : Turn). before ++ t ∷ []) last.1) h.begun,
+    ))
+    (λ it. inl (record { more = h.more; turn = h.turn; later = it.0; is = it.1; said = h.said; sends = h.sends; holds = h.holds; begun = h.begun })) (turns_split h.more h.later before h.turn turn h.is)

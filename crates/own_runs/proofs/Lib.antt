@@ -4,6 +4,8 @@ mod AckRuns
 mod AckTrace
 mod Acking
 mod Acknowledged
+mod AgendaFits
+mod AllKept
 mod AnswersAsked
 mod AnswersShow
 mod Bearing
@@ -70,6 +72,8 @@ mod OpenCounts
 mod OpenFlows
 mod Openers
 mod Opening
+mod OpeningArrivals
+mod OpeningEnds
 mod OpeningHears
 mod OpeningRuns
 mod Own
@@ -85,6 +89,7 @@ mod PayloadHeld
 mod PayloadsPlaced
 mod Pending
 mod Placing
+mod PlainSends
 mod Reached
 mod ReadEnds
 mod ReadingBack

@@ -1,47 +1,36 @@
--- What a copy that arrives makes of how an end opens: it is connected where it was, where it answered a SYN, or where the copy answers its own.
-use Rattle.std.proofs.Common.{◌≡◌, refl, sym, ap, ◌∙◌, subst, ℕ, ◌&&◌, ◌||◌, not, nat_lt, nat_le, arith, Bool, true, false, if◌then◌else◌, Option, Some, None, ◌⊎◌, ⊎_elim, inl, inr, is_none, is_some, List, [], ◌∷◌, ◌++◌, map, option_map}
-use Rattle.std.specs.List.{flat_map, list_any}
-use Rattle.std.specs.Option.{option_or}
-use Rattle.std.proofs.lemmas.Bool.{and_parts, false≢true, or_from, or_parts}
-use Rattle.mptcp_options.specs.declared.capable.CapableKeys.TheVariants.{Both, NoKey, Sender, WithData}
-use Rattle.mptcp_options.specs.declared.join.JoinForm.{JoinForm}
-use Rattle.mptcp_options.specs.declared.join.JoinForm.TheVariants.{Answer, Syn, Third}
-use Rattle.path_agenda.specs.Items.{key_heard, key_in}
+-- What a copy that arrives makes of how an end opens: both SYNs are acknowledged where they were, where the copy answers its own SYN, or where it is taken
+-- by an end that answered one.
+use Rattle.std.proofs.Common.{◌≡◌, refl, sym, ap, ◌∙◌, subst, ℕ, arith, ◌&&◌, ◌||◌, not, nat_lt, nat_le, Bool, true, false, if◌then◌else◌, Option, Some, None, ◌⊎◌, ⊎_elim, inl, inr, is_some, List, [], ◌∷◌, option_map}
+use Rattle.std.specs.List.{list_any}
+use Rattle.std.proofs.lemmas.Bool.{both_ways, false≢true}
 use Rattle.path_agenda.specs.declared.heard.Heard.{Heard}
-use Rattle.path_core.specs.Addresses.{item_removed}
+use Rattle.path_core.proofs.Judgements.{judged_taken}
 use Rattle.path_core.specs.Arrival.{acknowledged_in, owing_if, with_payload}
-use Rattle.path_core.specs.DssIn.{ack_items, map_items}
-use Rattle.path_core.specs.MpJoin.{join_items}
-use Rattle.path_core.specs.OptionsIn.{items_in}
-use Rattle.path_segments.specs.Laws.{meant_mapping, meant_option}
-use Rattle.path_segments.specs.Options.{PlainOption}
+use Rattle.path_core.specs.End.{PathEnd}
+use Rattle.path_core.specs.Judged.{join_judged, judged_of, taken_as}
+use Rattle.path_core.specs.MpJoin.{is_listening}
+use Rattle.path_agenda.specs.Items.{wants_ack}
+use Rattle.path_core.specs.OptionsIn.{owes_by}
+use Rattle.path_core.specs.Standing.{is_connected}
+use Rattle.path_core.specs.declared.judged.Judged.{Judged}
 use Rattle.path_segments.specs.Spelled.{PlainSegment}
 use Rattle.path_segments.specs.declared.position.HeardPosition.TheVariants.{At}
-use Rattle.path_segments.specs.declared.segment.PathMapping.{PathMapping}
-use Rattle.path_segments.specs.declared.segment.PathMapping.TheVariants.{Bytes, End, Infinite}
-use Rattle.path_segments.specs.declared.segment.PathOption.TheVariants.{AddAddr, Capable, Dss, Fail, FastClose, Join, Prio, Remove, Reset}
-use Rattle.sides.specs.declared.side.Side.TheVariants.{A, B}
-use Rattle.sides.specs.declared.side.Side.{Side}
-use Rattle.subflow_send.specs.Records.{SendState}
-use Rattle.subflow_send.specs.Rules.{ack_kind, after_acknowledge, sample_of, uncovered}
+use Rattle.subflow_send.specs.Rules.{ack_kind, after_acknowledge, sample_of}
 use Rattle.subflow_send.specs.declared.record.AckKind.{AckKind}
-use Rattle.subflow_tcp.specs.Judging.{is_syn_alone, meaning_answer, meaning_answering, meaning_at, meaning_of}
-use Rattle.subflow_tcp.specs.Segments.{Copy}
-use Rattle.subflow_tcp.specs.State.{EndState, is_at_limit}
-use Rattle.subflow_tcp.specs.States.{after_fin_acked, after_handshake}
+use Rattle.subflow_tcp.specs.Judging.{meaning_of}
+use Rattle.subflow_tcp.specs.Segments.{Copy, occupied}
+use Rattle.subflow_tcp.specs.State.{EndState}
+use Rattle.subflow_tcp.specs.States.{after_fin_acked, after_handshake, is_closed_to_segments, is_dead, is_half_open}
 use Rattle.subflow_tcp.specs.declared.handshake.State.{State as EndPhase}
 use Rattle.subflow_tcp.specs.declared.segments.Hint.{Hint}
 use Rattle.subflow_tcp.specs.declared.verdicts.Meaning.{Meaning}
 use Rattle.subflow_tcp.specs.Taking as taking
+use Rattle.world_laws.proofs.Keys.AreDrawn.{is_past}
 use Rattle.world_laws.proofs.Keys.Meanings.{Means, means}
-use Rattle.own_runs.proofs.Learning.{is_unborn}
-use Rattle.path_core.specs.declared.judged.Judged.TheVariants as judged
-use Rattle.path_core.specs.Judged.{join_judged, judged_of, taken_as}
-use Rattle.path_core.specs.End.{PathEnd}
-use Rattle.path_core.specs.Standing.{is_connected}
 use Rattle.own_runs.proofs.InTime.{IsSynAck}
 use Rattle.own_runs.proofs.KeyHears.{accepts_acked, acked_so}
-use Rattle.own_runs.proofs.Opening.{is_passive}
+use Rattle.own_runs.proofs.Learning.{is_unborn}
+use Rattle.own_runs.proofs.OpeningEnds.{Still, TcpStill, dead_still, is_before, is_passive, met_so, met_still}
 
 -- a copy that an end which opens accepts is an answer to its SYN
 pub answered_so : (sg : PlainSegment) (s : EndState) (c : Copy) (n : ℕ) → c.syn ≡ sg.syn → c.acknowledged ≡ acknowledged_in (option_map (λ (k : ℕ). At k) sg.acknowledged)
@@ -55,107 +44,116 @@ answered_so sg s c n syn acknowledged next is =
     let same : n ≡ 1 = omega (arith, one, some, most) in
     record { syn = sym syn ∙ told.1.0; acknowledged = acked ∙ ap (λ (m : ℕ). Some m) same }
 
--- what is taken means that
-pub taken_means : (joined rst : Bool) (items : List Heard) (m : Meaning) (e : PathEnd) (n : ℕ) → taken_as (judged_of joined rst items m e) ≡ Meaning.Accepts n → m ≡ Meaning.Accepts n
-taken_means false rst items m e n is = is
-taken_means true rst items m e n is = by m is
-  where
-    choose : (b : Bool) (x y : Meaning) → (if b then x else y) ≡ Meaning.Accepts n → (x ≡ Meaning.Accepts n) ⊎ (y ≡ Meaning.Accepts n)
-    choose true x y is = inl is
-    choose false x y is = inr is
+-- ---- what a copy is taken as
 
-    asks : (b : Bool) → taken_as (if b then judged.Asks else judged.Lacks) ≡ Meaning.Accepts n → ⊥
-    asks true is = cc
-    asks false is = cc
+-- what it means, or nothing
+pub taken_is : (joined rst : Bool) (items : List Heard) (m : Meaning) (e : PathEnd) → (taken_as (judged_of joined rst items m e) ≡ Meaning.Ignored) ⊎ (taken_as (judged_of joined rst items m e) ≡ m)
+taken_is joined rst items m e = judged_taken rst items e (λ n. (n ≡ Meaning.Ignored) ⊎ (n ≡ m)) (inl refl) joined m (inr refl)
 
-    answers : (b : Bool) (k : ℕ) → taken_as (if b then judged.As (Meaning.Accepts k) else judged.Forged) ≡ Meaning.Accepts n → Meaning.Accepts k ≡ Meaning.Accepts n
-    answers true k is = is
-    answers false k is = cc
+pub taken_means : (joined rst : Bool) (items : List Heard) (c : Copy) (e : PathEnd) → Means c e.tcp (taken_as (judged_of joined rst items (meaning_of c e.tcp) e))
+taken_means joined rst items c e = judged_taken rst items e (λ n. Means c e.tcp n) tt joined (meaning_of c e.tcp) (means c e.tcp)
 
-    takes : (b c : Bool) (k l : ℕ) → taken_as (if b then judged.As Meaning.Ignored else (if c then judged.Forged else judged.As (Meaning.Taken k l))) ≡ Meaning.Accepts n → ⊥
-    takes true c k l is = cc
-    takes false true k l is = cc
-    takes false false k l is = cc
-
-    over : (b : Bool) (m : Meaning) → taken_as (if b then judged.As Meaning.Ignored else judged.As m) ≡ Meaning.Accepts n → m ≡ Meaning.Accepts n
-    over true m is = cc
-    over false m is = is
-
-    by : (m : Meaning) → taken_as (join_judged rst items m e) ≡ Meaning.Accepts n → m ≡ Meaning.Accepts n
-    by Meaning.Opens is = absurd (asks _ is)
-    by (Meaning.Accepts k) is = answers _ k is
-    by Meaning.RepeatedSyn is = is
-    by (Meaning.Taken k l) is = absurd (takes _ _ k l is)
-    by Meaning.Ignored is = over _ Meaning.Ignored is
-    by m is = over _ m is
+pub taken_accepts : (joined rst : Bool) (items : List Heard) (m : Meaning) (e : PathEnd) (n : ℕ) → taken_as (judged_of joined rst items m e) ≡ Meaning.Accepts n → m ≡ Meaning.Accepts n
+taken_accepts joined rst items m e n is = ⊎_elim (λ none. (let never : Meaning.Ignored ≡ Meaning.Accepts n = sym none ∙ is in cc)) (λ same. sym same ∙ is) (taken_is joined rst items m e)
 
 pub taken_opens : (joined rst : Bool) (items : List Heard) (m : Meaning) (e : PathEnd) → taken_as (judged_of joined rst items m e) ≡ Meaning.Opens → m ≡ Meaning.Opens
-taken_opens false rst items m e is = is
-taken_opens true rst items m e is = by m is
+taken_opens joined rst items m e is = ⊎_elim (λ none. (let never : Meaning.Ignored ≡ Meaning.Opens = sym none ∙ is in cc)) (λ same. sym same ∙ is) (taken_is joined rst items m e)
+
+-- a copy that waits for the control book, or is refused, is one that opens
+abbrev pub is_waited : Judged → Bool
+is_waited Judged.Asks = true
+is_waited Judged.Lacks = true
+is_waited _ = false
+
+pub waited_opens : (joined rst : Bool) (items : List Heard) (m : Meaning) (e : PathEnd) → is_waited (judged_of joined rst items m e) ≡ true → m ≡ Meaning.Opens
+waited_opens false rst items m e is = absurd (false≢true is)
+waited_opens true rst items m e is = by m is
   where
-    asks : (b : Bool) → taken_as (if b then judged.Asks else judged.Lacks) ≡ Meaning.Opens → ⊥
-    asks true is = cc
-    asks false is = cc
+    choose : (b : Bool) (x y : Judged) → is_waited x ≡ false → is_waited y ≡ false → is_waited (if b then x else y) ≡ true → ⊥
+    choose true x y none other is = both_ways (is_waited x) none is
+    choose false x y none other is = both_ways (is_waited y) other is
 
-    answers : (b : Bool) (k : ℕ) → taken_as (if b then judged.As (Meaning.Accepts k) else judged.Forged) ≡ Meaning.Opens → ⊥
-    answers true k is = cc
-    answers false k is = cc
+    takes : (b c : Bool) (k l : ℕ) → is_waited (if b then Judged.As Meaning.Ignored else (if c then Judged.Forged else Judged.As (Meaning.Taken k l))) ≡ true → ⊥
+    takes true c k l is = false≢true is
+    takes false true k l is = false≢true is
+    takes false false k l is = false≢true is
 
-    takes : (b c : Bool) (k l : ℕ) → taken_as (if b then judged.As Meaning.Ignored else (if c then judged.Forged else judged.As (Meaning.Taken k l))) ≡ Meaning.Opens → ⊥
-    takes true c k l is = cc
-    takes false true k l is = cc
-    takes false false k l is = cc
-
-    over : (b : Bool) (m : Meaning) → taken_as (if b then judged.As Meaning.Ignored else judged.As m) ≡ Meaning.Opens → m ≡ Meaning.Opens
-    over true m is = cc
-    over false m is = is
-
-    by : (m : Meaning) → taken_as (join_judged rst items m e) ≡ Meaning.Opens → m ≡ Meaning.Opens
-    by Meaning.Opens is = absurd (asks _ is)
-    by (Meaning.Accepts k) is = absurd (answers _ k is)
-    by Meaning.RepeatedSyn is = is
+    by : (m : Meaning) → is_waited (join_judged rst items m e) ≡ true → m ≡ Meaning.Opens
+    by Meaning.Opens is = refl
+    by (Meaning.Accepts k) is = absurd (choose _ (Judged.As (Meaning.Accepts k)) Judged.Forged refl refl is)
+    by Meaning.RepeatedSyn is = absurd (false≢true is)
     by (Meaning.Taken k l) is = absurd (takes _ _ k l is)
-    by Meaning.Ignored is = over _ Meaning.Ignored is
-    by m is = over _ m is
+    by Meaning.Ignored is = absurd (choose _ (Judged.As Meaning.Ignored) (Judged.As Meaning.Ignored) refl refl is)
+    by m is = absurd (choose _ (Judged.As Meaning.Ignored) (Judged.As m) refl refl is)
 
--- what opens an end came to one that listens
-pub opens_passive : (s : EndState) (c : Copy) → meaning_of c s ≡ Meaning.Opens → is_passive s.state ≡ true
-opens_passive s c is = ap is_passive (subst (Means c s) is (means c s)).0
+-- only a dead end wants no segment
+pub past_open : (state : EndPhase) → is_past state ≡ true → is_closed_to_segments state ≡ false
+past_open EndPhase.Waiting is = absurd (false≢true is)
+past_open EndPhase.Listen is = absurd (false≢true is)
+past_open EndPhase.SynSent is = absurd (false≢true is)
+past_open EndPhase.Dead is = absurd (false≢true is)
+past_open _ is = refl
+
+-- an end that has the peer's SYN answered it, or both SYNs are acknowledged
+pub past_cases : (state : EndPhase) → is_past state ≡ true → (is_connected state ≡ true) ⊎ (is_half_open state ≡ true)
+past_cases EndPhase.SynReceived is = inr refl
+past_cases EndPhase.Waiting is = absurd (false≢true is)
+past_cases EndPhase.Listen is = absurd (false≢true is)
+past_cases EndPhase.SynSent is = absurd (false≢true is)
+past_cases EndPhase.Dead is = absurd (false≢true is)
+past_cases _ is = inl refl
+
+pub half_passive : (state : EndPhase) → is_half_open state ≡ true → is_passive state ≡ true
+half_passive EndPhase.SynReceived is = refl
+half_passive EndPhase.Waiting is = absurd (false≢true is)
+half_passive _ is = absurd (false≢true is)
+
+past_living : (state : EndPhase) → is_past state ≡ true → is_dead state ≡ false
+past_living EndPhase.Waiting is = absurd (false≢true is)
+past_living EndPhase.Listen is = absurd (false≢true is)
+past_living EndPhase.SynSent is = absurd (false≢true is)
+past_living EndPhase.Dead is = absurd (false≢true is)
+past_living _ is = refl
 
 -- ---- what it makes of an end's subflow
 
-abbrev pub IsAccepted : Meaning → Type 0
-IsAccepted (Meaning.Accepts n) = Unit {0}
-IsAccepted _ = ⊥
+-- the copy lets both SYNs be acknowledged
+abbrev pub IsMeeting : Meaning → Type 0
+IsMeeting (Meaning.Accepts n) = Unit {0}
+IsMeeting (Meaning.Taken pos n) = Unit {0}
+IsMeeting _ = ⊥
 
-pub record Joins (accepted : Type 0) (s t : EndState) : Type 0 where
-  pub connected : is_connected t.state ≡ true → (is_connected s.state ≡ true) ⊎ ((is_passive s.state ≡ true) ⊎ accepted)
+pub record Comes (m : Meaning) (s t : EndState) : Type 0 where
+  pub connected : is_connected t.state ≡ true → (is_connected s.state ≡ true) ⊎ IsMeeting m
   pub passive : is_passive t.state ≡ true → is_passive s.state ≡ true
+  pub dead : is_dead s.state ≡ true → is_dead t.state ≡ true
+  pub listens : is_listening t.state ≡ true → is_listening s.state ≡ true
+  pub opened : is_closed_to_segments t.state ≡ false → (is_closed_to_segments s.state ≡ false) ⊎ (m ≡ Meaning.Opens)
+  pub still : TcpStill s → TcpStill t
 
--- as connected as before
-record Keeps (s t : EndState) : Type 0 where
-  connected : is_connected t.state ≡ true → is_connected s.state ≡ true
-  passive : is_passive t.state ≡ true → is_passive s.state ≡ true
-
-same_keeps : (s t : EndState) → t.state ≡ s.state → Keeps s t
-same_keeps s t state = record { connected = λ is. ap is_connected (sym state) ∙ is; passive = λ is. ap is_passive (sym state) ∙ is }
-
-joins_keep : (accepted : Type 0) (s t : EndState) → Keeps s t → Joins accepted s t
-joins_keep accepted s t x = record { connected = λ is. inl (x.connected is); passive = x.passive }
-
-joins_then : (accepted : Type 0) (s t u : EndState) → Joins accepted s t → Keeps t u → Joins accepted s u
-joins_then accepted s t u x y = record { connected = λ is. x.connected (y.connected is); passive = λ is. x.passive (y.passive is) }
-
-keeps_then : (accepted : Type 0) (s t u : EndState) → Keeps s t → Joins accepted t u → Joins accepted s u
-keeps_then accepted s t u x y = record {
-  connected = λ is. ⊎_elim (λ was. inl (x.connected was)) (⊎_elim (λ passive. inr (inl (x.passive passive))) (λ a. inr (inr a))) (y.connected is);
-  passive = λ is. x.passive (y.passive is);
+-- the state stays
+state_comes : (m : Meaning) (s t : EndState) → t.state ≡ s.state → (TcpStill s → TcpStill t) → Comes m s t
+state_comes m s t state still = record {
+  connected = λ is. inl (ap is_connected (sym state) ∙ is);
+  passive = λ is. ap is_passive (sym state) ∙ is;
+  dead = λ is. ap is_dead state ∙ is;
+  listens = λ is. ap is_listening (sym state) ∙ is;
+  opened = λ is. inl (ap is_closed_to_segments (sym state) ∙ is);
+  still = still;
 }
 
-payload_keeps : (m : Meaning) (octets : List ℕ) (s : EndState) → Keeps s (with_payload m octets s)
-payload_keeps (Meaning.Taken position acknowledged) [] s = same_keeps s _ refl
-payload_keeps (Meaning.Taken position acknowledged) (x ∷ octets) s = same_keeps s _ refl
-payload_keeps _ octets s = same_keeps s _ refl
+-- both SYNs are acknowledged then
+met_comes : (m : Meaning) (s t : EndState) → is_dead s.state ≡ false → is_closed_to_segments s.state ≡ false → IsMeeting m → is_connected t.state ≡ true → Comes m s t
+met_comes m s t living opens meets is =
+    let met = met_so t.state is in
+    record {
+      connected = λ now. inr meets;
+      passive = λ un. absurd (both_ways (is_passive t.state) met.active un);
+      dead = λ un. absurd (both_ways (is_dead s.state) living un);
+      listens = λ un. absurd (both_ways (is_listening t.state) met.speaks un);
+      opened = λ now. inl opens;
+      still = λ h. met_still t.state t.due t.timing.timer t.send.records is;
+    }
 
 acked_connected : (state : EndPhase) → is_connected (after_fin_acked state) ≡ is_connected state
 acked_connected EndPhase.FinWait1 = refl
@@ -163,73 +161,101 @@ acked_connected EndPhase.Closing = refl
 acked_connected EndPhase.Waiting = refl
 acked_connected _ = refl
 
-acked_passive : (state : EndPhase) → is_passive (after_fin_acked state) ≡ is_passive state
-acked_passive EndPhase.FinWait1 = refl
-acked_passive EndPhase.Closing = refl
-acked_passive EndPhase.Waiting = refl
-acked_passive _ = refl
-
-handshake_connected : (accepted : Type 0) (state : EndPhase) → is_connected (after_handshake state) ≡ true → (is_connected state ≡ true) ⊎ ((is_passive state ≡ true) ⊎ accepted)
-handshake_connected accepted EndPhase.SynReceived is = inr (inl refl)
-handshake_connected accepted EndPhase.Waiting is = inl is
-handshake_connected accepted _ is = inl is
-
-handshake_passive : (state : EndPhase) → is_passive (after_handshake state) ≡ true → is_passive state ≡ true
-handshake_passive EndPhase.SynReceived is = absurd (false≢true is)
-handshake_passive EndPhase.Waiting is = is
-handshake_passive _ is = is
-
-ack_keeps : (pos now : ℕ) (s : EndState) → Keeps s (taking.after_acknowledgement pos now s)
-ack_keeps pos now s = by (ack_kind pos s.send)
+ack_connected : (pos now : ℕ) (s : EndState) → is_connected (taking.after_acknowledgement pos now s).state ≡ is_connected s.state
+ack_connected pos now s = by (ack_kind pos s.send)
   where
     t : EndState
     t = record s { send = after_acknowledge pos s.send }
 
-    connected : (b : Bool) → is_connected (if b then after_fin_acked s.state else s.state) ≡ true → is_connected s.state ≡ true
-    connected true is = sym (acked_connected s.state) ∙ is
-    connected false is = is
+    new : (b : Bool) → is_connected (if b then after_fin_acked s.state else s.state) ≡ is_connected s.state
+    new true = acked_connected s.state
+    new false = refl
 
-    passive : (b : Bool) → is_passive (if b then after_fin_acked s.state else s.state) ≡ true → is_passive s.state ≡ true
-    passive true is = sym (acked_passive s.state) ∙ is
-    passive false is = is
+    by : (kind : AckKind) → is_connected (taking.after_ack_kind kind (sample_of pos s.send) now t).state ≡ is_connected s.state
+    by (AckKind.New octets) = new (taking.is_fin_acked t.send)
+    by _ = refl
 
-    by : (kind : AckKind) → Keeps s (taking.after_ack_kind kind (sample_of pos s.send) now t)
-    by (AckKind.New octets) = record { connected = λ is. connected (taking.is_fin_acked t.send) is; passive = λ is. passive (taking.is_fin_acked t.send) is }
-    by _ = record { connected = λ is. is; passive = λ is. is }
+handshake_connected : (state : EndPhase) → is_past state ≡ true → is_connected (after_handshake state) ≡ true
+handshake_connected EndPhase.SynReceived is = refl
+handshake_connected EndPhase.Waiting is = absurd (false≢true is)
+handshake_connected EndPhase.Listen is = absurd (false≢true is)
+handshake_connected EndPhase.SynSent is = absurd (false≢true is)
+handshake_connected EndPhase.Dead is = absurd (false≢true is)
+handshake_connected _ is = refl
 
-either_joins : (accepted : Type 0) (b : Bool) (s t u : EndState) → Joins accepted s t → Joins accepted s u → Joins accepted s (if b then t else u)
-either_joins accepted true s t u x y = x
-either_joins accepted false s t u x y = y
-
-arrival_joins : (m : Meaning) (hint : Hint) (now : ℕ) (c : Copy) (s : EndState) → (m ≡ Meaning.Opens → is_passive s.state ≡ true) → Joins (IsAccepted m) s (taking.after_arrival m hint now c s)
-arrival_joins (Meaning.Taken pos acknowledged) hint now c s listens =
+taken_connected : (pos n : ℕ) (hint : Hint) (now : ℕ) (c : Copy) (s : EndState) → is_past s.state ≡ true → is_connected (taking.after_taken pos n hint now c s).state ≡ true
+taken_connected pos n hint now c s past =
     let t : EndState = taking.after_established (taking.after_hearing (taking.after_payload pos hint c s)) in
-    let a : EndState = taking.after_acknowledgement acknowledged now t in
-    let opened : Joins ⊥ s t = record { connected = handshake_connected ⊥ s.state; passive = handshake_passive s.state } in
-    let acked : Joins ⊥ s a = joins_then ⊥ s t a opened (ack_keeps acknowledged now t) in
-    let row = either_joins ⊥ (taking.is_duplicate (ack_kind acknowledged t.send) (taking.told_by hint c) c a) s (taking.after_duplicate a) (taking.after_interruption a)
-    (record { connected = acked.connected; passive = acked.passive }) (record { connected = acked.connected; passive = acked.passive }) in
-    record { connected = row.connected; passive = row.passive }
-arrival_joins (Meaning.Accepts acknowledged) hint now c s listens =
-    let t : EndState = record (taking.after_hearing (taking.after_payload 1 hint c s)) { state = EndPhase.Established } in
-    record { connected = λ is. inr (inr tt); passive = λ is. absurd (false≢true ((ack_keeps acknowledged now t).passive is)) }
-arrival_joins Meaning.Opens hint now c s listens = record { connected = λ is. absurd (false≢true is); passive = λ is. listens refl }
-arrival_joins Meaning.Kills hint now c s listens = record { connected = λ is. absurd (false≢true is); passive = λ is. absurd (false≢true is) }
-arrival_joins Meaning.Ignored hint now c s listens = joins_keep ⊥ s _ (same_keeps s _ refl)
-arrival_joins _ hint now c s listens = joins_keep ⊥ s _ (same_keeps s _ refl)
-
-pub copy_joins : (owes : Bool) (m : Meaning) (hint : Hint) (now : ℕ) (c : Copy) (octets : List ℕ) (s : EndState) → (m ≡ Meaning.Opens → is_passive s.state ≡ true)
-    → Joins (IsAccepted m) s (owing_if owes (taking.after_arrival m hint now c (with_payload m octets s)))
-copy_joins owes m hint now c octets s listens =
-    let held = with_payload m octets s in
-    let t = taking.after_arrival m hint now c held in
-    joins_then (IsAccepted m) s t (owing_if owes t) (keeps_then (IsAccepted m) s held t (payload_keeps m octets s) (arrival_joins m hint now c held (λ opens. payload m octets ∙ listens opens))) (by owes t)
+    let a : EndState = taking.after_acknowledgement n now t in
+    row (taking.is_duplicate (ack_kind n t.send) (taking.told_by hint c) c a) a ∙ ack_connected n now t ∙ handshake_connected s.state past
   where
-    by : (b : Bool) (t : EndState) → Keeps t (owing_if b t)
-    by true t = same_keeps t _ refl
-    by false t = same_keeps t _ refl
+    row : (b : Bool) (a : EndState) → is_connected (if b then taking.after_duplicate a else taking.after_interruption a).state ≡ is_connected a.state
+    row true a = refl
+    row false a = refl
 
-    payload : (m : Meaning) (octets : List ℕ) → is_passive (with_payload m octets s).state ≡ is_passive s.state
-    payload (Meaning.Taken position acknowledged) [] = refl
-    payload (Meaning.Taken position acknowledged) (x ∷ octets) = refl
-    payload _ octets = refl
+owing_state : (b : Bool) (t : EndState) → (owing_if b t).state ≡ t.state
+owing_state true t = refl
+owing_state false t = refl
+
+held_state : (pos n : ℕ) (octets : List ℕ) (s : EndState) → (with_payload (Meaning.Taken pos n) octets s).state ≡ s.state
+held_state pos n [] s = refl
+held_state pos n (x ∷ octets) s = refl
+
+-- what isn't taken is answered: by the SYN/ACK where that isn't acknowledged
+pub answering_still : (s : EndState) → is_past s.state ≡ true → TcpStill s → TcpStill (taking.after_answering s)
+answering_still s past h = ⊎_elim (λ met. met_still s.state _ s.timing.timer s.send.records met)
+    (λ half. (let b : is_half_open s.state ≡ true = half in by (is_half_open s.state) half)) (past_cases s.state past)
+  where
+    by : (b : Bool) → b ≡ true → Still s.state (if b then record s.due { syn_ack = true } else record s.due { ack = true }) s.timing.timer s.send.records
+    by true is = record { acks = h.acks; again = h.again; timed = h.timed; syns = h.syns }
+    by false is = absurd (false≢true is)
+
+pub answering_due : (s : EndState) → is_past s.state ≡ true → ((taking.after_answering s).due.syn_ack ≡ true) ⊎ (is_connected s.state ≡ true)
+answering_due s past = ⊎_elim (λ met. inr met) (λ half. inl (by (is_half_open s.state) half)) (past_cases s.state past)
+  where
+    by : (b : Bool) → b ≡ true → (if b then record s.due { syn_ack = true } else record s.due { ack = true }).syn_ack ≡ true
+    by true is = refl
+    by false is = absurd (false≢true is)
+
+hearing_still : (s : EndState) → TcpStill s → TcpStill (taking.after_hearing s)
+hearing_still s h = record { acks = h.acks; again = h.again; timed = h.timed; syns = h.syns }
+
+pub copy_comes : (m : Meaning) (items : List Heard) (hint : Hint) (now : ℕ) (c : Copy) (octets : List ℕ) (s : EndState) → Means c s m
+    → Comes m s (owing_if (owes_by m items) (taking.after_arrival m hint now c (with_payload m octets s)))
+copy_comes (Meaning.Taken pos n) items hint now c octets s means =
+    let held : EndState = with_payload (Meaning.Taken pos n) octets s in
+    let past : is_past held.state ≡ true = ap is_past (held_state pos n octets s) ∙ means.0 in
+    met_comes (Meaning.Taken pos n) s _ (past_living s.state means.0) (past_open s.state means.0) tt
+    (ap is_connected (owing_state (list_any wants_ack items) (taking.after_taken pos n hint now c held)) ∙ taken_connected pos n hint now c held past)
+copy_comes (Meaning.Accepts n) items hint now c octets s means =
+    let t : EndState = record (taking.after_hearing (taking.after_payload 1 hint c s)) { state = EndPhase.Established } in
+    met_comes (Meaning.Accepts n) s _ (ap is_dead means.0) (ap is_closed_to_segments means.0) tt (ack_connected n now t)
+copy_comes Meaning.Opens items hint now c octets s means = record {
+  connected = λ is. absurd (false≢true is);
+  passive = λ is. ap is_passive means.0;
+  dead = λ is. absurd (false≢true (sym (ap is_dead means.0) ∙ is));
+  listens = λ is. absurd (false≢true is);
+  opened = λ is. inr refl;
+  still = λ h. record {
+    acks = λ owed. absurd (false≢true (sym (ap is_connected means.0) ∙ h.acks owed));
+    again = λ owed. refl;
+    timed = λ runs. refl;
+    syns = λ before. h.syns (ap is_before means.0);
+  };
+}
+copy_comes Meaning.Kills items hint now c octets s means = record {
+  connected = λ is. absurd (false≢true is);
+  passive = λ is. absurd (false≢true is);
+  dead = λ is. refl;
+  listens = λ is. absurd (false≢true is);
+  opened = λ is. absurd (false≢true (sym is));
+  still = λ h. dead_still false _;
+}
+copy_comes Meaning.RepeatedSyn items hint now c octets s means =
+    state_comes Meaning.RepeatedSyn s _ refl (λ h. record { acks = h.acks; again = h.again; timed = h.timed; syns = h.syns })
+copy_comes Meaning.Outside items hint now c octets s means = state_comes Meaning.Outside s _ refl (λ h. answering_still s means h)
+copy_comes Meaning.Challenged items hint now c octets s means = state_comes Meaning.Challenged s _ refl (λ h. answering_still (taking.after_hearing s) means (hearing_still s h))
+copy_comes Meaning.Ahead items hint now c octets s means = state_comes Meaning.Ahead s _ refl (λ h. answering_still (taking.after_hearing s) means (hearing_still s h))
+copy_comes Meaning.Unacknowledging items hint now c octets s means = state_comes Meaning.Unacknowledging s _ refl (λ h. hearing_still s h)
+copy_comes Meaning.Ignored items hint now c octets s means = state_comes Meaning.Ignored s _ refl (λ h. h)
+copy_comes Meaning.Unwanted items hint now c octets s means = state_comes Meaning.Unwanted s _ refl (λ h. h)

@@ -7,6 +7,7 @@ ghost use Rattle.own_runs.specs.Packets.{CapturesAreTheirPackets};
 ghost use Rattle.own_runs.specs.Runs.{DataFinsEndTheFiles, DeliveredRunsShowTheFiles, NoRunBreaks, NoWholeRunBreaks, SeenOctetsAreTheFiles, StreamsBeginTheFiles, WholeStreamsAreTheFiles};
 ghost use Rattle.own_runs.specs.Segments.{SegmentsAreFound, WrittenSegmentsAreFound};
 ghost use Rattle.own_runs.specs.Traces.{TracesAreTheirPackets, TracesAreTheirSegments};
+ghost use Rattle.own_runs.specs.WholeKept.{WholeRunsEndWell};
 ghost use Rattle.own_runs.specs.WholeSegments.{DeliveredRunsTellTheEnds, EachSaysWhatItBears};
 
 /// A law: what is written of a section's blocks is read as a capture of their packets, in order, each a raw IPv4 packet with all its octets.
@@ -68,6 +69,13 @@ pub fn whole_runs_break_no_rule()
     ensures place_content { NoWholeRunBreaks PlaceContent }
     ensures dss_sum { NoWholeRunBreaks DssSum }
     ensures data_ack { NoWholeRunBreaks DataAck }
+{}
+
+/// A law: the judge ends well with the capture of such a run, at whichever side it was taken and wherever the judge takes that to be: the capture is
+/// read, no side broke any rule, and each join's connection was found; or no connection was opened yet. The premises are those of
+/// `whole_runs_break_no_rule`.
+pub fn whole_runs_end_well()
+    ensures { WholeRunsEndWell }
 {}
 
 /// A law: what the judge finds of a side's stream in the capture of such a run, over all subflows, up to the first octet that isn't there, is a
