@@ -28,8 +28,7 @@ use subflow_tcp::State;
 /// segment. A segment is on its way for a tick or longer, and so a timeout is.
 #[derive(Drop)]
 pub struct Path {
-    // 7 KiB, which lie in memory of their own, so that an actor is moved cheaply.
-    state: Box<PathState>,
+    state: PathState,
 }
 
 impl Model for Path {
@@ -44,9 +43,9 @@ impl Model for Path {
 
     ghost coded = { Prim.hlevel (codes, mappings_code) };
 
-    ghost view = { λ p. p.state.value };
+    ghost view = { λ p. p.state };
 
-    ghost invariant = { λ p. (is_none (passable p.state.value) ≡ true) × TakesTime p.state.value };
+    ghost invariant = { λ p. (is_none (passable p.state) ≡ true) × TakesTime p.state };
 }
 
 impl Path {
@@ -55,7 +54,7 @@ impl Path {
     ///
     /// # Errors
     ///
-    /// Only where there is no memory for the path and the script's lines.
+    /// Only where there is no memory for the script's lines.
     pub fn new(alloc: Global, script: &Script, path: u8) -> Result<Self, AllocError>
         requires ranges { HasRanges script.now }
         requires path { path < length script.now.paths }
@@ -63,10 +62,7 @@ impl Path {
     {
         let state = PathState::new(alloc, script, path)?;
         state.takes_time();
-        match Box::new(alloc, state) {
-            Ok(state) => Ok(Path { state }),
-            Err(_) => Err(AllocError),
-        }
+        Ok(Path { state })
     }
 
     /// Its turn ends, whatever replies of the asked kind come, and so does the turn that the next round begins.
@@ -75,7 +71,7 @@ impl Path {
         ensures round { Ends octets (next_round self.now) }
     {
         // For the proof: the invariant of the state.
-        let _state = &*self.state;
+        let _state = &self.state;
     }
 
     /// The number of the path, below 16.
