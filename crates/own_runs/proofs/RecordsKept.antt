@@ -354,7 +354,7 @@ module _ (P : Record → Type 0) (any : (r : Record) (x : Sending) → P r → P
       all (Duty.Step (StepDuty.Look s)) = tt
       all _ = tt
 
-  kept_at : (s : Side) (p q : PathState Carried) → Kept p q → EndKeeps (end_at s p) (end_at s q)
+  pub kept_at : (s : Side) (p q : PathState Carried) → Kept p q → EndKeeps (end_at s p) (end_at s q)
   kept_at A p q k = k.a
   kept_at B p q k = k.b
 
