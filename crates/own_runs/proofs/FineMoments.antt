@@ -90,7 +90,7 @@ place_at None p = 0
 place_at (Some l) p = place_on l p
 
 -- a mapping that was told on such a lane, with the number of place 0
-abbrev MappedOn : (ℕ → ℕ) → ℕ → Option Lane → PathMapping ℕ → Type 0
+abbrev pub MappedOn : (ℕ → ℕ) → ℕ → Option Lane → PathMapping ℕ → Type 0
 MappedOn octet first lane (Bytes place position len fin checksum) =
     Sit (place_at lane) position place len
     × IfSome checksum (λ sum. sum ≡ dss_checksum (header first place (relative_number position) len) (contents (λ p. octet (place_at lane p)) position len))
@@ -98,7 +98,7 @@ MappedOn octet first lane (End place checksum) = IfSome checksum (λ sum. sum �
 MappedOn octet first lane (Infinite place position) = Unit {0}
 
 -- a payload at a position
-abbrev BorneOn : (ℕ → ℕ) → Option Lane → ℕ → List ℕ → Type 0
+abbrev pub BorneOn : (ℕ → ℕ) → Option Lane → ℕ → List ℕ → Type 0
 BorneOn octet lane position payload = (position + length payload < 2 ^ 31) × Bears (λ p. octet (place_at lane p)) position payload
 
 module _ (start : Start) (last : Duo) (path : ℕ) where

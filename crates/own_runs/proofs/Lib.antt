@@ -72,6 +72,7 @@ mod Passed
 mod PayloadHeld
 mod PayloadsPlaced
 mod Pending
+mod PiecesTold
 mod PlacesKept
 mod PlacesTrace
 mod Placing

@@ -126,7 +126,7 @@ module _ (start : Start) (last : Duo) (path : ℕ) (plan : PathPlan) (s : Side) 
     there : (from : ℕ) → from ≡ at → p % 2 ^ 32 ≡ from % 2 ^ 32
     there from is = same ∙ ap (λ (n : ℕ). n % 2 ^ 32) (sym is)
 
-    well_so : (o : PlainOption) → PlacedIn key at octets o → OptionFine (file_len start) (IsMapped start last path) ⊥ s o → Well p (said_option spelling s o)
+    pub well_so : (o : PlainOption) → PlacedIn key at octets o → OptionFine (file_len start) (IsMapped start last path) ⊥ s o → Well p (said_option spelling s o)
     well_so (Dss next None) placed is = tt
     well_so (Dss next (Some (Bytes place from len false checksum))) placed is =
         let alike = there from placed.0 in
@@ -177,7 +177,7 @@ module _ (start : Start) (last : Duo) (path : ℕ) (plan : PathPlan) (s : Side) 
         (wells_so options (record { each = λ i y at_y. placed.each (suc i) y at_y }) (record { each = λ i y at_y. each.each (suc i) y at_y }))
 
     -- its payload
-    borne_so : (payload : List ℕ) → length payload ≡ octets → Bears octet_of at payload → Bears (λ q. content start s (where_in last path s q)) p payload
+    pub borne_so : (payload : List ℕ) → length payload ≡ octets → Bears octet_of at payload → Bears (λ q. content start s (where_in last path s q)) p payload
     borne_so payload whole bears j below = bears j below ∙ ap octet_of (by few)
       where
         by : (octets ≡ 0) ⊎ (at + octets < 2 ^ 31) → at + j ≡ (p + j) % 2 ^ 32

@@ -1,4 +1,5 @@
--- No packet of a connection of ours breaks `mapping`, whatever its script does: each mapping of a segment gives its positions the places that they have.
+-- No packet of a connection of ours breaks `mapping` or `dss-sum`, whatever its script does: each mapping of a segment gives its positions the places that
+-- they have, and each payload has their octets.
 -- Where a reset of a dead end stands far behind all others, with number 0 (RFC 9293, section 3.10.7.1), later numbers may be read as positions that are
 -- 2^32 too high: all is said modulo 2^32.
 use Rattle.std.proofs.Common.{◌≡◌, refl, sym, ap, ◌∙◌, subst, ℕ, ◌+◌, ◌%◌, ◌^◌, ◌<◌, ◌≤◌, Bool, true, false, if◌then◌else◌, Option, Some, None, List, [], ◌∷◌, map, arith}
@@ -31,8 +32,9 @@ use Rattle.sides.specs.Side.{peer}
 use Rattle.sides.specs.declared.side.Side.TheVariants.{A, B}
 use Rattle.sides.specs.declared.side.Side.{Side}
 use Rattle.own_runs.proofs.KeptOptions.{kept_so}
-use Rattle.own_runs.proofs.LanePlaces.{LanePlaced, OptionTells, StreamPlaced, at_so, is_place}
+use Rattle.own_runs.proofs.LanePlaces.{IsWaiting, LanePlaced, OptionTells, StreamPlaced, at_so, is_place}
 use Rattle.own_runs.proofs.MapKept.{alike}
+use Rattle.own_runs.proofs.MapPositions.{Bears}
 use Rattle.own_runs.proofs.Own.{Drawn, IsOwn, ValueIs, is_a, own_initial, own_key}
 use Rattle.own_runs.proofs.OwnFlows.{FlowOn, KeysOwn, NonceIs}
 use Rattle.own_runs.proofs.OwnOptions.{IsKeyed, IsOf, key_is, options_so, readable_so}
@@ -40,26 +42,27 @@ use Rattle.own_runs.proofs.OwnPackets.{IsLeft, PacketIs, SegmentsKeep, book_hold
 use Rattle.own_runs.proofs.OwnUntold.{base_so, numbered}
 use Rattle.own_runs.proofs.Telling.{others_keep}
 
-module _ (d : Drawn) (limit : Side → ℕ) (few : (s : Side) → limit s < 2 ^ 31) (where_at : ℕ → Side → ℕ → ℕ) where
+module _ (d : Drawn) (limit : Side → ℕ) (few : (s : Side) → limit s < 2 ^ 31) (content : Side → ℕ → ℕ) (where_at : ℕ → Side → ℕ → ℕ) where
   -- the number of place 0 of a side, and what an option tells on a path
   abbrev first_at : Side → ℕ
   first_at s = first_number (own_key d s)
 
   abbrev Well : ℕ → Side → ℕ → OptionValue → Type 0
-  Well path s position = OptionTells (first_at s) (limit s) (where_at path s) position
+  Well path s position = OptionTells (first_at s) (limit s) (content s) (where_at path s) position
 
-  -- a segment of a position, by its number modulo 2^32, whose options tell such
+  -- a segment of a position, by its number modulo 2^32, whose options tell such, and whose payload has the octets of these places
   pub record IsTelling (seen : Seen) : Type 0 where
     pub own : IsOwn d seen
     pub at : ℕ
     pub seq : seen.segment.head.seq ≡ (own_initial d own.path own.from + at) % 2 ^ 32
+    pub bears : (p : ℕ) → p % 2 ^ 32 ≡ at % 2 ^ 32 → Bears (λ q. content own.from (where_at own.path own.from q)) p seen.segment.payload
     pub offers : (p : ℕ) → p % 2 ^ 32 ≡ at % 2 ^ 32 → All (Well own.path own.from p) own.values
 
   abbrev BookPlaced : BookValue → Type 0
   BookPlaced book = (s : Side) → StreamPlaced (limit s) (stream_at s book)
 
   abbrev Laned : ℕ → Side → LaneValue → Type 0
-  Laned path s l = LanePlaced (limit s) (few s) (first_at s) (where_at path s) l
+  Laned path s l = LanePlaced (limit s) (few s) (content s) (first_at s) (where_at path s) l
 
   pub record LanesPlaced (path : ℕ) (lanes : LanesValue) : Type 0 where
     pub opener : Laned path A lanes.opener
@@ -114,9 +117,10 @@ module _ (d : Drawn) (limit : Side → ℕ) (few : (s : Side) → limit s < 2 ^ 
         by (Some key) is = ap first_number is
 
     positions_so : (facts : Facts) (options : List OptionValue) (keys : Keys) (left : Left) → facts.seen ≡ seen → facts.is_opener ≡ is_a facts.side
-        → (at : ℕ) → seen.segment.head.seq ≡ (own_base facts + at) % 2 ^ 32 → KeysOwn d keys → ((p : ℕ) → p % 2 ^ 32 ≡ at % 2 ^ 32 → All (Well own.path facts.side p) options)
-        → LeftPlaced left → LeftPlaced (judged_positions facts options keys left)
-    positions_so facts options keys left sees opens at seq k all h =
+        → (at : ℕ) → seen.segment.head.seq ≡ (own_base facts + at) % 2 ^ 32 → KeysOwn d keys
+        → ((p : ℕ) → p % 2 ^ 32 ≡ at % 2 ^ 32 → Bears (λ q. content facts.side (where_at own.path facts.side q)) p seen.segment.payload)
+        → ((p : ℕ) → p % 2 ^ 32 ≡ at % 2 ^ 32 → All (Well own.path facts.side p) options) → LeftPlaced left → LeftPlaced (judged_positions facts options keys left)
+    positions_so facts options keys left sees opens at seq k bears all h =
         by facts.seen.segment.head.syn (position_of (own_base facts) (own_lane facts left.lanes) facts.seen.segment.head.seq facts.seen.payload_len) refl
       where
         lane : Laned own.path facts.side (own_lane facts left.lanes)
@@ -132,8 +136,9 @@ module _ (d : Drawn) (limit : Side → ℕ) (few : (s : Side) → limit s < 2 ^ 
             let its_lane = own_lane facts left.lanes in
             let gone = (gap_counted facts left).book in
             let it = judged_at facts position options keys (stream_at (peer facts.side) left.book) own_stream its_lane in
-            let placed = at_so (limit facts.side) (few facts.side) (first_at facts.side) (where_at own.path facts.side) facts position options keys
-            (stream_at (peer facts.side) left.book) own_stream its_lane (first_so facts.side keys k) (all position same) (h.book facts.side, lane) in
+            let placed = at_so (limit facts.side) (few facts.side) (content facts.side) (first_at facts.side) (where_at own.path facts.side) facts position options keys
+            (stream_at (peer facts.side) left.book) own_stream its_lane (first_so facts.side keys k) (all position same)
+            (subst (λ (x : Seen). Bears (λ q. content facts.side (where_at own.path facts.side q)) position x.segment.payload) (sym sees) (bears position same)) (h.book facts.side, lane) in
             record {
               book = with_placed facts.side it.stream gone placed.0 (gaps_placed gone.gaps left.book h.book);
               lanes = lanes_placed own.path facts.side facts.is_opener it.lane left.lanes opens placed.1 h.lanes;
@@ -166,7 +171,7 @@ module _ (d : Drawn) (limit : Side → ℕ) (few : (s : Side) → limit s < 2 ^ 
           let wells : (q : ℕ) → q % 2 ^ 32 ≡ p.at % 2 ^ 32 → All (Well own.path own.from q) all.options =
           λ q same. kept_so (Well own.path own.from q) facts own.values first (p.offers q same) (All-nil (Well own.path own.from q)) in
           let behind = positions_so facts all.options all.keys (record left { book = with_stream own.from all.stream left.book }) refl (opens_so d seen own flow f) p.at
-          (seq_so opened e) made.keys wells
+          (seq_so opened e) made.keys p.bears wells
           (record { book = with_placed own.from all.stream left.book (record { top = top; untold = made.untold }) h.book; lanes = h.lanes }) in
           record { keys = made.keys; book = behind.book; lanes = behind.lanes }
 
@@ -192,11 +197,15 @@ module _ (d : Drawn) (limit : Side → ℕ) (few : (s : Side) → limit s < 2 ^ 
         options_are : seen_options keys.checksums seen.segment.options ≡ map Readable own.values
         options_are = ap (λ (c : Bool). seen_options c seen.segment.options) k.checksums ∙ own.options
 
+  new_lane : (path : ℕ) (s : Side) → Laned path s empty_lane
+  new_lane path s =
+      record { placed = λ p. tt; octets = λ p. tt; waiting = All-nil (IsWaiting (limit s) (few s) (content s) (first_at s) (where_at path s)) }
+
   keep : SegmentsKeep d IsTelling BookPlaced LanesPlaced
   keep = record {
     own = λ seen p. p.own;
     new_book = new_placed;
-    new_lanes = λ path. record { opener = λ p. tt; other = λ p. tt };
+    new_lanes = λ path. record { opener = new_lane path A; other = new_lane path B };
     token = λ wrong book h.
         let s = wrong.belongs.opener in
         let was = h s in
