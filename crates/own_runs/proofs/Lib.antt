@@ -52,6 +52,7 @@ mod KeysSaid
 mod KeysSent
 mod KeysShown
 mod KnownKeys
+mod LanePlaces
 mod LateJoins
 mod Learning
 mod MapKept
@@ -88,6 +89,9 @@ mod Passed
 mod PayloadHeld
 mod PayloadsPlaced
 mod Pending
+mod PiecesTold
+mod PlacesKept
+mod PlacesTrace
 mod Placing
 mod PlainSends
 mod Reached
@@ -104,6 +108,7 @@ mod ShownSeen
 mod Speaking
 mod Syns
 mod Telling
+mod TellsPlaces
 mod Ticks
 mod TimeRuns
 mod TokenFlows

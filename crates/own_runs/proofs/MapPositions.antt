@@ -101,7 +101,7 @@ abbrev pub OffersWell : ℕ → ℕ → (ℕ → ℕ) → (ℕ → ℕ) → ℕ 
 OffersWell first limit content where_at position option = IfSome (offer_of first option) (OfferIs first limit content where_at position)
 
 -- the relative number of the position that it means
-relative_so : (at relative : ℕ) → relative < 2 ^ 32 → natural (int_rem_euclid (mapping.position_near at relative) (pos (2 ^ 32))) ≡ relative
+pub relative_so : (at relative : ℕ) → relative < 2 ^ 32 → natural (int_rem_euclid (mapping.position_near at relative) (pos (2 ^ 32))) ≡ relative
 relative_so at relative low = by ((relative + (2 ^ 32 - at % 2 ^ 32)) % 2 ^ 32) refl (ltb ((relative + (2 ^ 32 - at % 2 ^ 32)) % 2 ^ 32) (2 ^ 31))
   where
     by : (n : ℕ) → n ≡ (relative + (2 ^ 32 - at % 2 ^ 32)) % 2 ^ 32 → (b : Bool)
@@ -112,7 +112,7 @@ relative_so at relative low = by ((relative + (2 ^ 32 - at % 2 ^ 32)) % 2 ^ 32) 
         ap natural (int_rem_euclid_is (pos at +ℤ negsuc (2 ^ 32 - suc n)) (pos (2 ^ 32)) (2 ^ 32) 1 (at + n) (omega arith) refl (omega (arith, ints, is)))
         ∙ omega (arith, low, is)
 
-contents_none : (at : ℕ → ℕ) (n p q : ℕ) → n ≡ 0 → contents at p n ≡ contents at q n
+pub contents_none : (at : ℕ → ℕ) (n p q : ℕ) → n ≡ 0 → contents at p n ≡ contents at q n
 contents_none at zero p q none = refl
 contents_none at (suc n) p q none = absurd (omega (arith, none))
 
