@@ -381,11 +381,11 @@ module _ (P : Record → Type 0) (any : (r : Record) (x : Sending) → P r → P
       passed_by B (Some unsent) h = h
 
       -- the other side's octets
-      data : (t : Side) (ds : List Duty) → p.agenda ≡ Duty.Step (StepDuty.Data t) ∷ ds → (s ≡ t) ⊎ (s ≡ peer t)
+      by_data : (t : Side) (ds : List Duty) → p.agenda ≡ Duty.Step (StepDuty.Data t) ∷ ds → (s ≡ t) ⊎ (s ≡ peer t)
           → EndKeeps (end_at s p) (end_at s (settled (answered values (Duty.Step (StepDuty.Data t)) r p).agenda (answered values (Duty.Step (StepDuty.Data t)) r p)))
-      data t ds same (inl own) =
+      by_data t ds same (inl own) =
           other (Duty.Step (StepDuty.Data t)) (subst (λ (u : Side). DutyFits (Duty.Step (StepDuty.Data u)) r p) own (fits ds (same ∙ ap (λ (u : Side). Duty.Step (StepDuty.Data u) ∷ ds) (sym own))))
-      data t ds same (inr peers) =
+      by_data t ds same (inr peers) =
           rest (answered values (Duty.Step (StepDuty.Data t)) r p)
           (subst (λ (u : Side). EndKeeps (end_at u p) (end_at u (answered values (Duty.Step (StepDuty.Data t)) r p))) (sym peers) (passed_by t (first_unsent (end_at t p))))
 
@@ -397,7 +397,7 @@ module _ (P : Record → Type 0) (any : (r : Record) (x : Sending) → P r → P
 
       by : (ds : List Duty) → p.agenda ≡ ds → EndKeeps (end_at s p) (end_at s (settled (answers values ds r p).agenda (answers values ds r p)))
       by [] same = rest p (λ h. h)
-      by (Duty.Step (StepDuty.Data t) ∷ ds) same = data t ds same (either_side s t)
+      by (Duty.Step (StepDuty.Data t) ∷ ds) same = by_data t ds same (either_side s t)
       by (Duty.Step StepDuty.Events ∷ ds) same = other (Duty.Step StepDuty.Events) tt
       by (Duty.Step (StepDuty.Look t) ∷ ds) same = other (Duty.Step (StepDuty.Look t)) tt
       by (Duty.Step (StepDuty.Heard t index) ∷ ds) same = other (Duty.Step (StepDuty.Heard t index)) tt
