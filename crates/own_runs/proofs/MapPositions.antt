@@ -1,6 +1,6 @@
 -- Mappings that give each position its place, and payload that gives each place its octet: what a side's stream and lane are where each of its
 -- segments is such, ends within the stream, and tells right checksums. Then none of them breaks a rule on mappings and what they map.
-use Rattle.std.proofs.Common.{◌≡◌, refl, sym, ap, ◌∙◌, subst, ℕ, ℤ, zero, suc, ltb, ◌⊎◌, inl, inr, ⊎_elim, nat_le, ◌&&◌, ◌+◌, ◌-◌, ◌%◌, ◌^◌, ◌<◌, ◌≤◌, ◌==◌, nat_lt, max, pos, negsuc, not, Bool, true, false, if◌then◌else◌, Option, Some, None, option_map, Result, Ok, Err, List, [], ◌∷◌, length, take, drop, arith}
+use Rattle.std.proofs.Common.{◌≡◌, refl, sym, ap, ◌∙◌, subst, ℕ, ℤ, zero, suc, ltb, ◌⊎◌, inl, inr, ⊎_elim, nat_le, ◌&&◌, ◌+◌, ◌-◌, ◌%◌, ◌^◌, ◌<◌, ◌≤◌, ◌==◌, nat_lt, max, pos, negsuc, not, Bool, true, false, if◌then◌else◌, Option, Some, None, option_map, Result, Ok, Err, List, [], ◌∷◌, length, drop, arith}
 use mir.Val.{sel}
 use Rattle.std.specs.Prelude.{All, IfSome, IsSomeAnd, int_lt, is_some, option_and_then, unwrap_or, get_or, ◌||◌, ◌++◌, ◌+ℤ◌}
 use Rattle.std.specs.List.{slice_get}
@@ -9,7 +9,7 @@ use Rattle.std.specs.Option.{option_or}
 use Rattle.std.proofs.lemmas.Bool.{and_parts, eq-eqb, false≢true, le-ltb, leb-true, lt-ltb, ltb-true, ne_eqb, or_cases, or_left, or_right}
 use Rattle.std.proofs.lemmas.Int.{int_rem_euclid_is, ints}
 use Rattle.std.proofs.lemmas.List.Elements.{All-append, All-cons, All-filter, All-head, All-nil, All-tail}
-use Rattle.std.proofs.lemmas.Option.{get_or_from_slice_get, slice_get-get_or, slice_get_within}
+use Rattle.std.proofs.lemmas.Option.{slice_get-get_or}
 use Rattle.sides.specs.Side.{peer}
 use Rattle.dss_checksum.specs.Checksum.{dss_checksum}
 use Rattle.mptcp_options.specs.Value.{OptionValue, Dss, Fail}

@@ -1,6 +1,6 @@
 -- At every moment of a run, whatever its script does, each piece that a path may still send is the part of its side's file from the place of its mapping
 -- on.
-use Rattle.std.proofs.Common.{◌≡◌, refl, sym, ap, ◌∙◌, subst, ℕ, zero, suc, ◌<◌, ◌≤◌, ◌^◌, ◌⊎◌, inl, inr, ⊎_elim, ◌-◌, Bool, Result, Ok, Err, Option, Some, None, List, [], ◌∷◌, ◌++◌, length, length-append, take, drop, min, arith}
+use Rattle.std.proofs.Common.{◌≡◌, refl, sym, ap, ◌∙◌, subst, ℕ, zero, suc, ◌<◌, ◌≤◌, ◌^◌, ⊎_elim, ◌-◌, Bool, Result, Ok, Err, Option, Some, None, List, [], ◌∷◌, ◌++◌, length, length-append, take, drop, min, arith}
 use Rattle.std.specs.List.{slice_get}
 use Rattle.std.proofs.lemmas.Bool.{cases_lt}
 use Rattle.std.proofs.lemmas.List.{length-drop, length-take}
@@ -12,7 +12,6 @@ use Rattle.actor_desk.specs.declared.ask.Reply.{Reply}
 use Rattle.octet_text.specs.Prefix.{IsPrefix}
 use Rattle.path_agenda.specs.declared.duty.Duty.{Duty}
 use Rattle.path_agenda.specs.declared.duty.StepDuty.{StepDuty}
-use Rattle.path_core.specs.Duties.{ask_for}
 use Rattle.path_core.specs.DssOut.{mapping_of, place_numbered}
 use Rattle.path_core.specs.Emission.{Grant, data_ask, first_unsent, grant_ask, grant_in}
 use Rattle.path_core.specs.Profile.{Profile}
@@ -42,7 +41,6 @@ use Rattle.world_laws.proofs.Rounds.Frame.{first_keeps, takes_keeps}
 use Rattle.world_laws.proofs.Writes.Steps.{begins_lasts}
 use Rattle.world_laws.specs.Actors.{Actor, ActorCrew, member_asks, member_next, member_takes}
 use Rattle.world_laws.specs.Openings.{PathPlan, Start, opened_world, path_begins}
-use Rattle.world_laws.specs.StampedBooks.{answer_to}
 use Rattle.world_laws.specs.Worlds.{Turn, WorldState, after_turn, begins, crew_after, greatest, world_run}
 use Rattle.world_laws.specs.declared.member.Member.TheVariants.{App, Path}
 use Rattle.own_runs.proofs.KeyedPieces.{next_profile}

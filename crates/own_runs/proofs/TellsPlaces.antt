@@ -1,6 +1,6 @@
 -- What each segment of a trace maps and bears, whatever its script does: each finite mapping lies within its side's file, gives its positions the places
 -- that they have at the end of the run, and has the checksum of the octets of these places, and each payload has these octets.
-use Rattle.std.proofs.Common.{◌≡◌, refl, sym, ap, ◌∙◌, subst, ℕ, suc, ◌+◌, ◌-◌, ◌≤◌, ◌<◌, ◌^◌, ◌⊎◌, inl, inr, Bool, true, false, if◌then◌else◌, Option, Some, None, List, [], ◌∷◌, ◌++◌, length, length-append, take, drop, arith}
+use Rattle.std.proofs.Common.{◌≡◌, refl, sym, ap, ◌∙◌, subst, ℕ, suc, ◌+◌, ◌-◌, ◌≤◌, ◌<◌, ◌^◌, ◌⊎◌, inl, inr, Bool, true, false, if◌then◌else◌, Option, Some, None, List, [], ◌++◌, length, length-append, take, drop, arith}
 use Rattle.std.specs.Prelude.{get_or}
 use Rattle.std.specs.Option.{IfSome}
 use Rattle.std.specs.List.{slice_get}
@@ -265,13 +265,17 @@ module _ (start : Start) (turns : List Turn) (size : HasRoom start) (fit : Numbe
         subst (λ (d : Profile). Every (IsPart d s (pick s start.file_a start.file_b)) (end_at s p).tcp.send.records) there.shows.profile
         (always_pieces start (omega (arith, short_a)) (omega (arith, short_b)) turns (suc (suc n)) (walking x) here s)
 
+    first_a : BeginsFirst A p.a there.ab
+    first_a own unclear place len has =
+        let hold = holds.ab.lanes.each n n there.ab (omega arith) there.ab_there in
+        first_at _ n six.control_b.fall.joined p there.ab there.ba refl hold steady there.stands unclear place len has
+
     fine : (s : Side) → EndFine (file_len start) (IsMapped start last n) (Unit {0}) c s (end_at s p) × RecordsCarry (Bearing start last n) c s (end_at s p)
     fine A =
         let hold = holds.ab.lanes.each n n there.ab (omega arith) there.ab_there in
-        let later = grows.ab n there.ab there.ab_there in
-        let first_so = λ own unclear place len has. first_at _ n six.control_b.fall.joined p there.ab there.ba refl hold steady there.stands unclear place len has in (
-          end_so A p.a there.ab there.ba _ there.shows.a hold told.a writes_a.prefix (closed_so start.file_a six.send_a writes_a.whole) later.0 later.1 later.2 first_so (own_pieces A),
-          bears_so A p.a there.ab there.ba _ there.shows.a hold told.a writes_a.prefix (closed_so start.file_a six.send_a writes_a.whole) later.0 later.1 later.2 first_so (own_pieces A),
+        let later = grows.ab n there.ab there.ab_there in (
+          end_so A p.a there.ab there.ba _ there.shows.a hold told.a writes_a.prefix (closed_so start.file_a six.send_a writes_a.whole) later.0 later.1 later.2 first_a (own_pieces A),
+          bears_so A p.a there.ab there.ba _ there.shows.a hold told.a writes_a.prefix (closed_so start.file_a six.send_a writes_a.whole) later.0 later.1 later.2 first_a (own_pieces A),
         )
     fine B =
         let hold = holds.ba.lanes.each n n there.ba (omega arith) there.ba_there in
