@@ -139,18 +139,16 @@ module _ (U : Type 0) where
   free_settles : (ds : List Duty) (q : PathState Carried) → none_weighty ds → Owes (settled ds q)
   free_settles ds q free = inl (settled_free is_weighty rare (with_agenda ds q) free ds q free)
 
+  if_settles : (b : Bool) (d : Duty) (ds : List Duty) (q : PathState Carried) → Owes (with_agenda (d ∷ ds) q) → Owes (settled ds (passed d q)) → Owes (if b then with_agenda (d ∷ ds) q else settled ds (passed d q))
+  if_settles true d ds q stays rest = stays
+  if_settles false d ds q stays rest = rest
+
   led_settles : (ds : List Duty) (q : PathState Carried) → Led ds q → Owes (settled ds q)
   led_settles [] q h = absurd h
-  led_settles (d ∷ ds) q (inl fits) = by (stands d q)
-    where
-      by : (b : Bool) → Owes (if b then with_agenda (d ∷ ds) q else settled ds (passed d q))
-      by true = inr (inl (fits_same d q (with_agenda (d ∷ ds) q) (agenda_same (d ∷ ds) q) fits.0, fits.1))
-      by false = free_settles ds (passed d q) fits.1
-  led_settles (d ∷ ds) q (inr more) = by (stands d q)
-    where
-      by : (b : Bool) → Owes (if b then with_agenda (d ∷ ds) q else settled ds (passed d q))
-      by true = inr (inr (more.0, led_same ds q (with_agenda (d ∷ ds) q) (agenda_same (d ∷ ds) q) more.1))
-      by false = subst (λ (x : PathState Carried). Owes (settled ds x)) (sym (passed_lead d q more.0)) (led_settles ds q more.1)
+  led_settles (d ∷ ds) q (inl fits) = if_settles (stands d q) d ds q (inr (inl (fits_same d q (with_agenda (d ∷ ds) q) (agenda_same (d ∷ ds) q) fits.0, fits.1))) (free_settles ds (passed d q) fits.1)
+  led_settles (d ∷ ds) q (inr more) =
+      if_settles (stands d q) d ds q (inr (inr (more.0, led_same ds q (with_agenda (d ∷ ds) q) (agenda_same (d ∷ ds) q) more.1)))
+      (subst (λ (x : PathState Carried). Owes (settled ds x)) (sym (passed_lead d q more.0)) (led_settles ds q more.1))
 
   pub owes_settles : (ds : List Duty) (q : PathState Carried) → OwesAt ds q → Owes (settled ds q)
   owes_settles ds q (inl free) = free_settles ds q free

@@ -23,7 +23,8 @@ use Rattle.path_core.specs.Duties.{answered, passed, stands}
 use Rattle.path_core.specs.Emission.{Grant, answer_occasion, answer_of, answered_data, answered_grant, data_stands, first_segment, first_unsent, grant_in, resend_occasion, resend_of, unsent_segment}
 use Rattle.path_core.specs.End.{PathEnd, died}
 use Rattle.path_core.specs.Events.{after_line}
-use Rattle.path_core.specs.Fallback.{breaks_by_ack, fell_duties}
+use Rattle.path_core.specs.Deliver.{after_pieces}
+use Rattle.path_core.specs.Fallback.{breaks_by_ack, fell_duties, with_plain_ack}
 use Rattle.path_core.specs.Handover.{handed, having_sent, sent_on}
 use Rattle.path_core.specs.Looking.{duty_sends, segment_sent, send_of, unsent_sends}
 use Rattle.path_core.specs.MpCapable.{syn_ack_of}
@@ -244,19 +245,19 @@ module _ (U T V : Type 0) (X : Side → Type 0) where
   two_goes e false f g x y = y
 
   item_goes : (s : Side) (o : Option Heard) (e : PathEnd) → Ends e (item_passed s o e)
-  item_goes s None e = same_end e _ refl
-  item_goes s (Some (Heard.Mapping fin)) e = two_goes e (counts e) (with_learned e) (with_skipped e) (same_end e _ refl) (same_end e _ refl)
-  item_goes s (Some (Heard.DataFin place)) e = two_goes e (counts e) (with_data_fin place e) e (same_end e _ refl) (same_end e _ refl)
-  item_goes s (Some _) e = same_end e _ refl
+  item_goes s None e = stays e
+  item_goes s (Some (Heard.Mapping fin)) e = two_goes e (counts e) (with_learned e) (with_skipped e) (same_end e (with_learned e) refl) (same_end e (with_skipped e) refl)
+  item_goes s (Some (Heard.DataFin place)) e = two_goes e (counts e) (with_data_fin place e) e (same_end e (with_data_fin place e) refl) (stays e)
+  item_goes s (Some item) e = same_end e (item_passed s (Some item) e) refl
 
   fin_goes : (b : Bool) (e : PathEnd) → Ends e (record e { tcp = (if b then after_passing_fin e.tcp else e.tcp) })
   fin_goes true e = passed_goes U T (parts_of e)
-  fin_goes false e = same_end e _ refl
+  fin_goes false e = stays e
 
   passed_so : (d : Duty) (p : PathState Carried) → PathOpens p → PathOpens (passed d p)
   passed_so (Duty.Step (StepDuty.Heard s index)) p h = put_so s _ p (item_goes s (item_of index (end_at s p)) (end_at s p)) h
-  passed_so (Duty.Step (StepDuty.PlainAck s)) p h = put_so s _ p (same_end (end_at s p) _ refl) h
-  passed_so (Duty.Step (StepDuty.Unmapped s)) p h = put_so s _ p (same_end (end_at s p) _ refl) h
+  passed_so (Duty.Step (StepDuty.PlainAck s)) p h = put_so s (with_plain_ack (end_at s p)) p (same_end (end_at s p) (with_plain_ack (end_at s p)) refl) h
+  passed_so (Duty.Step (StepDuty.Unmapped s)) p h = put_so s (after_pieces (end_at s p)) p (same_end (end_at s p) (after_pieces (end_at s p)) refl) h
   passed_so (Duty.Step _) p h = h
   passed_so (Duty.Ask (AskDuty.CheckFailed s)) p h =
       kept_by s (writes (Duty.Ask (AskDuty.CheckFailed s))) p _ refl refl refl (passes_no_more (Duty.Ask (AskDuty.CheckFailed s)) p) h
@@ -329,12 +330,12 @@ module _ (U T V : Type 0) (X : Side → Type 0) where
     data_so s None stood says = granted_so s (grant_in r) (and_parts (may_finish (end_at s p).tcp.state) _ stood).0
 
     opened_goes : (o : Option KeyPair) (e : PathEnd) → Ends e (opened_by o e)
-    opened_goes None e = same_end e _ refl
+    opened_goes None e = stays e
     opened_goes (Some keys) e = by (is_waiting e.tcp.state) refl
       where
         by : (b : Bool) → is_waiting e.tcp.state ≡ b → Ends e (record e { tcp = (if b then after_begin e.tcp else e.tcp); modes = with_keys keys e.modes })
         by true is = begun_goes U T (parts_of e) is
-        by false is = same_end e _ refl
+        by false is = same_end e (record e { modes = with_keys keys e.modes }) refl
 
     pub join_so : (dead living : List Duty) → PathOpens (join_begun r dead living p)
     join_so dead living =
@@ -346,7 +347,7 @@ module _ (U T V : Type 0) (X : Side → Type 0) where
       where
         by : (b : Bool) → is_listening e.tcp.state ≡ b → Ends e (record e { tcp = (if b then after_syn (unkept None) (syn_of_window e.treated.window) e.tcp else e.tcp); modes = record (with_keys keys e.modes) { peer_nonce = asked.nonce; backup_heard = asked.backup } })
         by true is = answers_goes U T (parts_of e) is (sent is)
-        by false is = same_end e _ refl
+        by false is = same_end e (record e { modes = record (with_keys keys e.modes) { peer_nonce = asked.nonce; backup_heard = asked.backup } }) refl
 
     joined_so : (s : Side) (o : Option KeyPair) (asked : Option JoinSyn) → (is_listening (end_at s p).tcp.state ≡ true → U) → PathOpens (join_taken s o asked r p)
     joined_so s (Some keys) (Some asked) sent = goes_so s _ _ p (joined_goes (end_at s p) keys asked sent) h

@@ -1,5 +1,5 @@
 -- What a copy that arrives, and each other event, makes of how a path opens, and of what is to be done then.
-use Rattle.std.proofs.Common.{◌≡◌, refl, sym, ap, ◌∙◌, subst, ℕ, suc, zero, ◌+◌, ◌&&◌, ◌||◌, ◌==◌, not, nat_lt, inl, inr, ◌⊎◌, ⊎_elim, Bool, true, false, if◌then◌else◌, Option, Some, None, is_none, List, [], ◌∷◌, length}
+use Rattle.std.proofs.Common.{◌≡◌, refl, sym, ap, ◌∙◌, subst, ℕ, suc, zero, ◌+◌, ◌&&◌, ◌||◌, ◌==◌, not, nat_le, nat_lt, inl, inr, ◌⊎◌, ⊎_elim, Bool, true, false, if◌then◌else◌, Option, Some, None, is_none, List, [], ◌∷◌, length}
 use Rattle.std.specs.Option.{IfSome}
 use Rattle.std.proofs.lemmas.Bool.{and_parts, both_ways, false≢true}
 use Rattle.actor_desk.specs.Words.{tail_of}
@@ -31,11 +31,11 @@ use Rattle.sides.specs.Side.{peer}
 use Rattle.sides.specs.declared.side.Side.TheVariants.{A, B}
 use Rattle.sides.specs.declared.side.Side.{Side}
 use Rattle.stream_lanes.specs.Words.{Every}
-use Rattle.subflow_tcp.specs.Judging.{is_syn_alone, meaning_acknowledging, meaning_answer, meaning_answering, meaning_at, meaning_connected, meaning_of, meaning_outside, meaning_placed, meaning_within}
+use Rattle.subflow_tcp.specs.Judging.{is_acceptable, is_repeated_syn, is_syn_alone, meaning_acknowledging, meaning_answer, meaning_answering, meaning_at, meaning_connected, meaning_of, meaning_outside, meaning_placed, meaning_within}
 use Rattle.subflow_tcp.specs.Segments.{Copy}
-use Rattle.subflow_tcp.specs.State.{EndState}
-use Rattle.subflow_tcp.specs.States.{is_closed_to_segments, is_dead}
-use Rattle.subflow_tcp.specs.Taking.{after_arrival}
+use Rattle.subflow_tcp.specs.State.{EndState, is_at_limit}
+use Rattle.subflow_tcp.specs.States.{is_closed_to_segments, is_dead, is_half_open}
+use Rattle.subflow_tcp.specs.Taking.{after_arrival, after_hearing}
 use Rattle.subflow_tcp.specs.declared.handshake.State.{State as EndPhase}
 use Rattle.subflow_tcp.specs.declared.verdicts.Meaning.{Meaning}
 use Rattle.world_laws.proofs.Keys.Held.{in_removed}
@@ -62,34 +62,42 @@ either_wanted false x y first other = other
 module _ (c : Copy) (s : EndState) where
   acknowledging_wanted : (o : Option ℕ) (pos : ℕ) → is_unwanted (meaning_acknowledging o pos s) ≡ false
   acknowledging_wanted None pos = refl
-  acknowledging_wanted (Some n) pos = either_wanted _ Meaning.Ahead _ refl (either_wanted _ Meaning.Unacknowledging (Meaning.Taken pos n) refl refl)
+  acknowledging_wanted (Some n) pos =
+      either_wanted (nat_lt s.send.nxt n) Meaning.Ahead (if is_half_open s.state && n == 0 then Meaning.Unacknowledging else Meaning.Taken pos n) refl
+      (either_wanted (is_half_open s.state && n == 0) Meaning.Unacknowledging (Meaning.Taken pos n) refl refl)
 
   outside_wanted : is_unwanted (meaning_outside c) ≡ false
   outside_wanted = either_wanted c.rst Meaning.Ignored Meaning.Outside refl refl
 
   within_wanted : (pos : ℕ) → is_unwanted (meaning_within pos c s) ≡ false
-  within_wanted pos = either_wanted c.rst _ _ (either_wanted _ Meaning.Kills Meaning.Challenged refl refl) (either_wanted c.syn Meaning.Challenged _ refl (acknowledging_wanted c.acknowledged pos))
+  within_wanted pos =
+      either_wanted c.rst (if pos == s.recv.edge then Meaning.Kills else Meaning.Challenged) (if c.syn then Meaning.Challenged else meaning_acknowledging c.acknowledged pos s)
+      (either_wanted (pos == s.recv.edge) Meaning.Kills Meaning.Challenged refl refl)
+      (either_wanted c.syn Meaning.Challenged (meaning_acknowledging c.acknowledged pos s) refl (acknowledging_wanted c.acknowledged pos))
 
   placed_wanted : (o : Option ℕ) → is_unwanted (meaning_placed o c s) ≡ false
   placed_wanted None = outside_wanted
-  placed_wanted (Some pos) = either_wanted _ (meaning_within pos c s) (meaning_outside c) (within_wanted pos) outside_wanted
+  placed_wanted (Some pos) = either_wanted (is_acceptable s.recv.edge pos c) (meaning_within pos c s) (meaning_outside c) (within_wanted pos) outside_wanted
 
   connected_wanted : is_unwanted (meaning_connected c s) ≡ false
-  connected_wanted = either_wanted _ Meaning.Ignored _ refl (either_wanted _ Meaning.RepeatedSyn (meaning_placed c.position c s) refl (placed_wanted c.position))
+  connected_wanted =
+      either_wanted (is_at_limit s) Meaning.Ignored (if is_repeated_syn c s then Meaning.RepeatedSyn else meaning_placed c.position c s) refl
+      (either_wanted (is_repeated_syn c s) Meaning.RepeatedSyn (meaning_placed c.position c s) refl (placed_wanted c.position))
 
   answer_wanted : (n : ℕ) → is_unwanted (meaning_answer c n) ≡ false
-  answer_wanted n = either_wanted c.rst Meaning.Kills _ refl (either_wanted c.syn (Meaning.Accepts n) Meaning.Ignored refl refl)
+  answer_wanted n = either_wanted c.rst Meaning.Kills (if c.syn then Meaning.Accepts n else Meaning.Ignored) refl (either_wanted c.syn (Meaning.Accepts n) Meaning.Ignored refl refl)
 
   answering_wanted : (o : Option ℕ) → is_unwanted (meaning_answering o c s) ≡ false
   answering_wanted None = refl
-  answering_wanted (Some n) = either_wanted _ (meaning_answer c n) Meaning.Ignored (answer_wanted n) refl
+  answering_wanted (Some n) = either_wanted (nat_lt 0 n && nat_le n s.send.nxt) (meaning_answer c n) Meaning.Ignored (answer_wanted n) refl
 
   unwanted_state : (state : EndPhase) → is_unwanted (meaning_at state c s) ≡ true → is_dead state ≡ true
   unwanted_state EndPhase.Dead is = refl
   unwanted_state EndPhase.Waiting is = absurd (false≢true is)
-  unwanted_state EndPhase.Listen is = absurd (both_ways _ (either_wanted (is_syn_alone c) Meaning.Opens Meaning.Ignored refl refl) is)
-  unwanted_state EndPhase.SynSent is = absurd (both_ways _ (either_wanted _ Meaning.Ignored (meaning_answering c.acknowledged c s) refl (answering_wanted c.acknowledged)) is)
-  unwanted_state _ is = absurd (both_ways _ connected_wanted is)
+  unwanted_state EndPhase.Listen is = absurd (both_ways (is_unwanted (if is_syn_alone c then Meaning.Opens else Meaning.Ignored)) (either_wanted (is_syn_alone c) Meaning.Opens Meaning.Ignored refl refl) is)
+  unwanted_state EndPhase.SynSent is = 
+      absurd (both_ways (is_unwanted (if is_at_limit s then Meaning.Ignored else meaning_answering c.acknowledged c s)) (either_wanted (is_at_limit s) Meaning.Ignored (meaning_answering c.acknowledged c s) refl (answering_wanted c.acknowledged)) is)
+  unwanted_state _ is = absurd (both_ways (is_unwanted (meaning_connected c s)) connected_wanted is)
 
   unwanted_dead : meaning_of c s ≡ Meaning.Unwanted → is_dead s.state ≡ true
   unwanted_dead is = unwanted_state s.state (ap is_unwanted is)
@@ -193,22 +201,22 @@ module _ (U T V : Type 0) (X : Side → Type 0) (carried : Carried) (p : PathSta
     waited_listens v is waited = waited_opens (is_joined p.profile) (heard_by e).rst (items_by s e) (meaning_of (copy_of (heard_by e)) e.tcp) e (ap is_waited is ∙ waited)
 
     meant_owes : (m : Meaning) → Means (copy_of (heard_by e)) e.tcp m → (m ≡ Meaning.Unwanted → is_dead e.tcp.state ≡ true) → Owes U (told_path (Judged.As m))
-    meant_owes Meaning.Ignored means dead = inl refl
-    meant_owes Meaning.Unwanted means dead = inr (inl (put_holds s (λ t. is_dead t.state ≡ true) (after_judged p.profile s p.clock (heard_by e) (Judged.As Meaning.Unwanted) e) [] p (dead refl), refl))
-    meant_owes Meaning.Opens means dead =
+    meant_owes Meaning.Ignored told dead = inl refl
+    meant_owes Meaning.Unwanted told dead = inr (inl (put_holds s (λ t. is_dead t.state ≡ true) (after_judged p.profile s p.clock (heard_by e) (Judged.As Meaning.Unwanted) e) [] p (dead refl), refl))
+    meant_owes Meaning.Opens told dead =
         inr (inr (refl, inr (refl, inl (put_holds s (λ t. is_closed_to_segments t.state ≡ false) (after_judged p.profile s p.clock (heard_by e) (Judged.As Meaning.Opens) e) [] p refl, refl))))
-    meant_owes (Meaning.Accepts n) means dead = inl (accepted_none (is_joined p.profile) s)
-    meant_owes Meaning.RepeatedSyn means dead =
-        inr (inl (put_holds s (λ t. is_closed_to_segments t.state ≡ false) (after_judged p.profile s p.clock (heard_by e) (Judged.As Meaning.RepeatedSyn) e) [] p (past_open e.tcp.state means), refl))
-    meant_owes Meaning.Outside means dead =
-        inr (inl (put_holds s (FitsAt U (Duty.Send (SendDuty.Answer s))) (after_judged p.profile s p.clock (heard_by e) (Judged.As Meaning.Outside) e) [] p (past_open e.tcp.state means, answering_due _ means), refl))
-    meant_owes Meaning.Kills means dead = inl refl
-    meant_owes Meaning.Challenged means dead =
-        inr (inl (put_holds s (FitsAt U (Duty.Send (SendDuty.Answer s))) (after_judged p.profile s p.clock (heard_by e) (Judged.As Meaning.Challenged) e) [] p (past_open e.tcp.state means, answering_due _ means), refl))
-    meant_owes Meaning.Unacknowledging means dead = inl refl
-    meant_owes Meaning.Ahead means dead =
-        inr (inl (put_holds s (FitsAt U (Duty.Send (SendDuty.Answer s))) (after_judged p.profile s p.clock (heard_by e) (Judged.As Meaning.Ahead) e) [] p (past_open e.tcp.state means, answering_due _ means), refl))
-    meant_owes (Meaning.Taken pos n) means dead = inl (came_none s 0 (length (items_by s e)) (payload_came s) refl)
+    meant_owes (Meaning.Accepts n) told dead = inl (accepted_none (is_joined p.profile) s)
+    meant_owes Meaning.RepeatedSyn told dead =
+        inr (inl (put_holds s (λ t. is_closed_to_segments t.state ≡ false) (after_judged p.profile s p.clock (heard_by e) (Judged.As Meaning.RepeatedSyn) e) [] p (past_open e.tcp.state told), refl))
+    meant_owes Meaning.Outside told dead =
+        inr (inl (put_holds s (FitsAt U (Duty.Send (SendDuty.Answer s))) (after_judged p.profile s p.clock (heard_by e) (Judged.As Meaning.Outside) e) [] p (past_open e.tcp.state told, answering_due e.tcp told), refl))
+    meant_owes Meaning.Kills told dead = inl refl
+    meant_owes Meaning.Challenged told dead =
+        inr (inl (put_holds s (FitsAt U (Duty.Send (SendDuty.Answer s))) (after_judged p.profile s p.clock (heard_by e) (Judged.As Meaning.Challenged) e) [] p (past_open e.tcp.state told, answering_due (after_hearing e.tcp) told), refl))
+    meant_owes Meaning.Unacknowledging told dead = inl refl
+    meant_owes Meaning.Ahead told dead =
+        inr (inl (put_holds s (FitsAt U (Duty.Send (SendDuty.Answer s))) (after_judged p.profile s p.clock (heard_by e) (Judged.As Meaning.Ahead) e) [] p (past_open e.tcp.state told, answering_due (after_hearing e.tcp) told), refl))
+    meant_owes (Meaning.Taken pos n) told dead = inl (came_none s 0 (length (items_by s e)) (payload_came s) refl)
 
     judged_owes : (v : Judged) → judged ≡ v → Owes U (told_path v)
     judged_owes (Judged.As m) is =

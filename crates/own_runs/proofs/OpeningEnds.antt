@@ -99,7 +99,7 @@ OneSyn [] = ⊥
 OneSyn (r ∷ []) = is_syn r.kind ≡ true
 OneSyn (r ∷ x ∷ rs) = ⊥
 
-unsent_syn : (now : ℕ) (rs : List Record) → OneSyn rs → OneSyn (first_unsent_sent now rs)
+pub unsent_syn : (now : ℕ) (rs : List Record) → OneSyn rs → OneSyn (first_unsent_sent now rs)
 unsent_syn now [] h = absurd h
 unsent_syn now (r ∷ x ∷ rs) h = absurd h
 unsent_syn now (r ∷ []) h = by (is_unsent r)
@@ -108,7 +108,7 @@ unsent_syn now (r ∷ []) h = by (is_unsent r)
     by true = h
     by false = h
 
-first_syn : (now : ℕ) (rs : List Record) → OneSyn rs → OneSyn (first_sent now rs)
+pub first_syn : (now : ℕ) (rs : List Record) → OneSyn rs → OneSyn (first_sent now rs)
 first_syn now [] h = absurd h
 first_syn now (r ∷ []) h = h
 first_syn now (r ∷ x ∷ rs) h = absurd h
@@ -118,7 +118,7 @@ expired_syn [] h = absurd h
 expired_syn (r ∷ []) h = h
 expired_syn (r ∷ x ∷ rs) h = absurd h
 
-fin_syn : (now : ℕ) (rs : List Record) → OneSyn rs → OneSyn (map (fin_sent now) rs)
+pub fin_syn : (now : ℕ) (rs : List Record) → OneSyn rs → OneSyn (map (fin_sent now) rs)
 fin_syn now [] h = absurd h
 fin_syn now (r ∷ x ∷ rs) h = absurd h
 fin_syn now (r ∷ []) h = by (is_fin r.kind)

@@ -222,28 +222,28 @@ hearing_still s h = record { acks = h.acks; again = h.again; timed = h.timed; sy
 
 pub copy_comes : (m : Meaning) (items : List Heard) (hint : Hint) (now : ℕ) (c : Copy) (octets : List ℕ) (s : EndState) → Means c s m
     → Comes m s (owing_if (owes_by m items) (taking.after_arrival m hint now c (with_payload m octets s)))
-copy_comes (Meaning.Taken pos n) items hint now c octets s means =
+copy_comes (Meaning.Taken pos n) items hint now c octets s told =
     let held : EndState = with_payload (Meaning.Taken pos n) octets s in
-    let past : is_past held.state ≡ true = ap is_past (held_state pos n octets s) ∙ means.0 in
-    met_comes (Meaning.Taken pos n) s _ (past_living s.state means.0) (past_open s.state means.0) tt
+    let past : is_past held.state ≡ true = ap is_past (held_state pos n octets s) ∙ told.0 in
+    met_comes (Meaning.Taken pos n) s _ (past_living s.state told.0) (past_open s.state told.0) tt
     (ap is_connected (owing_state (list_any wants_ack items) (taking.after_taken pos n hint now c held)) ∙ taken_connected pos n hint now c held past)
-copy_comes (Meaning.Accepts n) items hint now c octets s means =
+copy_comes (Meaning.Accepts n) items hint now c octets s told =
     let t : EndState = record (taking.after_hearing (taking.after_payload 1 hint c s)) { state = EndPhase.Established } in
-    met_comes (Meaning.Accepts n) s _ (ap is_dead means.0) (ap is_closed_to_segments means.0) tt (ack_connected n now t)
-copy_comes Meaning.Opens items hint now c octets s means = record {
+    met_comes (Meaning.Accepts n) s _ (ap is_dead told.0) (ap is_closed_to_segments told.0) tt (ack_connected n now t)
+copy_comes Meaning.Opens items hint now c octets s told = record {
   connected = λ is. absurd (false≢true is);
-  passive = λ is. ap is_passive means.0;
-  dead = λ is. absurd (false≢true (sym (ap is_dead means.0) ∙ is));
+  passive = λ is. ap is_passive told.0;
+  dead = λ is. absurd (false≢true (sym (ap is_dead told.0) ∙ is));
   listens = λ is. absurd (false≢true is);
   opened = λ is. inr refl;
   still = λ h. record {
-    acks = λ owed. absurd (false≢true (sym (ap is_connected means.0) ∙ h.acks owed));
+    acks = λ owed. absurd (false≢true (sym (ap is_connected told.0) ∙ h.acks owed));
     again = λ owed. refl;
     timed = λ runs. refl;
-    syns = λ before. h.syns (ap is_before means.0);
+    syns = λ before. h.syns (ap is_before told.0);
   };
 }
-copy_comes Meaning.Kills items hint now c octets s means = record {
+copy_comes Meaning.Kills items hint now c octets s told = record {
   connected = λ is. absurd (false≢true is);
   passive = λ is. absurd (false≢true is);
   dead = λ is. refl;
@@ -251,11 +251,11 @@ copy_comes Meaning.Kills items hint now c octets s means = record {
   opened = λ is. absurd (false≢true (sym is));
   still = λ h. dead_still false _;
 }
-copy_comes Meaning.RepeatedSyn items hint now c octets s means =
+copy_comes Meaning.RepeatedSyn items hint now c octets s told =
     state_comes Meaning.RepeatedSyn s _ refl (λ h. record { acks = h.acks; again = h.again; timed = h.timed; syns = h.syns })
-copy_comes Meaning.Outside items hint now c octets s means = state_comes Meaning.Outside s _ refl (λ h. answering_still s means h)
-copy_comes Meaning.Challenged items hint now c octets s means = state_comes Meaning.Challenged s _ refl (λ h. answering_still (taking.after_hearing s) means (hearing_still s h))
-copy_comes Meaning.Ahead items hint now c octets s means = state_comes Meaning.Ahead s _ refl (λ h. answering_still (taking.after_hearing s) means (hearing_still s h))
-copy_comes Meaning.Unacknowledging items hint now c octets s means = state_comes Meaning.Unacknowledging s _ refl (λ h. hearing_still s h)
-copy_comes Meaning.Ignored items hint now c octets s means = state_comes Meaning.Ignored s _ refl (λ h. h)
-copy_comes Meaning.Unwanted items hint now c octets s means = state_comes Meaning.Unwanted s _ refl (λ h. h)
+copy_comes Meaning.Outside items hint now c octets s told = state_comes Meaning.Outside s _ refl (λ h. answering_still s told h)
+copy_comes Meaning.Challenged items hint now c octets s told = state_comes Meaning.Challenged s _ refl (λ h. answering_still (taking.after_hearing s) told (hearing_still s h))
+copy_comes Meaning.Ahead items hint now c octets s told = state_comes Meaning.Ahead s _ refl (λ h. answering_still (taking.after_hearing s) told (hearing_still s h))
+copy_comes Meaning.Unacknowledging items hint now c octets s told = state_comes Meaning.Unacknowledging s _ refl (λ h. hearing_still s h)
+copy_comes Meaning.Ignored items hint now c octets s told = state_comes Meaning.Ignored s _ refl (λ h. h)
+copy_comes Meaning.Unwanted items hint now c octets s told = state_comes Meaning.Unwanted s _ refl (λ h. h)

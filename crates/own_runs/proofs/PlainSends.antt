@@ -5,7 +5,7 @@ use Rattle.std.specs.List.{find, slice_get}
 use Rattle.std.specs.Option.{IfSome}
 use Rattle.std.proofs.lemmas.Bool.{and_parts, both_ways, false≢true}
 use Rattle.actor_desk.specs.declared.ask.Reply.{Reply}
-use Rattle.path_agenda.specs.Agenda.{leaves}
+use Rattle.path_agenda.specs.Agenda.{leaves, resets}
 use Rattle.path_agenda.specs.Words.{first_of, replaced}
 use Rattle.path_agenda.specs.declared.duty.AskDuty.{AskDuty}
 use Rattle.path_agenda.specs.declared.duty.Duty.{Duty}
@@ -20,12 +20,11 @@ use Rattle.path_core.specs.Duties.{answered, stands}
 use Rattle.path_core.specs.Emission.{ack_resent, answer_said, data_stands, first_record, first_unsent, outgoing_or, resend_said}
 use Rattle.path_core.specs.End.{PathEnd}
 use Rattle.path_core.specs.Fallback.{breaks_by_ack}
-use Rattle.path_core.specs.Looking.{broken_by, duty_sends, first_sends, heard_sends, segment_sent, to_send, unsent_sends}
-use Rattle.path_core.specs.declared.said.SegmentKind.{SegmentKind}
+use Rattle.path_core.specs.Looking.{broken_by, duty_sends, first_sends, heard_sends, segment_sent, unsent_sends}
 use Rattle.path_core.specs.MpJoin.{is_listening}
 use Rattle.path_core.specs.OptionsOut.{ack_said, carried_said, noted_said, record_or_ack, syn_ack_said}
 use Rattle.path_core.specs.Profile.{Profile}
-use Rattle.path_core.specs.Standing.{is_connected, may_note}
+use Rattle.path_core.specs.Standing.{answered_ack_out, is_connected, may_note}
 use Rattle.path_core.specs.State.{PathState, end_at, goes_on}
 use Rattle.path_core.specs.Treating.{answered_item, item_of}
 use Rattle.path_core.specs.Turns.{FirstStands}
@@ -146,12 +145,12 @@ module _ (U T V : Type 0) (X : Side → Type 0) (p : PathState Carried) (h : Pat
   rests : (s : Side) → IsReset (outgoing_or (end_at s p).treated.answer (reset_segment (end_at s p).tcp))
   rests s = resets_as (end_at s p).treated.answer (end_at s p).tcp (answer_at U T V X s p h)
 
+  unless_sends : (b : Bool) (o : Option ToSend) → IfSome o (SendsWell p) → IfSome (if b then None else o) (SendsWell p)
+  unless_sends true o is = tt
+  unless_sends false o is = is
+
   break_sends : (s : Side) (reason : ℕ) → IfSome (broken_by s reason p) (SendsWell p)
-  break_sends s reason = by (end_at s p).treated.asked
-    where
-      by : (b : Bool) → IfSome (if b then None else to_send s (SegmentKind.Reset (Some reason))) (SendsWell p)
-      by true = tt
-      by false = sends_reset p _ (refl, refl)
+  break_sends s reason = unless_sends (end_at s p).treated.asked _ (sends_reset p _ (refl, refl))
 
   if_sends : (b : Bool) (o : Option ToSend) → IfSome o (SendsWell p) → IfSome (if b then o else None) (SendsWell p)
   if_sends true o is = is
@@ -227,12 +226,13 @@ module _ (U T V : Type 0) (X : Side → Type 0) (p : PathState Carried) (h : Pat
   never_falls : (q : PathState Carried) (t : ToSend) → (segment_sent p t).rst ≡ false → FallsSo p q t
   never_falls q t none = record { falls = λ is. absurd (both_ways (segment_sent p t).rst none is) }
 
+  unless_falls : (b : Bool) (o : Option ToSend) (q x : PathState Carried) → IfSome o (FallsSo p x) → IfSome (if b then None else o) (FallsSo p (if b then q else x))
+  unless_falls true o q x is = tt
+  unless_falls false o q x is = is
+
   break_falls : (r : Reply) (s : Side) (reason : ℕ) → IfSome (broken_by s reason p) (FallsSo p (answered_break values s reason r p))
-  break_falls r s reason = by (end_at s p).treated.asked _
-    where
-      by : (b : Bool) (q : PathState Carried) → IfSome (if b then None else to_send s (SegmentKind.Reset (Some reason))) (FallsSo p (if b then q else reset_on values s (Some reason) (leaves s) p))
-      by true q = tt
-      by false q = record { falls = λ is. inl (reset_dies s (Some reason) (leaves s)) }
+  break_falls r s reason =
+      unless_falls (end_at s p).treated.asked _ (answered_ack_out s r (resets s reason) p) (reset_on values s (Some reason) (leaves s) p) (record { falls = λ is. inl (reset_dies s (Some reason) (leaves s)) })
 
   if_falls : (b : Bool) (o : Option ToSend) (q x : PathState Carried) → IfSome o (FallsSo p q) → IfSome (if b then o else None) (FallsSo p (if b then q else x))
   if_falls true o q x is = is
