@@ -203,8 +203,11 @@ module _ (whole_timed : WholeTimed) where
         ap (λ (m : Result (List Captured) ℕ). m >>= λ packets. Ok (judged_packets at true nothing_judged 1 packets))
         (traces_are side (length start.paths) trace (omega (arith, few)) (paths_are start timed.0 fit trace _ _ _ _ _ _ _ timed.1) room)
 
-    stood : Stands start timed.0 fit trace all_judged
-    stood = all_stands start timed.0 fit at trace timed.1 room
+    all_stood : Stands start timed.0 fit trace all_judged
+    all_stood = all_stands start timed.0 fit at trace timed.1 room
+
+    pub stood : (judged : JudgedValue) → judged_capture at true (capture_of start turns side) ≡ Ok judged → Stands start timed.0 fit trace judged
+    stood judged read = subst (λ (j : JudgedValue). Stands start timed.0 fit trace j) (same_judged all_judged judged (sym all_read ∙ read)) all_stood
 
     module _ (connection : ℕ) (s : Side) (stream : StreamValue) (there : stream_in all_judged connection s ≡ Some stream) where
       fine : StreamFine (file_len start s) (few start timed.0 fit s) (content start s) stream
@@ -212,7 +215,7 @@ module _ (whole_timed : WholeTimed) where
         where
           by : (o : Option BookValue) → slice_get all_judged.books connection ≡ o → option_map (stream_at s) o ≡ Some stream → StreamFine (file_len start s) (few start timed.0 fit s) (content start s) stream
           by None e there = cc
-          by (Some book) e there = subst (StreamFine (file_len start s) (few start timed.0 fit s) (content start s)) (some_same (stream_at s book) stream there) (stood.stands.hold.books connection book e s).fine
+          by (Some book) e there = subst (StreamFine (file_len start s) (few start timed.0 fit s) (content start s)) (some_same (stream_at s book) stream there) (all_stood.stands.hold.books connection book e s).fine
 
       prefix : (octets : List ℕ) → IsSent stream.octet octets → IsPrefix octets (file_of start s)
       prefix octets sent = all_same octets (file_of start s) (λ i below. by i (stream.octet i) (fine.octets i)
@@ -250,13 +253,13 @@ module _ (whole_timed : WholeTimed) where
       told = delivered_ends start turns plain whole fit delivered s
 
       file_shown : ShowsTheFile start s all_judged
-      file_shown = by (slice_get all_judged.books 0) refl (stood.stands.ended s told)
+      file_shown = by (slice_get all_judged.books 0) refl (all_stood.stands.ended s told)
         where
           by : (o : Option BookValue) → slice_get all_judged.books 0 ≡ o → is_some o ≡ true → ShowsTheFile start s all_judged
           by None e some = absurd (false≢true some)
           by (Some book) e some =
               let there : stream_in all_judged 0 s ≡ Some (stream_at s book) = ap (option_map (stream_at s)) e in
-              let good = stood.stands.hold.books 0 book e s in
+              let good = all_stood.stands.hold.books 0 book e s in
               let fin = which_some (stream_at s book).fin (good.fin told) in
               record {
                 stream = stream_at s book;
