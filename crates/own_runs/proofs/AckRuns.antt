@@ -1,11 +1,12 @@
 -- In the capture of a whole run whose segments come in time each position has one place, each place the octet of its side's file, each checksum is
 -- right, and no Data ACK is of more than was seen.
-use Rattle.std.proofs.Common.{◌≡◌, refl, sym, ap, ◌∙◌, subst, ℕ, zero, suc, ◌⊎◌, ◌+◌, ◌-◌, ◌<◌, ◌≤◌, true, Option, Some, None, option_map, Ok, Result, inl, inr, ⊎_elim, List, [], ◌∷◌, ◌++◌, length, length-append, append-nil, append_assoc, map, drop, arith}
+use Rattle.std.proofs.Common.{◌≡◌, refl, sym, ap, ◌∙◌, subst, ℕ, zero, suc, ◌⊎◌, ◌+◌, ◌-◌, ◌<◌, ◌≤◌, true, false, Option, Some, None, option_map, is_some, Ok, Result, inl, inr, ⊎_elim, List, [], ◌∷◌, ◌++◌, length, length-append, append-nil, append_assoc, map, take, drop, arith}
 use Rattle.std.specs.Prelude.{All, IfSome, get_or}
 use Rattle.std.specs.List.{slice_get}
 use Rattle.std.proofs.lemmas.List.{length-drop, length-take}
 use Rattle.std.proofs.lemmas.List.Elements.{All-cons, All-head, All-nil, All-tail}
-use Rattle.std.proofs.lemmas.Option.{slice_get_within}
+use Rattle.std.proofs.lemmas.Bool.{false≢true}
+use Rattle.std.proofs.lemmas.Option.{slice_get-get_or, slice_get_within}
 use Rattle.capture_reader.specs.Captured.{Captured}
 use Rattle.capture_reader.specs.Seen.{Seen, segment_in_packet}
 use Rattle.capture_reader.specs.Steps.{◌>>=◌}
@@ -17,6 +18,7 @@ use Rattle.judge_rules.specs.declared.acks.ToldPlace.{ToldPlace}
 use Rattle.judge_rules.specs.declared.finding.Rule.{Rule}
 use Rattle.link_trace.specs.declared.sent.Sent.{Sent}
 use Rattle.octet_text.specs.Prefix.{IsPrefix}
+use Rattle.path_core.specs.Octets.{octets}
 use Rattle.rule_book.specs.Judged.{judged, nothing_judged}
 use Rattle.rule_book.specs.State.{BookValue, JudgedValue, stream_at}
 use Rattle.run_trace.specs.Trace.{trace_of}
@@ -29,8 +31,10 @@ use Rattle.stream_lanes.specs.Words.{Has}
 use Rattle.world_laws.specs.NeverFalls.{IsWhole}
 use Rattle.world_laws.specs.Openings.{Start, opened_world}
 use Rattle.world_laws.specs.Promises.{IsPlain, NumbersFit}
-use Rattle.world_laws.specs.Worlds.{Turn}
-use Rattle.own_runs.specs.Runs.{DataFinsEndTheFiles, NoWholeRunBreaks, StreamsBeginTheFiles, WholeStreamsAreTheFiles, capture_of, file_of}
+use Rattle.world_laws.specs.Outcomes.{outcome_of}
+use Rattle.world_laws.specs.Worlds.{Turn, world_run}
+use Rattle.world_laws.specs.declared.outcome.Outcome.TheVariants.{Delivered}
+use Rattle.own_runs.specs.Runs.{DataFinsEndTheFiles, DeliveredRunsShowTheFiles, NoWholeRunBreaks, SeenOctetsAreTheFiles, ShowsTheFile, StreamsBeginTheFiles, WholeStreamsAreTheFiles, capture_of, file_of}
 use Rattle.own_runs.specs.Fitting.{RunFits}
 use Rattle.own_runs.specs.Traces.{FitsCapture, packet_for}
 use Rattle.own_runs.proofs.AckTrace.{IsKnown, StandsAt, narrowed, raised, stands_next}
@@ -44,8 +48,9 @@ use Rattle.own_runs.proofs.MapPositions.{StreamFine, is_mapping}
 use Rattle.own_runs.proofs.MapTrace.{all_same, few}
 use Rattle.own_runs.proofs.Moments.{IsSpoken}
 use Rattle.own_runs.proofs.OneConnection.{nothing_one}
+use Rattle.own_runs.proofs.OpenFlows.{which_some}
 use Rattle.own_runs.proofs.OwnTrace.{found, seen_of}
-use Rattle.own_runs.proofs.ShownAcks.{IsShown}
+use Rattle.own_runs.proofs.ShownAcks.{IsShown, delivered_ends}
 use Rattle.own_runs.proofs.TokenState.{nothing_holds}
 use Rattle.own_runs.proofs.Traces.{traces_are}
 use Rattle.own_runs.proofs.Values.{drawn}
@@ -167,41 +172,50 @@ all_of_it octets file begins same =
     nothing [] none = refl
     nothing (x ∷ xs) none = absurd (omega (arith, none))
 
--- each segment of a whole run comes in time
+-- by its last lanes each segment of a whole run comes in time, and once it is delivered all of both files was shown
 abbrev pub WholeTimed : Type 0
 WholeTimed = (start : Start) (turns : List Turn) → IsPlain start → IsWhole start → (fit : NumbersFit start) → RunFits start turns
     → (last : Duo) × AllTimed start last fit (λ n t. 0) [] (λ n. ⊥) (λ n. ⊥) (λ n. ⊥) ⊥ (λ n t. ⊥) (trace_of turns (opened_world start))
+    × (outcome_of (world_run octets turns (opened_world start)).crew ≡ Delivered → (s : Side) (place : ℕ) → place < length (file_of start s)
+    → Has (IsShown start last s place) (trace_of turns (opened_world start)))
 
 module _ (whole_timed : WholeTimed) where
   module _ (start : Start) (turns : List Turn) (plain : IsPlain start) (whole : IsWhole start) (fit : NumbersFit start)
       (run : RunFits start turns)
-      (side : Side) (at : Option Side) (judged : JudgedValue) (read : judged_capture at true (capture_of start turns side) ≡ Ok judged) where
+      (side : Side) (at : Option Side) where
     abbrev trace : List Sent
     trace = trace_of turns (opened_world start)
 
-    pub timed : (last : Duo) × AllTimed start last fit (λ n t. 0) [] (λ n. ⊥) (λ n. ⊥) (λ n. ⊥) ⊥ (λ n t. ⊥) trace
+    abbrev timed : (last : Duo) × AllTimed start last fit (λ n t. 0) [] (λ n. ⊥) (λ n. ⊥) (λ n. ⊥) ⊥ (λ n t. ⊥) trace
+        × (outcome_of (world_run octets turns (opened_world start)).crew ≡ Delivered → (s : Side) (place : ℕ) → place < length (file_of start s) → Has (IsShown start last s place) trace)
     timed = whole_timed start turns plain whole fit run
 
     room : All FitsCapture trace
     room = traces_fit start turns plain.size fit run
 
-    same : judged_packets at true nothing_judged 1 (map packet_for trace) ≡ judged
-    same =
+    -- what is judged of its capture
+    abbrev all_judged : JudgedValue
+    all_judged = judged_packets at true nothing_judged 1 (map packet_for trace)
+
+    all_read : judged_capture at true (capture_of start turns side) ≡ Ok all_judged
+    all_read =
         let few = fit.paths in
-        let all = traces_are side (length start.paths) trace (omega (arith, few)) (paths_are start timed.0 fit trace _ _ _ _ _ _ _ timed.1) room in
-        same_judged (judged_packets at true nothing_judged 1 (map packet_for trace)) judged
-        (sym (ap (λ (m : Result (List Captured) ℕ). m >>= λ packets. Ok (judged_packets at true nothing_judged 1 packets)) all) ∙ read)
+        ap (λ (m : Result (List Captured) ℕ). m >>= λ packets. Ok (judged_packets at true nothing_judged 1 packets))
+        (traces_are side (length start.paths) trace (omega (arith, few)) (paths_are start timed.0 fit trace _ _ _ _ _ _ _ timed.1) room)
 
-    pub stood : Stands start timed.0 fit trace judged
-    stood = subst (λ (j : JudgedValue). Stands start timed.0 fit trace j) same (all_stands start timed.0 fit at trace timed.1 room)
+    all_stood : Stands start timed.0 fit trace all_judged
+    all_stood = all_stands start timed.0 fit at trace timed.1 room
 
-    module _ (connection : ℕ) (s : Side) (stream : StreamValue) (there : stream_in judged connection s ≡ Some stream) where
+    pub stood : (judged : JudgedValue) → judged_capture at true (capture_of start turns side) ≡ Ok judged → Stands start timed.0 fit trace judged
+    stood judged read = subst (λ (j : JudgedValue). Stands start timed.0 fit trace j) (same_judged all_judged judged (sym all_read ∙ read)) all_stood
+
+    module _ (connection : ℕ) (s : Side) (stream : StreamValue) (there : stream_in all_judged connection s ≡ Some stream) where
       fine : StreamFine (file_len start s) (few start timed.0 fit s) (content start s) stream
-      fine = by (slice_get judged.books connection) refl there
+      fine = by (slice_get all_judged.books connection) refl there
         where
-          by : (o : Option BookValue) → slice_get judged.books connection ≡ o → option_map (stream_at s) o ≡ Some stream → StreamFine (file_len start s) (few start timed.0 fit s) (content start s) stream
+          by : (o : Option BookValue) → slice_get all_judged.books connection ≡ o → option_map (stream_at s) o ≡ Some stream → StreamFine (file_len start s) (few start timed.0 fit s) (content start s) stream
           by None e there = cc
-          by (Some book) e there = subst (StreamFine (file_len start s) (few start timed.0 fit s) (content start s)) (some_same (stream_at s book) stream there) (stood.stands.hold.books connection book e s).fine
+          by (Some book) e there = subst (StreamFine (file_len start s) (few start timed.0 fit s) (content start s)) (some_same (stream_at s book) stream there) (all_stood.stands.hold.books connection book e s).fine
 
       prefix : (octets : List ℕ) → IsSent stream.octet octets → IsPrefix octets (file_of start s)
       prefix octets sent = all_same octets (file_of start s) (λ i below. by i (stream.octet i) (fine.octets i)
@@ -215,20 +229,78 @@ module _ (whole_timed : WholeTimed) where
           by i None is e = cc
           by i (Some o) is e = (is.0, sym (some_is e) ∙ is.1)
 
+      seen_is : (place : ℕ) → stream.seen place ≡ true
+          → (place < length (file_of start s)) × (option_map (λ (o : Octet). o.octet) (stream.octet place) ≡ slice_get (file_of start s) place)
+      seen_is place seen = by (stream.octet place) (fine.octets place) (fine.there place seen)
+        where
+          by : (o : Option Octet) → IfSome o (λ o. (place < length (file_of start s)) × (o.octet ≡ get_or (file_of start s) place 0)) → is_some o ≡ true
+              → (place < length (file_of start s)) × (option_map (λ (o : Octet). o.octet) o ≡ slice_get (file_of start s) place)
+          by None is some = absurd (false≢true some)
+          by (Some o) is some = (is.0, ap (λ (x : ℕ). Some x) is.1 ∙ sym (slice_get-get_or (file_of start s) place 0 is.0))
+
       end_is : (fin : ToldPlace) → stream.fin ≡ Some fin → fin.place ≡ file_len start s
       end_is fin is = subst (λ (o : Option ToldPlace). IfSome o (λ told. told.place ≡ file_len start s)) is fine.fin
 
+    -- of what is judged
+    judged_so : (judged : JudgedValue) → judged_capture at true (capture_of start turns side) ≡ Ok judged → (connection : ℕ) (s : Side) (stream : StreamValue)
+        → stream_in judged connection s ≡ Some stream → stream_in all_judged connection s ≡ Some stream
+    judged_so judged read connection s stream there =
+        ap (λ (j : JudgedValue). stream_in j connection s) (same_judged all_judged judged (sym all_read ∙ read)) ∙ there
+
+    -- once it is delivered
+    module _ (delivered : outcome_of (world_run octets turns (opened_world start)).crew ≡ Delivered) (s : Side) where
+      told : Has (TellsEnd start s) trace
+      told = delivered_ends start turns plain whole fit delivered s
+
+      file_shown : ShowsTheFile start s all_judged
+      file_shown = by (slice_get all_judged.books 0) refl (all_stood.stands.ended s told)
+        where
+          by : (o : Option BookValue) → slice_get all_judged.books 0 ≡ o → is_some o ≡ true → ShowsTheFile start s all_judged
+          by None e some = absurd (false≢true some)
+          by (Some book) e some =
+              let there : stream_in all_judged 0 s ≡ Some (stream_at s book) = ap (option_map (stream_at s)) e in
+              let good = all_stood.stands.hold.books 0 book e s in
+              let fin = which_some (stream_at s book).fin (good.fin told) in
+              record {
+                stream = stream_at s book;
+                there = there;
+                whole = record {
+                  held = λ i below.
+                      ap (λ (k : ℕ). option_map (λ (o : Octet). o.octet) ((stream_at s book).octet k)) (let same : 0 + i ≡ i = omega arith in same)
+                      ∙ (seen_is 0 s (stream_at s book) there i (good.seen i (timed.2 delivered s i below))).1 ∙ slice_get-get_or (file_of start s) i 0 below;
+                  ends = none ((stream_at s book).octet (length (file_of start s))) ((fine 0 s (stream_at s book) there).octets (length (file_of start s)));
+                };
+                fin = fin.0;
+                ended = fin.1;
+                behind = end_is 0 s (stream_at s book) there fin.0 fin.1;
+              }
+            where
+              none : (o : Option Octet) → IfSome o (λ o. (length (file_of start s) < length (file_of start s)) × (o.octet ≡ content start s (length (file_of start s)))) → o ≡ None
+              none None is = refl
+              none (Some o) is = absurd (let below = is.0 in omega (arith, below))
+
   pub no_whole_run_breaks : (r : Rule) → is_mapping r ≡ true → NoWholeRunBreaks r
   no_whole_run_breaks r is start turns plain whole fit run side at judged read connection s stream there =
-      (fine start turns plain whole fit run side at judged read connection s stream there).untold r is
+      (fine start turns plain whole fit run side at connection s stream (judged_so start turns plain whole fit run side at judged read connection s stream there)).untold r is
 
   pub streams_are : StreamsBeginTheFiles
-  streams_are start turns plain whole fit run side at judged read connection s stream there = prefix start turns plain whole fit run side at judged read connection s stream there
+  streams_are start turns plain whole fit run side at judged read connection s stream there =
+      prefix start turns plain whole fit run side at connection s stream (judged_so start turns plain whole fit run side at judged read connection s stream there)
+
+  pub seen_are : SeenOctetsAreTheFiles
+  seen_are start turns plain whole fit run side at judged read connection s stream there =
+      seen_is start turns plain whole fit run side at connection s stream (judged_so start turns plain whole fit run side at judged read connection s stream there)
 
   pub ends_are : DataFinsEndTheFiles
-  ends_are start turns plain whole fit run side at judged read connection s stream there = end_is start turns plain whole fit run side at judged read connection s stream there
+  ends_are start turns plain whole fit run side at judged read connection s stream there =
+      end_is start turns plain whole fit run side at connection s stream (judged_so start turns plain whole fit run side at judged read connection s stream there)
 
   pub whole_are : WholeStreamsAreTheFiles
   whole_are start turns plain whole fit run side at judged read connection s stream there fin is octets sent same =
-      all_of_it octets (file_of start s) (prefix start turns plain whole fit run side at judged read connection s stream there octets sent)
-      (same ∙ end_is start turns plain whole fit run side at judged read connection s stream there fin is)
+      let stands = judged_so start turns plain whole fit run side at judged read connection s stream there in
+      all_of_it octets (file_of start s) (prefix start turns plain whole fit run side at connection s stream stands octets sent)
+      (same ∙ end_is start turns plain whole fit run side at connection s stream stands fin is)
+
+  pub files_are : DeliveredRunsShowTheFiles
+  files_are start turns plain whole fit run delivered side at =
+      (all_judged start turns plain whole fit run side at, all_read start turns plain whole fit run side at, file_shown start turns plain whole fit run side at delivered)

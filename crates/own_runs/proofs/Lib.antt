@@ -52,6 +52,7 @@ mod KeysSaid
 mod KeysSent
 mod KeysShown
 mod KnownKeys
+mod LanePlaces
 mod LateJoins
 mod Learning
 mod MapKept
@@ -85,8 +86,12 @@ mod OwnTrace
 mod OwnUntold
 mod Packets
 mod Passed
+mod PayloadHeld
 mod PayloadsPlaced
 mod Pending
+mod PiecesTold
+mod PlacesKept
+mod PlacesTrace
 mod Placing
 mod PlainSends
 mod Reached
@@ -103,6 +108,7 @@ mod ShownSeen
 mod Speaking
 mod Syns
 mod Telling
+mod TellsPlaces
 mod Ticks
 mod TimeRuns
 mod TokenFlows

@@ -48,7 +48,7 @@ use Rattle.own_runs.proofs.OwnUntold.{base_so, numbered}
 use Rattle.own_runs.proofs.Telling.{others_keep}
 
 -- positions with one number
-alike : (base seq p at : ℕ) → (base + p) % 2 ^ 32 ≡ seq % 2 ^ 32 → seq ≡ (base + at) % 2 ^ 32 → p % 2 ^ 32 ≡ at % 2 ^ 32
+pub alike : (base seq p at : ℕ) → (base + p) % 2 ^ 32 ≡ seq % 2 ^ 32 → seq ≡ (base + at) % 2 ^ 32 → p % 2 ^ 32 ≡ at % 2 ^ 32
 alike base seq p at is same = omega (arith, is, same)
 
 module _ (d : Drawn) (limit : Side → ℕ) (few : (s : Side) → limit s < 2 ^ 31) (content : Side → ℕ → ℕ) (where_at : ℕ → Side → ℕ → ℕ) where
@@ -60,7 +60,7 @@ module _ (d : Drawn) (limit : Side → ℕ) (few : (s : Side) → limit s < 2 ^ 
   Well path s position = OffersWell (first_at s) (limit s) (content s) (where_at path s) position
 
   -- A segment of a position, by its number modulo 2^32: its mappings end within its side's stream, give each position its place, and tell right
-  -- checksums; and its payload has the octets of these places.
+  -- checksums; and its payload has the octets of these places, all of them held.
   pub record IsFine (seen : Seen) : Type 0 where
     pub own : IsOwn d seen
     pub at : ℕ
@@ -68,6 +68,7 @@ module _ (d : Drawn) (limit : Side → ℕ) (few : (s : Side) → limit s < 2 ^ 
     pub bears : (p : ℕ) → p % 2 ^ 32 ≡ at % 2 ^ 32 → Bears (λ q. content own.from (where_at own.path own.from q)) p seen.segment.payload
     pub offers : (p : ℕ) → p % 2 ^ 32 ≡ at % 2 ^ 32 → All (Well own.path own.from p) own.values
     pub calm : All TellsNoFail own.values
+    pub whole : seen.payload_len ≡ length seen.segment.payload
     -- an option maps each of its octets
     pub maps : (p : ℕ) → p % 2 ^ 32 ≡ at % 2 ^ 32 → (j : ℕ) → j < length seen.segment.payload → IsCovered (first_at own.from) p (p + j) own.values
 
@@ -144,7 +145,7 @@ module _ (d : Drawn) (limit : Side → ℕ) (few : (s : Side) → limit s < 2 ^ 
     raised : (path : ℕ) (s : Side) (l : LaneValue) (high more : ℕ) → high ≤ more → LaneFine (limit s) (few s) (content s) (first_at s) (where_at path s) (most path s) high l
         → LaneFine (limit s) (few s) (content s) (first_at s) (where_at path s) (most path s) more l
     raised path s l high more up h =
-        record { line = h.line; placed = h.placed; octets = h.octets; waiting = h.waiting; acked = h.acked; top = (let low = h.top in omega (arith, low, up)) }
+        record { line = h.line; placed = h.placed; octets = h.octets; there = h.there; waiting = h.waiting; acked = h.acked; top = (let low = h.top in omega (arith, low, up)) }
 
     -- what a stream is beside the rules that were told
     record Fields (s : Side) (stream : StreamValue) : Type 0 where
@@ -153,11 +154,12 @@ module _ (d : Drawn) (limit : Side → ℕ) (few : (s : Side) → limit s < 2 ^ 
       top : stream.top ≤ limit s
       octets : (q : ℕ) → IfSome (stream.octet q) (λ o. (q < limit s) × (o.octet ≡ content s q))
       below : (q : ℕ) → stream.seen q ≡ true → q < limit s
+      there : (q : ℕ) → stream.seen q ≡ true → is_some (stream.octet q) ≡ true
 
     fields_keep : (s : Side) → TellingKeeps (Fields s)
     fields_keep s = record {
-      tells = λ r packet fault stream h. record { infinite = h.infinite; fin = h.fin; top = h.top; octets = h.octets; below = h.below };
-      counts = λ stream keys joins mappings sums data_acks h. record { infinite = h.infinite; fin = h.fin; top = h.top; octets = h.octets; below = h.below };
+      tells = λ r packet fault stream h. record { infinite = h.infinite; fin = h.fin; top = h.top; octets = h.octets; below = h.below; there = h.there };
+      counts = λ stream keys joins mappings sums data_acks h. record { infinite = h.infinite; fin = h.fin; top = h.top; octets = h.octets; below = h.below; there = h.there };
     }
 
     abbrev Leaves : ℕ → Told → Type 0
@@ -219,8 +221,8 @@ module _ (d : Drawn) (limit : Side → ℕ) (few : (s : Side) → limit s < 2 ^ 
           → (at : ℕ) → seen.segment.head.seq ≡ (own_base facts + at) % 2 ^ 32 → KeysOwn d keys
           → ((p : ℕ) → p % 2 ^ 32 ≡ at % 2 ^ 32 → Bears (λ q. content facts.side (where_at own.path facts.side q)) p seen.segment.payload)
           → ((p : ℕ) → p % 2 ^ 32 ≡ at % 2 ^ 32 → All (Well own.path facts.side p) options) → All TellsNoFail options → All (AckSays own.path facts.side) options
-          → (Straight own.path facts.side → at + seen.payload_len < 2 ^ 31) → LeftGood left → LeftGood (judged_positions facts options keys left)
-      positions_so facts options keys left sees opens at seq k bears all calm acks low h =
+          → seen.payload_len ≡ length seen.segment.payload → (Straight own.path facts.side → at + seen.payload_len < 2 ^ 31) → LeftGood left → LeftGood (judged_positions facts options keys left)
+      positions_so facts options keys left sees opens at seq k bears all calm acks whole low h =
           by facts.seen.segment.head.syn (position_of (own_base facts) (own_lane facts left.lanes) facts.seen.segment.head.seq facts.seen.payload_len) refl
         where
           lane : Laned own.path facts.side (own_lane facts left.lanes)
@@ -256,7 +258,8 @@ module _ (d : Drawn) (limit : Side → ℕ) (few : (s : Side) → limit s < 2 ^ 
               let high = max lane.0 (payload_at facts position).to in
               let fine = at_so (limit facts.side) (few facts.side) (content facts.side) (first_at facts.side) (where_at own.path facts.side) (most own.path facts.side) high facts position options keys
               peers own_stream its_lane (first_so facts.side keys k) (all position same) calm (acks_at facts.side high keys peers options k (h.book (peer facts.side)) acks)
-              (subst (λ (x : Seen). Bears (λ q. content facts.side (where_at own.path facts.side q)) position x.segment.payload) (sym sees) (bears position same)) (omega arith)
+              (subst (λ (x : Seen). Bears (λ q. content facts.side (where_at own.path facts.side q)) position x.segment.payload) (sym sees) (bears position same))
+              (subst (λ (x : Seen). x.payload_len ≡ length x.segment.payload) (sym sees) whole) (omega arith)
               ((h.book facts.side).fine, raised own.path facts.side its_lane lane.0 high (omega arith) lane.1.0) in
               record {
                 book = with_good facts.side it.stream gone (goes_good facts.side own_stream it.stream (at_goes facts position options keys peers own_stream its_lane) fine.0 (h.book facts.side))
@@ -301,8 +304,8 @@ module _ (d : Drawn) (limit : Side → ℕ) (few : (s : Side) → limit s < 2 ^ 
           pub stream_made : StreamFine (limit own.from) (few own.from) (content own.from) all.stream
           stream_made =
               let was = (h.book own.from).fine in
-              let fields = fields_so (fields_keep own.from) facts (map Readable own.values) first (record { infinite = was.infinite; fin = was.fin; top = was.top; octets = was.octets; below = was.below }) in
-              record { infinite = fields.infinite; fin = fields.fin; top = fields.top; octets = fields.octets; below = fields.below; untold = made.untold }
+              let fields = fields_so (fields_keep own.from) facts (map Readable own.values) first (record { infinite = was.infinite; fin = was.fin; top = was.top; octets = was.octets; below = was.below; there = was.there }) in
+              record { infinite = fields.infinite; fin = fields.fin; top = fields.top; octets = fields.octets; below = fields.below; there = fields.there; untold = made.untold }
 
           opened_so : S own.path → Leaves own.path (judged_opened facts (map Readable own.values) keys left)
           opened_so begun =
@@ -311,7 +314,7 @@ module _ (d : Drawn) (limit : Side → ℕ) (few : (s : Side) → limit s < 2 ^ 
               let calm = kept_so TellsNoFail facts own.values first p.calm (All-nil TellsNoFail) in
               let acks = kept_so (AckSays own.path own.from) facts own.values first g.acks (All-nil (AckSays own.path own.from)) in
               let behind = positions_so facts all.options all.keys (record left { book = with_stream own.from all.stream left.book }) refl (opens_so d seen own flow f) p.at
-              (seq_so opened e) made.keys p.bears wells calm acks (λ straight. g.low straight begun)
+              (seq_so opened e) made.keys p.bears wells calm acks p.whole (λ straight. g.low straight begun)
               (record {
                 book = with_good own.from all.stream left.book (goes_good own.from (stream_at own.from left.book) all.stream (options_go facts (map Readable own.values) first) stream_made (h.book own.from)) h.book;
                 lanes = h.lanes;
@@ -349,6 +352,7 @@ module _ (d : Drawn) (limit : Side → ℕ) (few : (s : Side) → limit s < 2 ^ 
           line = refl;
           placed = λ p. tt;
           octets = λ p. tt;
+          there = λ p is. absurd (false≢true is);
           waiting = All-nil (Waits (limit s) (few s) (content s) (first_at s) (where_at path s) (most path s) 1);
           acked = omega arith;
           top = omega arith;
@@ -372,6 +376,7 @@ module _ (d : Drawn) (limit : Side → ℕ) (few : (s : Side) → limit s < 2 ^ 
               top = was.top;
               octets = was.octets;
               below = was.below;
+              there = was.there;
               untold = others_keep is_mapping rule.Token wrong.packet (Found (Number32 wrong.expected wrong.was)) (stream_at s book).broken refl was.untold;
             };
             seen = (h s).seen;
@@ -390,8 +395,8 @@ module _ (d : Drawn) (limit : Side → ℕ) (few : (s : Side) → limit s < 2 ^ 
     }
       where
         empty : (s : Side) → StreamFine (limit s) (few s) (content s) (stream_at s empty_book)
-        empty A = record { infinite = refl; fin = tt; top = omega arith; octets = λ q. tt; below = λ q is. absurd (false≢true is); untold = λ r is. refl }
-        empty B = record { infinite = refl; fin = tt; top = omega arith; octets = λ q. tt; below = λ q is. absurd (false≢true is); untold = λ r is. refl }
+        empty A = record { infinite = refl; fin = tt; top = omega arith; octets = λ q. tt; below = λ q is. absurd (false≢true is); there = λ q is. absurd (false≢true is); untold = λ r is. refl }
+        empty B = record { infinite = refl; fin = tt; top = omega arith; octets = λ q. tt; below = λ q is. absurd (false≢true is); there = λ q is. absurd (false≢true is); untold = λ r is. refl }
 
   -- as more is wanted and shown, and fewer paths are straight
   module _ (most more : ℕ → Side → ℕ) (S S_later : ℕ → Type 0) (Straight Still : ℕ → Side → Type 0) (Shown Later : Side → ℕ → Type 0) (Ended Over : Side → Type 0)
@@ -407,6 +412,7 @@ module _ (d : Drawn) (limit : Side → ℕ) (few : (s : Side) → limit s < 2 ^ 
               line = h.1.0.line;
               placed = h.1.0.placed;
               octets = h.1.0.octets;
+              there = h.1.0.there;
               waiting = h.1.0.waiting;
               acked = (let low = h.1.0.acked in let than = up path s in omega (arith, low, than));
               top = h.1.0.top;
