@@ -39,7 +39,7 @@ use Rattle.own_runs.proofs.MapKept.{alike}
 use Rattle.own_runs.proofs.MapPositions.{Bears}
 use Rattle.own_runs.proofs.Own.{Drawn, IsOwn, ValueIs, is_a, own_initial, own_key}
 use Rattle.own_runs.proofs.OwnFlows.{Each, FlowOn, KeysOwn, NonceIs}
-use Rattle.own_runs.proofs.OwnOptions.{IsKeyed, IsOf, key_is, options_so, readable_so}
+use Rattle.own_runs.proofs.OwnOptions.{IsOf, key_is, options_so, readable_so}
 use Rattle.own_runs.proofs.OwnPackets.{AllHold, IsLeft, PacketIs, SegmentsKeep, opens_so, segment_so, sender_so}
 use Rattle.own_runs.proofs.OwnUntold.{base_so, numbered}
 use Rattle.own_runs.proofs.Telling.{others_keep}
