@@ -239,7 +239,7 @@ module _ (limit : ℕ) (few : limit < 2 ^ 31) (content : ℕ → ℕ) (first : �
       h = all.0
 
       fine : Fine limit few content first where_at (one_more state).stream state.lane
-      fine = (record { infinite = h.0.infinite; fin = h.0.fin; top = h.0.top; octets = h.0.octets; below = h.0.below; untold = h.0.untold }, h.1)
+      fine = (record { infinite = h.0.infinite; fin = h.0.fin; top = h.0.top; octets = h.0.octets; below = h.0.below; there = h.0.there; untold = h.0.untold }, h.1)
 
       sits : (mapped_octets offer ≡ 0) ⊎ ((offer.relative % 2 ^ 32 ≡ near % 2 ^ 32) × Sit where_at near o.place (mapped_octets offer))
           → Sits limit few content first where_at offer (mapping.position_near near offer.relative) o.place
@@ -316,7 +316,7 @@ module _ (limit : ℕ) (few : limit < 2 ^ 31) (content : ℕ → ℕ) (first : �
       told = mapped_with facts (first_of facts.side keys) position options before
 
       lane_fine : (b : Bool) → LaneFine limit few content first where_at (if b then with_fin (position + facts.seen.payload_len) lane else lane)
-      lane_fine true = record { line = fine.1.line; placed = fine.1.placed; octets = fine.1.octets; waiting = fine.1.waiting }
+      lane_fine true = record { line = fine.1.line; placed = fine.1.placed; octets = fine.1.octets; there = fine.1.there; waiting = fine.1.waiting }
       lane_fine false = fine.1
 
       begun : AllHold before

@@ -68,6 +68,7 @@ mod OwnTrace
 mod OwnUntold
 mod Packets
 mod Passed
+mod PayloadHeld
 mod PayloadsPlaced
 mod Pending
 mod Placing

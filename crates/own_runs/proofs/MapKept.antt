@@ -1,7 +1,7 @@
 -- The packets of a connection of ours that never falls back break no rule on mappings and what they map: each position of a subflow has one
 -- place, and each place one octet. Where a reset of a dead end stands far behind all others, with number 0 (RFC 9293, section 3.10.7.1), later
 -- numbers may be read as positions that are 2^32 too high: all is said modulo 2^32.
-use Rattle.std.proofs.Common.{◌≡◌, refl, sym, ap, ◌∙◌, subst, ℕ, ◌+◌, ◌%◌, ◌<◌, ◌≤◌, ◌^◌, Bool, true, false, if◌then◌else◌, Option, Some, None, List, [], length, map, arith}
+use Rattle.std.proofs.Common.{◌≡◌, refl, sym, ap, ◌∙◌, subst, ℕ, ◌+◌, ◌%◌, ◌<◌, ◌≤◌, ◌^◌, Bool, true, false, if◌then◌else◌, Option, Some, None, is_some, List, [], length, map, arith}
 use Rattle.std.proofs.lemmas.Bool.{false≢true}
 use Rattle.std.specs.Prelude.{All, IfSome}
 use Rattle.std.specs.Option.{option_map}
@@ -56,7 +56,7 @@ module _ (d : Drawn) (limit : Side → ℕ) (few : (s : Side) → limit s < 2 ^ 
   Well path s position = OffersWell (first_at s) (limit s) (content s) (where_at path s) position
 
   -- A segment of a position, by its number modulo 2^32: its mappings end within its side's stream, give each position its place, and tell right
-  -- checksums; and its payload has the octets of these places.
+  -- checksums; and its payload has the octets of these places, all of them held.
   pub record IsFine (seen : Seen) : Type 0 where
     pub own : IsOwn d seen
     pub at : ℕ
@@ -64,6 +64,7 @@ module _ (d : Drawn) (limit : Side → ℕ) (few : (s : Side) → limit s < 2 ^ 
     pub bears : (p : ℕ) → p % 2 ^ 32 ≡ at % 2 ^ 32 → Bears (λ q. content own.from (where_at own.path own.from q)) p seen.segment.payload
     pub offers : (p : ℕ) → p % 2 ^ 32 ≡ at % 2 ^ 32 → All (Well own.path own.from p) own.values
     pub calm : All TellsNoFail own.values
+    pub whole : seen.payload_len ≡ length seen.segment.payload
     -- an option maps each of its octets
     pub maps : (p : ℕ) → p % 2 ^ 32 ≡ at % 2 ^ 32 → (j : ℕ) → j < length seen.segment.payload → IsCovered (first_at own.from) p (p + j) own.values
 
@@ -78,8 +79,8 @@ module _ (d : Drawn) (limit : Side → ℕ) (few : (s : Side) → limit s < 2 ^ 
     pub other : Laned path B lanes.other
 
   new_fine : BookFine empty_book
-  new_fine A = record { infinite = refl; fin = tt; top = omega arith; octets = λ q. tt; below = λ q is. absurd (false≢true is); untold = λ r is. refl }
-  new_fine B = record { infinite = refl; fin = tt; top = omega arith; octets = λ q. tt; below = λ q is. absurd (false≢true is); untold = λ r is. refl }
+  new_fine A = record { infinite = refl; fin = tt; top = omega arith; octets = λ q. tt; below = λ q is. absurd (false≢true is); there = λ q is. absurd (false≢true is); untold = λ r is. refl }
+  new_fine B = record { infinite = refl; fin = tt; top = omega arith; octets = λ q. tt; below = λ q is. absurd (false≢true is); there = λ q is. absurd (false≢true is); untold = λ r is. refl }
 
   with_fine : (s : Side) (stream : StreamValue) (book : BookValue) → StreamFine (limit s) (few s) (content s) stream → BookFine book → BookFine (with_stream s stream book)
   with_fine A stream book new h A = new
@@ -112,11 +113,12 @@ module _ (d : Drawn) (limit : Side → ℕ) (few : (s : Side) → limit s < 2 ^ 
     top : stream.top ≤ limit s
     octets : (q : ℕ) → IfSome (stream.octet q) (λ o. (q < limit s) × (o.octet ≡ content s q))
     below : (q : ℕ) → stream.seen q ≡ true → q < limit s
+    there : (q : ℕ) → stream.seen q ≡ true → is_some (stream.octet q) ≡ true
 
   fields_keep : (s : Side) → TellingKeeps (Fields s)
   fields_keep s = record {
-    tells = λ r packet fault stream h. record { infinite = h.infinite; fin = h.fin; top = h.top; octets = h.octets; below = h.below };
-    counts = λ stream keys joins mappings sums data_acks h. record { infinite = h.infinite; fin = h.fin; top = h.top; octets = h.octets; below = h.below };
+    tells = λ r packet fault stream h. record { infinite = h.infinite; fin = h.fin; top = h.top; octets = h.octets; below = h.below; there = h.there };
+    counts = λ stream keys joins mappings sums data_acks h. record { infinite = h.infinite; fin = h.fin; top = h.top; octets = h.octets; below = h.below; there = h.there };
   }
 
   abbrev Leaves : ℕ → Told → Type 0
@@ -140,9 +142,9 @@ module _ (d : Drawn) (limit : Side → ℕ) (few : (s : Side) → limit s < 2 ^ 
     positions_so : (facts : Facts) (options : List OptionValue) (keys : Keys) (left : Left) → facts.seen ≡ seen → facts.is_opener ≡ is_a facts.side
         → (at : ℕ) → seen.segment.head.seq ≡ (own_base facts + at) % 2 ^ 32 → KeysOwn d keys
         → ((p : ℕ) → p % 2 ^ 32 ≡ at % 2 ^ 32 → Bears (λ q. content facts.side (where_at own.path facts.side q)) p seen.segment.payload)
-        → ((p : ℕ) → p % 2 ^ 32 ≡ at % 2 ^ 32 → All (Well own.path facts.side p) options) → All TellsNoFail options → LeftFine left
+        → ((p : ℕ) → p % 2 ^ 32 ≡ at % 2 ^ 32 → All (Well own.path facts.side p) options) → All TellsNoFail options → seen.payload_len ≡ length seen.segment.payload → LeftFine left
         → LeftFine (judged_positions facts options keys left)
-    positions_so facts options keys left sees opens at seq k bears all calm h =
+    positions_so facts options keys left sees opens at seq k bears all calm whole h =
         by facts.seen.segment.head.syn (position_of (own_base facts) (own_lane facts left.lanes) facts.seen.segment.head.seq facts.seen.payload_len) refl
       where
         lane : Laned own.path facts.side (own_lane facts left.lanes)
@@ -160,7 +162,8 @@ module _ (d : Drawn) (limit : Side → ℕ) (few : (s : Side) → limit s < 2 ^ 
             let it = judged_at facts position options keys (stream_at (peer facts.side) left.book) own_stream its_lane in
             let fine = at_so (limit facts.side) (few facts.side) (content facts.side) (first_at facts.side) (where_at own.path facts.side) facts position options keys
             (stream_at (peer facts.side) left.book) own_stream its_lane (first_so facts.side keys k) (all position same) calm
-            (subst (λ (x : Seen). Bears (λ q. content facts.side (where_at own.path facts.side q)) position x.segment.payload) (sym sees) (bears position same)) (h.book facts.side, lane) in
+            (subst (λ (x : Seen). Bears (λ q. content facts.side (where_at own.path facts.side q)) position x.segment.payload) (sym sees) (bears position same))
+            (subst (λ (x : Seen). x.payload_len ≡ length x.segment.payload) (sym sees) whole) (h.book facts.side, lane) in
             record {
               book = with_fine facts.side it.stream gone fine.0 (gaps_fine gone.gaps left.book h.book);
               lanes = lanes_fine own.path facts.side facts.is_opener it.lane left.lanes opens fine.1 h.lanes;
@@ -189,14 +192,14 @@ module _ (d : Drawn) (limit : Side → ℕ) (few : (s : Side) → limit s < 2 ^ 
           let made = options_so d is_mapping own.path facts it own.values first own.each
           (record { keys = k; untold = was.untold; each = All-nil (ValueIs d own.path own.from) }) in
           let all = judged_options facts (map Readable own.values) first in
-          let fields = fields_so (fields_keep own.from) facts (map Readable own.values) first (record { infinite = was.infinite; fin = was.fin; top = was.top; octets = was.octets; below = was.below }) in
+          let fields = fields_so (fields_keep own.from) facts (map Readable own.values) first (record { infinite = was.infinite; fin = was.fin; top = was.top; octets = was.octets; below = was.below; there = was.there }) in
           let wells : (q : ℕ) → q % 2 ^ 32 ≡ p.at % 2 ^ 32 → All (Well own.path own.from q) all.options =
           λ q same. kept_so (Well own.path own.from q) facts own.values first (p.offers q same) (All-nil (Well own.path own.from q)) in
           let calm = kept_so TellsNoFail facts own.values first p.calm (All-nil TellsNoFail) in
           let stream : StreamFine (limit own.from) (few own.from) (content own.from) all.stream =
-          record { infinite = fields.infinite; fin = fields.fin; top = fields.top; octets = fields.octets; below = fields.below; untold = made.untold } in
+          record { infinite = fields.infinite; fin = fields.fin; top = fields.top; octets = fields.octets; below = fields.below; there = fields.there; untold = made.untold } in
           let behind = positions_so facts all.options all.keys (record left { book = with_stream own.from all.stream left.book }) refl (opens_so d seen own flow f) p.at
-          (seq_so opened e) made.keys p.bears wells calm
+          (seq_so opened e) made.keys p.bears wells calm p.whole
           (record { book = with_fine own.from all.stream left.book stream h.book; lanes = h.lanes }) in
           record { keys = made.keys; book = behind.book; lanes = behind.lanes }
 
@@ -228,6 +231,7 @@ module _ (d : Drawn) (limit : Side → ℕ) (few : (s : Side) → limit s < 2 ^ 
     line = refl;
     placed = λ p. tt;
     octets = λ p. tt;
+    there = λ p is. absurd (false≢true is);
     waiting = All-nil (Waits (limit s) (few s) (content s) (first_at s) (where_at path s));
   }
 
@@ -246,6 +250,7 @@ module _ (d : Drawn) (limit : Side → ℕ) (few : (s : Side) → limit s < 2 ^ 
           top = was.top;
           octets = was.octets;
           below = was.below;
+          there = was.there;
           untold = others_keep is_mapping rule.Token wrong.packet (Found (Number32 wrong.expected wrong.was)) (stream_at s book).broken refl was.untold;
         }) h;
     flow = λ at packet seen p index flow f belongs is keys left k h lanes.

@@ -1,11 +1,12 @@
 -- In the capture of a run whose script alters nothing and takes no options away each position has one place, each place the octet of its side's
 -- file, and each checksum is right.
-use Rattle.std.proofs.Common.{◌≡◌, refl, sym, ap, ◌∙◌, subst, ℕ, zero, suc, ◌⊎◌, ◌+◌, ◌-◌, ◌%◌, ◌^◌, ◌<◌, ◌≤◌, true, false, Option, Some, None, option_map, Ok, Result, inl, inr, ⊎_elim, List, [], ◌∷◌, ◌++◌, length, length-append, append-nil, map, arith}
+use Rattle.std.proofs.Common.{◌≡◌, refl, sym, ap, ◌∙◌, subst, ℕ, zero, suc, ◌⊎◌, ◌+◌, ◌-◌, ◌%◌, ◌^◌, ◌<◌, ◌≤◌, true, false, Option, Some, None, option_map, is_some, Ok, Result, inl, inr, ⊎_elim, List, [], ◌∷◌, ◌++◌, length, length-append, append-nil, map, arith}
 use Rattle.std.specs.Prelude.{All, IfSome, get_or}
 use Rattle.std.specs.Int.{from_bool}
-use Rattle.std.specs.List.{list_any}
+use Rattle.std.specs.List.{list_any, slice_get}
 use Rattle.std.proofs.lemmas.Bool.{false≢true, or_cases}
 use Rattle.std.proofs.lemmas.List.Elements.{All-cons, All-head, All-nil, All-tail}
+use Rattle.std.proofs.lemmas.Option.{slice_get-get_or}
 use Rattle.capture_reader.specs.Captured.{Captured}
 use Rattle.capture_reader.specs.Seen.{Seen}
 use Rattle.capture_reader.specs.Steps.{◌>>=◌}
@@ -41,7 +42,7 @@ use Rattle.world_laws.specs.NeverFalls.{IsWhole}
 use Rattle.world_laws.specs.Openings.{PathPlan, Start, opened_world, path_begins}
 use Rattle.world_laws.specs.Promises.{IsPlain, NumbersFit}
 use Rattle.world_laws.specs.Worlds.{Turn, world_run}
-use Rattle.own_runs.specs.Runs.{DataFinsEndTheFiles, NoWholeRunBreaks, StreamsBeginTheFiles, WholeStreamsAreTheFiles, capture_of, file_of}
+use Rattle.own_runs.specs.Runs.{DataFinsEndTheFiles, NoWholeRunBreaks, SeenOctetsAreTheFiles, StreamsBeginTheFiles, WholeStreamsAreTheFiles, capture_of, file_of}
 use Rattle.own_runs.specs.Fitting.{RunFits}
 use Rattle.own_runs.specs.Traces.{FitsCapture, packet_for}
 use Rattle.own_runs.proofs.Fitting.{traces_fit}
@@ -267,6 +268,7 @@ module _ (start : Start) (last : Duo) (fit : NumbersFit start) where
           (wells_so start last x.path s.plan x.from key position (length payload) p same borne.0 s.segment.options s.spoken.placed.options s.also.0)));
       calm = subst (λ (values : List OptionValue). All TellsNoFail values) (sym (values_are (Offered start last) start x s short))
           (calmly start last x.path s.plan x.from s.segment.options s.also.0);
+      whole = refl;
       maps = λ p same j within. subst (λ (from : Side). IsCovered (first_number (own_key (drawn start) from)) p (p + j) own.values) (sym (from_is (Offered start last) start x s short))
           (subst (λ (values : List OptionValue). IsCovered (first_number (own_key (drawn start) x.from)) p (p + j) values) (sym (values_are (Offered start last) start x s short))
           (mapped p j (subst (λ (octets : List ℕ). j < length octets) (payload_same (Offered start last) start x s short) within) s.also.1));
@@ -356,6 +358,15 @@ module _ (start : Start) (turns : List Turn) (plain : IsPlain start) (whole : Is
         by i None is e = cc
         by i (Some o) is e = (is.0, sym (some_is e) ∙ is.1)
 
+    seen_is : (place : ℕ) → stream.seen place ≡ true
+        → (place < length (file_of start s)) × (option_map (λ (o : Octet). o.octet) (stream.octet place) ≡ slice_get (file_of start s) place)
+    seen_is place seen = by (stream.octet place) (fine.octets place) (fine.there place seen)
+      where
+        by : (o : Option Octet) → IfSome o (λ o. (place < length (file_of start s)) × (o.octet ≡ get_or (file_of start s) place 0)) → is_some o ≡ true
+            → (place < length (file_of start s)) × (option_map (λ (o : Octet). o.octet) o ≡ slice_get (file_of start s) place)
+        by None is some = absurd (false≢true some)
+        by (Some o) is some = (is.0, ap (λ (x : ℕ). Some x) is.1 ∙ sym (slice_get-get_or (file_of start s) place 0 is.0))
+
     end_is : (fin : ToldPlace) → stream.fin ≡ Some fin → fin.place ≡ file_len start s
     end_is fin is = subst (λ (o : Option ToldPlace). IfSome o (λ told. told.place ≡ file_len start s)) is fine.fin
 
@@ -365,6 +376,9 @@ no_whole_run_breaks r is start turns plain whole fit run side at judged read con
 
 pub streams_are : StreamsBeginTheFiles
 streams_are start turns plain whole fit run side at judged read connection s stream there = prefix start turns plain whole fit run side at judged read connection s stream there
+
+pub seen_are : SeenOctetsAreTheFiles
+seen_are start turns plain whole fit run side at judged read connection s stream there = seen_is start turns plain whole fit run side at judged read connection s stream there
 
 pub ends_are : DataFinsEndTheFiles
 ends_are start turns plain whole fit run side at judged read connection s stream there = end_is start turns plain whole fit run side at judged read connection s stream there

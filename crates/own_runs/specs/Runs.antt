@@ -1,5 +1,6 @@
 -- The capture of a run of ours, judged.
-use Rattle.std.specs.Prelude.{◌≡◌, ℕ, true, false, Option, Some, List, length, Ok}
+use Rattle.std.specs.Prelude.{◌≡◌, ℕ, ◌<◌, true, false, Option, Some, option_map, List, length, Ok}
+use Rattle.std.specs.List.{slice_get}
 use Rattle.sides.specs.declared.side.Side.{Side}
 use Rattle.actor_desk.specs.Words.{pick}
 use Rattle.octet_text.specs.Prefix.{IsPrefix}
@@ -46,6 +47,11 @@ file_of start s = pick s start.file_a start.file_b
 -- What is written of it, up to the first octet that isn't there, is a first part of its side's file.
 abbrev pub StreamsBeginTheFiles : Type 0
 StreamsBeginTheFiles = OfWholeRuns (λ start s stream. (octets : List ℕ) → IsSent stream.octet octets → IsPrefix octets (file_of start s))
+
+-- Each octet of it that was seen is there, and is the file's: none was cut off.
+abbrev pub SeenOctetsAreTheFiles : Type 0
+SeenOctetsAreTheFiles = OfWholeRuns (λ start s stream. (place : ℕ) → stream.seen place ≡ true
+    → (place < length (file_of start s)) × (option_map (λ held. held.octet) (stream.octet place) ≡ slice_get (file_of start s) place))
 
 -- Its DATA_FIN stands behind the last octet of the file.
 abbrev pub DataFinsEndTheFiles : Type 0

@@ -4,7 +4,7 @@ ghost use Rattle.own_runs.specs.Arrivals.{EachAckIsCarried, EachAckRises, WhatCa
 ghost use Rattle.own_runs.specs.Fitting.{TracesFit};
 ghost use Rattle.own_runs.specs.KeysShown.{EachComesBehindKeys, EachShowsKeysSo};
 ghost use Rattle.own_runs.specs.Packets.{CapturesAreTheirPackets};
-ghost use Rattle.own_runs.specs.Runs.{DataFinsEndTheFiles, NoRunBreaks, NoWholeRunBreaks, StreamsBeginTheFiles, WholeStreamsAreTheFiles};
+ghost use Rattle.own_runs.specs.Runs.{DataFinsEndTheFiles, NoRunBreaks, NoWholeRunBreaks, SeenOctetsAreTheFiles, StreamsBeginTheFiles, WholeStreamsAreTheFiles};
 ghost use Rattle.own_runs.specs.Segments.{SegmentsAreFound, WrittenSegmentsAreFound};
 ghost use Rattle.own_runs.specs.Traces.{TracesAreTheirPackets, TracesAreTheirSegments};
 ghost use Rattle.own_runs.specs.WholeSegments.{DeliveredRunsTellTheEnds, EachSaysWhatItBears};
@@ -69,10 +69,12 @@ pub fn whole_runs_break_no_rule()
 {}
 
 /// A law: what the judge finds of a side's stream in the capture of such a run, over all subflows, up to the first octet that isn't there, is a
-/// first part of the side's file (`begins`). Its DATA_FIN stands behind the file's last octet (`ends`, RFC 8684, section 3.3.3), so where all
-/// octets before it are there it is the file (`whole`). Else as in `whole_runs_break_no_rule`.
+/// first part of the side's file (`begins`). Each octet of it that was seen is there, behind a gap, too, and is the file's (`seen`). Its DATA_FIN
+/// stands behind the file's last octet (`ends`, RFC 8684, section 3.3.3), so where all octets before it are there it is the file (`whole`). Else
+/// as in `whole_runs_break_no_rule`.
 pub fn captures_show_the_files()
     ensures begins { StreamsBeginTheFiles }
+    ensures seen { SeenOctetsAreTheFiles }
     ensures ends { DataFinsEndTheFiles }
     ensures whole { WholeStreamsAreTheFiles }
 {}

@@ -1,8 +1,11 @@
-use Rattle.own_runs.proofs.MapTrace.{ends_are, streams_are, whole_are}
+use Rattle.own_runs.proofs.MapTrace.{ends_are, seen_are, streams_are, whole_are}
 use Rattle.own_runs.proofs.laws.captures_show_the_files.Goals as goal
 
 pub returns-clause-begins : goal.returns-clause-begins
 returns-clause-begins c = streams_are
+
+pub returns-clause-seen : goal.returns-clause-seen
+returns-clause-seen c = seen_are
 
 pub returns-clause-ends : goal.returns-clause-ends
 returns-clause-ends c = ends_are
