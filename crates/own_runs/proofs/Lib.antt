@@ -42,6 +42,7 @@ mod KeysSaid
 mod KeysSent
 mod KeysShown
 mod KnownKeys
+mod LanePlaces
 mod LateJoins
 mod Learning
 mod MapKept
@@ -71,6 +72,9 @@ mod Passed
 mod PayloadHeld
 mod PayloadsPlaced
 mod Pending
+mod PiecesTold
+mod PlacesKept
+mod PlacesTrace
 mod Placing
 mod Reached
 mod ReadEnds
@@ -86,6 +90,7 @@ mod ShownSeen
 mod Speaking
 mod Syns
 mod Telling
+mod TellsPlaces
 mod Ticks
 mod TokenFlows
 mod TokenPackets

@@ -44,7 +44,7 @@ use Rattle.own_runs.proofs.OwnUntold.{base_so, numbered}
 use Rattle.own_runs.proofs.Telling.{others_keep}
 
 -- positions with one number
-alike : (base seq p at : ℕ) → (base + p) % 2 ^ 32 ≡ seq % 2 ^ 32 → seq ≡ (base + at) % 2 ^ 32 → p % 2 ^ 32 ≡ at % 2 ^ 32
+pub alike : (base seq p at : ℕ) → (base + p) % 2 ^ 32 ≡ seq % 2 ^ 32 → seq ≡ (base + at) % 2 ^ 32 → p % 2 ^ 32 ≡ at % 2 ^ 32
 alike base seq p at is same = omega (arith, is, same)
 
 module _ (d : Drawn) (limit : Side → ℕ) (few : (s : Side) → limit s < 2 ^ 31) (content : Side → ℕ → ℕ) (where_at : ℕ → Side → ℕ → ℕ) where

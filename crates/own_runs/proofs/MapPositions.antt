@@ -1,6 +1,6 @@
 -- Mappings that give each position its place, and payload that gives each place its octet: what a side's stream and lane are where each of its
 -- segments is such, ends within the stream, and tells right checksums. Then none of them breaks a rule on mappings and what they map.
-use Rattle.std.proofs.Common.{◌≡◌, refl, sym, ap, ◌∙◌, subst, ℕ, ℤ, zero, suc, ltb, ◌⊎◌, inl, inr, ⊎_elim, nat_le, ◌&&◌, ◌+◌, ◌-◌, ◌%◌, ◌^◌, ◌<◌, ◌≤◌, ◌==◌, nat_lt, max, pos, negsuc, not, Bool, true, false, if◌then◌else◌, Option, Some, None, option_map, Result, Ok, Err, List, [], ◌∷◌, length, take, drop, arith}
+use Rattle.std.proofs.Common.{◌≡◌, refl, sym, ap, ◌∙◌, subst, ℕ, ℤ, zero, suc, ltb, ◌⊎◌, inl, inr, ⊎_elim, nat_le, ◌&&◌, ◌+◌, ◌-◌, ◌%◌, ◌^◌, ◌<◌, ◌≤◌, ◌==◌, nat_lt, max, pos, negsuc, not, Bool, true, false, if◌then◌else◌, Option, Some, None, option_map, Result, Ok, Err, List, [], ◌∷◌, length, drop, arith}
 use mir.Val.{sel}
 use Rattle.std.specs.Prelude.{All, IfSome, IsSomeAnd, int_lt, is_some, option_and_then, unwrap_or, get_or, ◌||◌, ◌++◌, ◌+ℤ◌}
 use Rattle.std.specs.List.{slice_get}
@@ -9,7 +9,7 @@ use Rattle.std.specs.Option.{option_or}
 use Rattle.std.proofs.lemmas.Bool.{and_parts, eq-eqb, false≢true, le-ltb, leb-true, lt-ltb, ltb-true, ne_eqb, or_cases, or_left, or_right}
 use Rattle.std.proofs.lemmas.Int.{int_rem_euclid_is, ints}
 use Rattle.std.proofs.lemmas.List.Elements.{All-append, All-cons, All-filter, All-head, All-nil, All-tail}
-use Rattle.std.proofs.lemmas.Option.{get_or_from_slice_get, slice_get-get_or, slice_get_within}
+use Rattle.std.proofs.lemmas.Option.{slice_get-get_or}
 use Rattle.sides.specs.Side.{peer}
 use Rattle.dss_checksum.specs.Checksum.{dss_checksum}
 use Rattle.mptcp_options.specs.Value.{OptionValue, Dss, Fail}
@@ -97,7 +97,7 @@ abbrev pub OffersWell : ℕ → ℕ → (ℕ → ℕ) → (ℕ → ℕ) → ℕ 
 OffersWell first limit content where_at position option = IfSome (offer_of first option) (OfferIs first limit content where_at position)
 
 -- the relative number of the position that it means
-relative_so : (at relative : ℕ) → relative < 2 ^ 32 → natural (int_rem_euclid (mapping.position_near at relative) (pos (2 ^ 32))) ≡ relative
+pub relative_so : (at relative : ℕ) → relative < 2 ^ 32 → natural (int_rem_euclid (mapping.position_near at relative) (pos (2 ^ 32))) ≡ relative
 relative_so at relative low = by ((relative + (2 ^ 32 - at % 2 ^ 32)) % 2 ^ 32) refl (ltb ((relative + (2 ^ 32 - at % 2 ^ 32)) % 2 ^ 32) (2 ^ 31))
   where
     by : (n : ℕ) → n ≡ (relative + (2 ^ 32 - at % 2 ^ 32)) % 2 ^ 32 → (b : Bool)
@@ -108,7 +108,7 @@ relative_so at relative low = by ((relative + (2 ^ 32 - at % 2 ^ 32)) % 2 ^ 32) 
         ap natural (int_rem_euclid_is (pos at +ℤ negsuc (2 ^ 32 - suc n)) (pos (2 ^ 32)) (2 ^ 32) 1 (at + n) (omega arith) refl (omega (arith, ints, is)))
         ∙ omega (arith, low, is)
 
-contents_none : (at : ℕ → ℕ) (n p q : ℕ) → n ≡ 0 → contents at p n ≡ contents at q n
+pub contents_none : (at : ℕ → ℕ) (n p q : ℕ) → n ≡ 0 → contents at p n ≡ contents at q n
 contents_none at zero p q none = refl
 contents_none at (suc n) p q none = absurd (omega (arith, none))
 

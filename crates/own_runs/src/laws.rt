@@ -37,7 +37,8 @@ pub fn traces_are_their_segments()
 /// A law: in the capture of a run of ours no side is told to break a rule of the judge's on options: each option reads (`form`), MP_CAPABLE
 /// shows the known keys (`keys`, RFC 8684, section 3.1), a join the token of a key that was shown before it (`token`, section 3.2) and the
 /// HMACs of both keys and nonces (`join_hmac`, section 3.2), an ADD_ADDR that of its address (`address_hmac`, section 3.4.1), and MP_FASTCLOSE
-/// the key of its receiver (`fast_close_key`, section 3.5). Nor is payload sent outside of a mapping of its segment (`within`, section 3.3.1).
+/// the key of its receiver (`fast_close_key`, section 3.5). Nor is payload sent outside of a mapping of its segment (`within`, section 3.3.1),
+/// nor has a position of a subflow two places, nor a number none (`mapping`), and each checksum is that of its mapping and its octets (`dss_sum`).
 ///
 /// The capture is that of a trace (`traces_are_their_segments`), with sums checked. It holds of every list of turns, lawful or not, whatever the
 /// script takes away or alters, where the numbers of the start fit and the run fits a capture (`traces_are_their_segments`), and wherever the
@@ -50,6 +51,8 @@ pub fn own_runs_break_no_rule()
     ensures address_hmac { NoRunBreaks AddressHmac }
     ensures fast_close_key { NoRunBreaks FastCloseKey }
     ensures within { NoRunBreaks Within }
+    ensures mapping { NoRunBreaks Mapping }
+    ensures dss_sum { NoRunBreaks DssSum }
 {}
 
 /// A law: where the script alters no payload and takes no options away, no side is told to break a rule on the end of a stream: the DATA_FIN
