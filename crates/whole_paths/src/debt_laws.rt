@@ -1,10 +1,8 @@
 //! What is to be mended of a connection over one path, and how it is, as clauses of functions that do nothing.
-ghost use Rattle.whole_paths.specs.CutRecords.{CheckedRecordsArePassedWhole};
-ghost use Rattle.whole_paths.specs.DirectionWaits.{CheckedNumbersAgree, DirectionsAreMended, NumbersAgreeSo};
-ghost use Rattle.whole_paths.specs.FinDebts.{FinsAreHeard, FinsGoAgain, FinsStandOn};
-ghost use Rattle.whole_paths.specs.FinsMended.{FewFinsAreOwed, FinsAreMended, WhatIsAckedLasts, WhoOwesNoFinStands};
 ghost use Rattle.whole_paths.specs.CutRecords.{CheckedRecordsArePassedWhole, UncheckedRecordsArePassedWhole};
 ghost use Rattle.whole_paths.specs.DirectionWaits.{DirectionsAreMended, NumbersAlwaysAgree, RecordsArePassedWhole};
+ghost use Rattle.whole_paths.specs.FinDebts.{FinsAreHeard, FinsGoAgain, FinsStandOn};
+ghost use Rattle.whole_paths.specs.FinsMended.{FewFinsAreOwed, FinsAreMended, WhatIsAckedLasts, WhoOwesNoFinStands};
 ghost use Rattle.whole_paths.specs.OneDebt.{FinDebtsAreKnown, FinDebtsGoOn};
 ghost use Rattle.whole_paths.specs.OpenFirst.{AOwesRecordsFirst, BOwesNoneFirst, FewAsItOpensAreFew, OpensWithFewSo, PathsOpenByClearing};
 ghost use Rattle.whole_paths.specs.Directions.{DirectionsGoOn, WhatOwesNoneIsWell, WhoIsToldButStaysSo};
@@ -55,10 +53,7 @@ pub fn directions_go_on()
 ///
 /// An end hears what it wasn't told: its timer runs out within a minute, its first record goes again, and the peer answers. A record that may be
 /// lost becomes the first one, since all before it comes within 400 ticks, and is acknowledged; then it goes again, as the timer runs out. That the
-/// direction's numbers agree, as they do with checksums (`numbers_agree`), is a premise.
-{}
-
-/// direction's numbers agree, as they do (`numbers_agree`), is a premise, and that there are no more debts than harmed segments.
+/// direction's numbers agree, as they do (`numbers_agree`), is a premise.
 pub fn directions_are_mended()
     ensures { DirectionsAreMended }
 {}
