@@ -1,7 +1,5 @@
 -- Short waits, in which a unit is made: they begin where nothing is to be mended, and 23 rounds in which nothing is bring a unit more.
-use Rattle.std.specs.Prelude.{ℕ, ◌+◌, ◌*◌, ◌<◌, ◌≤◌, ◌⊎◌, List}
-use Rattle.sides.specs.declared.side.Side.{Side}
-use Rattle.path_core.specs.State.{end_at}
+use Rattle.std.specs.Prelude.{ℕ, ◌+◌, ◌<◌, ◌≤◌, ◌⊎◌, List}
 use Rattle.path_core.specs.Values.{values}
 use Rattle.world_laws.specs.Openings.{PathPlan, Start}
 use Rattle.world_laws.specs.RoundDone.{reached}
