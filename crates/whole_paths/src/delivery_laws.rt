@@ -191,9 +191,10 @@ pub fn each_round_writes_and_reads()
 ///
 /// It is said of a mild connection over one path, between moments at which the path is open. For `read` nothing is to be mended as the rounds begin,
 /// and after seven, eleven and fifteen of them; and what the peer could tell of the stream is heard in the first six, as a premise says: the Data
-/// ACK, and a window that takes a full segment. Then come a round in which the application writes, eight by which all is acknowledged that was under
-/// way, so that the end sends what had no room in its congestion window, or what it is granted (`each_grant_is_full`), four in which that comes, and
-/// one in which it is read. No more is asked of the congestion window than that it holds one segment (RFC 5681, section 3.1), as it always does.
+/// ACK, and a window that takes a full segment, or all of the file. Then come a round in which the application writes, eight by which all is
+/// acknowledged that was under way, so that the end sends what had no room in its congestion window, or what it is granted (`each_grant_is_full`),
+/// four in which that comes, and one in which it is read. No more is asked of the congestion window than that it holds one segment (RFC 5681,
+/// section 3.1), as it always does.
 pub fn a_segment_is_read()
     ensures brought { FourRoundsBring }
     ensures told { FourRoundsTell }

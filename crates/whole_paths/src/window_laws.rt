@@ -15,8 +15,7 @@ pub fn windows_are_assured()
     ensures rounds { FourRoundsAssure }
 {}
 
-/// A law: where a side's file and a full segment fit into the window that the side is told with the first SYN, it may always send a full segment's
-/// payload past what was read (RFC 9293, section 3.8.6).
+/// A law: where a side's file fits into the window that the side is told with the first SYN, it may always send all of it (RFC 9293, section 3.8.6).
 ///
 /// So it is over one path of a mild connection as the path is open and a round is over. The window of a SYN is what the peer buffers, 65,535 octets at
 /// most; and a window never shrinks.
