@@ -207,5 +207,6 @@ pub use patience_laws::patient_paths_deliver;
 pub use window_laws::fitting_files_are_never_shut;
 pub use window_laws::what_comes_opens_the_window;
 pub use window_laws::what_is_told_goes_on;
+pub use window_laws::what_is_told_is_taken;
 pub use window_laws::who_asks_owes;
 pub use window_laws::windows_are_assured;
