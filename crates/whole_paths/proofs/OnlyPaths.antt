@@ -1,6 +1,5 @@
 -- Over one path both files are delivered once it is whole, or an end dies early: what is said of each start holds of each script, over octets too.
-use Rattle.std.proofs.Common.{◌+◌, arith, le_refl}
-use Rattle.sides.specs.declared.side.Side.TheVariants.{A}
+use Rattle.std.proofs.Common.{arith}
 use Rattle.path_core.specs.Octets.{octets}
 use Rattle.path_core.specs.Values.{values}
 use Rattle.world_laws.specs.Openings.{PathPlan, Start}

@@ -1,9 +1,8 @@
 -- How an end that has no record left asks its peer again: for the Data ACK of bytes or of a DATA_FIN, for a window, or for the answer to its
 -- third MP_JOIN or MP_FASTCLOSE (RFC 6298, section 5; RFC 8684, sections 3.2, 3.3 and 3.5).
-use Rattle.std.specs.Prelude.{ℕ, ◌+◌, ◌-◌, ◌^◌, ◌≡◌, ◌<◌, ◌≤◌, Bool, true, false, Some, List, [], ◌∷◌, length, slice_get}
+use Rattle.std.specs.Prelude.{ℕ, ◌+◌, ◌-◌, ◌^◌, ◌≡◌, ◌<◌, ◌≤◌, Bool, true, false, Some, List, [], ◌∷◌, slice_get}
 use Rattle.sides.specs.declared.side.Side.{Side}
 use Rattle.sides.specs.Side.{peer}
-use Rattle.path_segments.specs.Spelled.{PlainSegment}
 use Rattle.link_model.specs.declared.flight.Flight.{Flight}
 use Rattle.link_model.specs.Steps.{changed, due_of, segments_sent}
 use Rattle.subflow_send.specs.Records.{Record}
@@ -17,8 +16,6 @@ use Rattle.path_core.specs.Codec.{Codec}
 use Rattle.path_core.specs.Emission.{ack_resent}
 use Rattle.path_core.specs.End.{PathEnd}
 use Rattle.path_core.specs.Events.{next_event}
-use Rattle.path_core.specs.Handover.{handed}
-use Rattle.path_core.specs.Octets.{made}
 use Rattle.path_core.specs.Shown.{AltersNothing}
 use Rattle.path_core.specs.State.{PathState, end_at}
 use Rattle.path_core.specs.declared.events.Event.TheVariants as happenings

@@ -1,6 +1,5 @@
 -- What a mild connection over one path waits for while the path is whole.
 use Rattle.std.specs.Prelude.{ℕ, ◌+◌, ◌*◌, ◌≡◌, ◌<◌, ◌≤◌, ◌⊎◌, true, List, [], ◌++◌, length}
-use Rattle.sides.specs.declared.side.Side.TheVariants.{A, B}
 use Rattle.send_book.specs.State.{acked_len}
 use Rattle.subflow_tcp.specs.States.{may_finish}
 use Rattle.path_core.specs.State.{PathState, end_at}
