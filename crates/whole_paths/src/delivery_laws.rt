@@ -150,7 +150,7 @@ pub fn no_end_overruns()
 /// A law: on the only path of a mild connection positions count bytes, whatever is lost, late or repeated (RFC 8684, section 3.3.1).
 ///
 /// SND.NXT lies behind all bytes of the side's stream that the path took. RCV.NXT of the peer's end lies behind all that the peer's side
-/// received, and as long as the end sent no FIN just behind them.
+/// received, and as long as the end sent no FIN just behind them. Each byte that is written and lies behind those that the path took is there for it.
 pub fn positions_count_bytes()
     ensures { HoldsOfOnlyPaths values PositionsCountBytes }
 {}
@@ -187,12 +187,13 @@ pub fn each_round_writes_and_reads()
 {}
 
 /// A law: where nothing is to be mended, all that an open end sent comes within four rounds (`brought`), and as soon the end is told how far the peer
-/// was (`told`); so the peer's reader reads a full segment more in twelve rounds (`read`), or all of the stream.
+/// was (`told`); so the peer's reader reads a full segment more in twenty rounds (`read`), or all of the stream.
 ///
-/// It is said of a mild connection over one path, between moments at which the path is open. For `read` nothing is to be mended as the rounds begin and
-/// after seven of them, the congestion window holds two full segments then, and what the peer could tell of the stream is heard in the first
-/// five, as a premise says: the Data ACK, and a window that takes a full segment. Then come a round in which the application writes, one in which the
-/// end sends, four in which that comes, and one in which it is read.
+/// It is said of a mild connection over one path, between moments at which the path is open. For `read` nothing is to be mended as the rounds begin,
+/// and after seven, eleven and fifteen of them; and what the peer could tell of the stream is heard in the first six, as a premise says: the Data
+/// ACK, and a window that takes a full segment. Then come a round in which the application writes, eight by which all is acknowledged that was under
+/// way, so that the end sends what had no room in its congestion window, or what it is granted (`each_grant_is_full`), four in which that comes, and
+/// one in which it is read. No more is asked of the congestion window than that it holds one segment (RFC 5681, section 3.1), as it always does.
 pub fn a_segment_is_read()
     ensures brought { FourRoundsBring }
     ensures told { FourRoundsTell }
@@ -208,12 +209,12 @@ pub fn an_end_is_told()
     ensures { AnEndIsTold }
 {}
 
-/// A law: in thirteen rounds in which nothing is to be mended a stream goes on by a full segment or by its end, or all is read and told.
+/// A law: in twenty rounds in which nothing is to be mended a stream goes on by a full segment or by its end, or all is read and told.
 ///
-/// It is said of a mild connection over one path, as long as all is well: nothing of path 0 is to be mended then, and both congestion windows hold two
-/// full segments. A wait for such rounds begins with each of them, and it goes on by each turn as long as all is well. That what the peer could
-/// tell is heard in five rounds, and that a DATA_FIN comes in four, are premises. Where there are as many units as can be (`all`), all of
-/// both streams is with the peers. Where no record may be lost and each end is told soon (`free`), nothing is to be mended.
+/// It is said of a mild connection over one path, as long as all is well: nothing of path 0 is to be mended then. A wait for such rounds begins with
+/// each of them, and it goes on by each turn as long as all is well. That what the peer could tell is heard in six rounds, and that a DATA_FIN comes
+/// in four, are premises. Where there are as many units as can be (`all`), all of both streams is with the peers. Where no record may be lost and
+/// each end is told soon (`free`), nothing is to be mended.
 pub fn a_unit_is_made()
     ensures waits { ShortWaitsGoOn }
     ensures made { AUnitIsMade }
