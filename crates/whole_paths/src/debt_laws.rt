@@ -55,10 +55,7 @@ pub fn directions_go_on()
 ///
 /// An end hears what it wasn't told: its timer runs out within a minute, its first record goes again, and the peer answers. A record that may be
 /// lost becomes the first one, since all before it comes within 400 ticks, and is acknowledged; then it goes again, as the timer runs out. That the
-/// direction's numbers agree, as they do with checksums (`numbers_agree`), is a premise.
-{}
-
-/// direction's numbers agree, as they do (`numbers_agree`), is a premise, and that there are no more debts than harmed segments.
+/// direction's numbers agree, as they do (`numbers_agree`), is a premise.
 pub fn directions_are_mended()
     ensures { DirectionsAreMended }
 {}
