@@ -1,10 +1,8 @@
 //! What is to be mended of a connection over one path, and how it is, as clauses of functions that do nothing.
-ghost use Rattle.whole_paths.specs.CutRecords.{CheckedRecordsArePassedWhole};
-ghost use Rattle.whole_paths.specs.DirectionWaits.{CheckedNumbersAgree, DirectionsAreMended, NumbersAgreeSo};
-ghost use Rattle.whole_paths.specs.FinDebts.{FinsAreHeard, FinsGoAgain, FinsStandOn};
-ghost use Rattle.whole_paths.specs.FinsMended.{FewFinsAreOwed, FinsAreMended, WhatIsAckedLasts, WhoOwesNoFinStands};
 ghost use Rattle.whole_paths.specs.CutRecords.{CheckedRecordsArePassedWhole, UncheckedRecordsArePassedWhole};
 ghost use Rattle.whole_paths.specs.DirectionWaits.{DirectionsAreMended, NumbersAlwaysAgree, RecordsArePassedWhole};
+ghost use Rattle.whole_paths.specs.FinDebts.{FinsAreHeard, FinsGoAgain, FinsStandOn};
+ghost use Rattle.whole_paths.specs.FinsMended.{FewFinsAreOwed, FinsAreMended, WhatIsAckedLasts, WhoOwesNoFinStands};
 ghost use Rattle.whole_paths.specs.OneDebt.{FinDebtsAreKnown, FinDebtsGoOn};
 ghost use Rattle.whole_paths.specs.OpenFirst.{AOwesRecordsFirst, BOwesNoneFirst, FewAsItOpensAreFew, OpensWithFewSo, PathsOpenByClearing};
 ghost use Rattle.whole_paths.specs.Directions.{DirectionsGoOn, WhatOwesNoneIsWell, WhoIsToldButStaysSo};
