@@ -46,8 +46,8 @@ module _ {C : Type 0} where
     pub plain : AltersNothing p.link.lines → altered ≡ false
     pub carried : f.carried ≡ changed (k.strips p.profile.spelling s) (k.alters p.profile.spelling s) stripped altered (k.makes p.profile.spelling s (ack_resent p.profile s sender))
 
-  -- Such a copy comes by this tick, unless the script harms it: as late as the link may hand on what is sent as the timer runs out, or now,
-  -- where the end is to send again; or the copy is under way. The end has no record left.
+  -- Such a copy comes by this tick, unless it is harmed: 400 ticks, twice the longest delay, after the timer runs out, or from now on, where the end is
+  -- to send again; or the copy is under way. The end has no record left.
   pub data IsAskedAgain (k : Codec C) (s : Side) (by : ℕ) (p : PathState C) : Type 0 where
     waits : (tick : ℕ) → tick + 400 ≤ by → IsRunning tick (end_at s p) → (end_at s p).tcp.send.records ≡ [] → IsAskedAgain k s by p
     resends : p.clock + 400 ≤ by → IsToSendAgain s p → (end_at s p).tcp.send.records ≡ [] → IsAskedAgain k s by p
@@ -90,7 +90,7 @@ module _ {C : Type 0} where
   AsksGoOn k _ _ = ⊥
 
   -- at the end of a turn each end that opens, is open or closes asks again, where something of it is outstanding, but no record, within a
-  -- minute and the longest time that a segment is under way
+  -- minute and 400 ticks
   abbrev pub IsAskedAtTheEnd : Codec C → PathState C → Type 0
   IsAskedAtTheEnd k p = p.agenda ≡ [] → (s : Side) → is_closed_to_segments (end_at s p).tcp.state ≡ false → (end_at s p).tcp.send.records ≡ []
       → IsOutstanding (end_at s p)

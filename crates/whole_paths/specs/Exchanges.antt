@@ -137,7 +137,7 @@ ExchangesGoOn (Path p) (Path q) =
 ExchangesGoOn (App a) (App b) = Unit {0}
 ExchangesGoOn _ _ = ⊥
 
--- where a turn is over, with the first record of each end that opens, is open or closes: within a minute and the longest time there and back
+-- where a turn is over, with the first record of each end that opens, is open or closes: within a minute and 400 ticks there and back
 abbrev pub ExchangesBegin : PathState Carried → Type 0
 ExchangesBegin p = p.agenda ≡ [] → (s : Side) → is_closed_to_segments (end_at s p).tcp.state ≡ false → (r : Record) (others : List Record)
     → (end_at s p).tcp.send.records ≡ r ∷ others → IsExchanged s r (p.clock + 60000 + 400 + 400) p

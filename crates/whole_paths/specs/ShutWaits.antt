@@ -7,5 +7,5 @@ use Rattle.whole_paths.specs.WindowWaits.{AwaitsAWindow}
 
 -- in each mild connection over one path, with buffers of 32 bytes at least
 abbrev pub ShutWindowsOpenInTime : Type 0
-ShutWindowsOpenInTime = (start : Start) (plan : PathPlan) (most way : ℕ) → start.paths ≡ plan ∷ [] → IsMildStart start → 32 ≤ start.buffer
-    → ShutWindowsOpen start most way (60000 + way) (λ n x turns. AwaitsAWindow start x turns)
+ShutWindowsOpenInTime = (start : Start) (plan : PathPlan) (most : ℕ) → start.paths ≡ plan ∷ [] → IsMildStart start → 32 ≤ start.buffer
+    → ShutWindowsOpen start most 60800 (λ n x turns. AwaitsAWindow start x turns)
