@@ -264,3 +264,5 @@ pub mod OldRecords
 pub mod PassedWhole
 pub mod Uncut
 pub mod WholePieces
+pub mod DataPast
+pub mod OpenQuietly
