@@ -14,7 +14,7 @@ use Rattle.world_laws.specs.RoundDone.{reached}
 use Rattle.world_laws.specs.Worlds.{Turn}
 use Rattle.whole_paths.specs.Copies.{IsUnderWay}
 use Rattle.whole_paths.specs.Courses.{round_end}
-use Rattle.whole_paths.specs.Debts.{DebtsAreMended, OwesAtMost}
+use Rattle.whole_paths.specs.Debts.{DebtsAreMended}
 use Rattle.whole_paths.specs.Delivery.{IsAllThere}
 use Rattle.whole_paths.specs.Directions.{AreHeardBut, OwesAlong, OwesThese}
 use Rattle.whole_paths.specs.Expiries.{IsToSendAgain}
@@ -108,8 +108,7 @@ RecordsArePassedWhole = (start : Start) (plan : PathPlan) (s : Side) → BeginsW
 abbrev pub NumbersAlwaysAgree : Type 0
 NumbersAlwaysAgree = (start : Start) (plan : PathPlan) (s : Side) → BeginsWithOnePath start plan → NumbersAgree start s
 
--- Where numbers agree, and there are no more debts than harms at each open moment, debts along a direction are mended.
+-- Where numbers agree, debts along a direction are mended.
 abbrev pub DirectionsAreMended : Type 0
 DirectionsAreMended = (start : Start) (plan : PathPlan) (most : ℕ) (s : Side) → BeginsWithOnePath start plan → NumbersAgree start s
-    → ((turns : List Turn) → IsOpenAfter start turns → OwesAtMost start plan most (OwesAlong start s) turns)
     → DebtsAreMended start plan most (OwesAlong start s) (MendsAlong start s)
