@@ -1,6 +1,7 @@
 -- Where nothing comes early no more of A's records may be lost as path 0 opens than segments were harmed; else all that its end has.
 use Rattle.std.proofs.Common.{◌≡◌, refl, sym, subst, ap, ◌∙◌, ℕ, ◌+◌, ◌≤◌, arith, nat_lt, Bool, true, false, true≢false, ◌&&◌, ◌||◌, if◌then◌else◌, Option, None, Some, List, [], ◌∷◌, ◌++◌, length}
 use Rattle.std.specs.List.{slice_get}
+use Rattle.std.proofs.lemmas.Bool.{ltb-false}
 use Rattle.sides.specs.declared.side.Side.{Side}
 use Rattle.sides.specs.declared.side.Side.TheVariants.{A, B}
 use Rattle.link_script.specs.Places.{same_side}
@@ -78,7 +79,7 @@ has_none : (o : Option HeardSegment) → has_octets o ≡ false → (x : HeardSe
 has_none o none x is = by (length x.payload + one_if x.fin) (sym (ap (λ y. has_octets y) is) ∙ none)
   where
     by : (n : ℕ) → nat_lt 0 n ≡ false → n ≡ 0
-    by n low = omega (arith, low)
+    by n low = omega (arith, ltb-false 0 n low)
 
 module _ (start : Start) (plan : PathPlan) (one : BeginsWithOnePath start plan) (before : List Turn) (turn : Turn) (p : PathState Carried) (here : IsPathAt 0 (reached values start before) p)
     (unclear : p.b.modes.clear ≡ false) where
