@@ -194,6 +194,7 @@ pub use opening_laws::a_has_the_key_first;
 pub use opening_laws::each_first_piece_comes_soon;
 pub use opening_laws::each_syn_ack_is_answered_soon;
 pub use opening_laws::each_syn_comes_soon;
+pub use window_laws::each_turn_asks_its_window;
 pub use window_laws::fitting_files_are_never_shut;
 pub use window_laws::what_comes_opens_the_window;
 pub use window_laws::what_is_told_goes_on;
