@@ -627,10 +627,10 @@ module _ (start : Start) (s : Side) (least : ℕ) (small : least ≤ 65535) (som
 -- ---- by the lanes
 
 -- the only path is path 0
-record HasNumber (p : PathState Carried) : Type 0 where
-  path : path_of p ≡ 0
+pub record HasNumber (p : PathState Carried) : Type 0 where
+  pub path : path_of p ≡ 0
 
-each_numbered : (start : Start) (turns : List Turn) → HasRoom start → OfFirst HasNumber (reached values start turns)
+pub each_numbered : (start : Start) (turns : List Turn) → HasRoom start → OfFirst HasNumber (reached values start turns)
 each_numbered start turns size =
     let can = anyhow start size in
     let r = each_run_shows start can turns (free_run can.links (anyhow_free start size) turns (opened_world start)) in
