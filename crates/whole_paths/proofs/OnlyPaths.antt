@@ -2,9 +2,8 @@
 use Rattle.std.proofs.Common.{arith}
 use Rattle.path_core.specs.Octets.{octets}
 use Rattle.path_core.specs.Values.{values}
-use Rattle.world_laws.specs.Openings.{PathPlan, Start}
 use Rattle.whole_paths.specs.Finish.{BriefPathsDeliver}
-use Rattle.whole_paths.specs.OnePathScripts.{BeginsWithOnePath, EndsWithin, BriefPathsEnd, for_all_news}
+use Rattle.whole_paths.specs.OnePathScripts.{EndsWithin, BriefPathsEnd, for_all_news}
 use Rattle.whole_paths.specs.OnlyPaths.{long_patience, news_within}
 use Rattle.whole_paths.specs.WholeCourses.{IsAwaited}
 use Rattle.whole_paths.specs.WindowWaits.{AwaitsAWindow}

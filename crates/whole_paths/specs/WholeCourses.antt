@@ -2,8 +2,8 @@
 use Rattle.std.specs.Prelude.{ℕ, ◌+◌, ◌*◌, ◌≡◌, ◌<◌, ◌≤◌, ◌⊎◌, true, List, [], ◌++◌, length}
 use Rattle.send_book.specs.State.{acked_len}
 use Rattle.subflow_tcp.specs.States.{may_finish}
-use Rattle.path_core.specs.State.{PathState, end_at}
-use Rattle.path_core.specs.Values.{Carried, values}
+use Rattle.path_core.specs.State.{end_at}
+use Rattle.path_core.specs.Values.{values}
 use Rattle.world_laws.specs.Openings.{Start}
 use Rattle.world_laws.specs.Promises.{written_by}
 use Rattle.world_laws.specs.RoundDone.{reached}
@@ -11,7 +11,6 @@ use Rattle.world_laws.specs.RoundNumbers.{BeginsRound}
 use Rattle.world_laws.specs.Worlds.{Turn}
 use Rattle.whole_paths.specs.AnswerWaits.{AwaitsAnAnswer}
 use Rattle.whole_paths.specs.Courses.{counted, round_end}
-use Rattle.whole_paths.specs.Finish.{IsPathAt}
 use Rattle.whole_paths.specs.GoingOn.{IsAboutToGoOn, steps_of}
 use Rattle.whole_paths.specs.RecordWaits.{AwaitsARecord, LeavesRoom, Opens, SentNoFin, Steps}
 
