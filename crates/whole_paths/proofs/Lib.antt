@@ -280,6 +280,8 @@ pub mod OldRecords
 pub mod PassedWhole
 pub mod Uncut
 pub mod WholePieces
+pub mod DataPast
+pub mod OpenQuietly
 pub mod Opened
 pub mod SignPieces
 pub mod EarlyRecords

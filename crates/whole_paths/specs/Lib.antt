@@ -160,6 +160,7 @@ pub mod Directions
 pub mod DirectionWaits
 pub mod CutRecords
 pub mod OpenFirst
+pub mod OpenQuietly
 pub mod SharpPaths
 pub mod SynsSoon
 pub mod FirstPiecesSoon

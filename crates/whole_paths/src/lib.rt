@@ -44,6 +44,7 @@ pub use debt_laws::lost_records_are_awaited;
 pub use debt_laws::lost_records_are_first;
 pub use debt_laws::lost_records_are_mended;
 pub use debt_laws::numbers_agree;
+pub use debt_laws::opens_quietly;
 pub use debt_laws::paths_open_by_clearing;
 pub use debt_laws::records_are_passed_whole;
 pub use debt_laws::what_is_reached_is_first;
