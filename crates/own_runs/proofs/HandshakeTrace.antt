@@ -1,6 +1,5 @@
 -- In the trace of a run each SYN of B's comes behind A's SYN of its path, and what is no SYN and no reset behind B's SYN/ACK there.
-use Rattle.std.proofs.Common.{◌≡◌, refl, sym, ap, ◌∙◌, subst, ℕ, inl, inr, ⊎_elim, true, false, Option, Some, None, List, [], ◌∷◌, ◌++◌, append_assoc}
-use Rattle.std.specs.List.{slice_get}
+use Rattle.std.proofs.Common.{◌≡◌, sym, ap, ◌∙◌, subst, ℕ, ⊎_elim, Option, Some, None, List, [], ◌∷◌, ◌++◌, append_assoc}
 use Rattle.std.specs.Option.{IfSome}
 use Rattle.link_trace.specs.declared.sent.Sent.{Sent}
 use Rattle.path_core.specs.Looking.{first_sends}
@@ -13,15 +12,15 @@ use Rattle.sides.specs.declared.side.Side.{Side}
 use Rattle.stream_lanes.proofs.Lists.{Has-more}
 use Rattle.stream_lanes.specs.Words.{Every, Has}
 use Rattle.world_laws.proofs.Lanes.Doing.{has_last}
-use Rattle.world_laws.specs.Actors.{Actor, ActorCrew}
+use Rattle.world_laws.specs.Actors.{Actor}
 use Rattle.world_laws.specs.Openings.{Start, opened_world, path_begins}
 use Rattle.world_laws.specs.Promises.{HasRoom, NumbersFit}
 use Rattle.world_laws.specs.Worlds.{Turn, WorldState, after_turn, world_run}
 use Rattle.world_laws.specs.declared.member.Member.TheVariants.{App, Path}
 use Rattle.own_runs.specs.Handshakes.{EachComesInOrder, IsOn, IsSyn, IsSynAck}
 use Rattle.own_runs.proofs.AckMoments.{one_turn}
-use Rattle.own_runs.proofs.InTime.{AnswersAt, OpensAt, Sending, WasSaid, turn_sending}
-use Rattle.own_runs.proofs.Moments.{IsSpoken, MemberAlso, PathAlso, WorldAlso, turn_spoken, world_speaks}
+use Rattle.own_runs.proofs.InTime.{AnswersAt, OpensAt, Sending, WasSaid}
+use Rattle.own_runs.proofs.Moments.{IsSpoken, MemberAlso, WorldAlso, turn_spoken, world_speaks}
 use Rattle.own_runs.proofs.Speaking.{ToSend}
 use Rattle.own_runs.proofs.TimeRuns.{OpensSo, opens_so}
 use Rattle.own_runs.proofs.ToldAcks.{SentIn, sent_in}

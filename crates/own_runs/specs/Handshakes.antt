@@ -1,5 +1,5 @@
 -- In which order a path opens: A's SYN, B's answer, and then all else.
-use Rattle.std.specs.Prelude.{◌≡◌, ℕ, true, false, Option, Some, None, List, take}
+use Rattle.std.specs.Prelude.{◌≡◌, ℕ, true, false, Some, None, List, take}
 use Rattle.std.specs.List.{slice_get}
 use Rattle.link_trace.specs.declared.sent.Sent.{Sent}
 use Rattle.path_core.specs.Octets.{made}
