@@ -12,8 +12,13 @@ use Rattle.world_laws.specs.Worlds.{Turn}
 use Rattle.own_runs.specs.Fitting.{RunFits}
 use Rattle.own_runs.specs.Runs.{capture_of}
 
--- The capture is read, and it ends well: no side broke a rule, and no join was refused; or no connection was opened.
+-- no side broke a rule, and no join was refused; or no connection was opened
+abbrev pub EndsWell : JudgedValue → Type 0
+EndsWell judged = (ending_of judged ≡ Kept) ⊎ (ending_of judged ≡ NoConnection)
+
+-- the capture is read, and the judge ends well with it
 abbrev pub WholeRunsEndWell : Type 0
 WholeRunsEndWell =
-    (start : Start) (turns : List Turn) → IsPlain start → IsWhole start → NumbersFit start → RunFits start turns → (side : Side) (at : Option Side)
-    → (judged : JudgedValue) × (judged_capture at true (capture_of start turns side) ≡ Ok judged) × ((ending_of judged ≡ Kept) ⊎ (ending_of judged ≡ NoConnection))
+    (start : Start) (turns : List Turn) → IsPlain start → IsWhole start → NumbersFit start → RunFits start turns
+    → (side : Side) (at : Option Side)
+    → (judged : JudgedValue) × (judged_capture at true (capture_of start turns side) ≡ Ok judged) × EndsWell judged

@@ -74,8 +74,8 @@ pub fn whole_runs_break_no_rule()
     ensures data_ack { NoWholeRunBreaks DataAck }
 {}
 
-/// A law: the judge ends well with the capture of such a run, at whichever side it was taken and wherever the judge takes that to be: the capture is
-/// read, no side broke any rule, and each join's connection was found; or no connection was opened yet. The premises are those of
+/// A law: the judge ends well with the capture of such a run, at whichever side it was taken, and wherever the judge takes that to be. The
+/// capture is read, no side broke any rule, and each join's connection was found; or no connection was opened yet. The premises are those of
 /// `whole_runs_break_no_rule`.
 pub fn whole_runs_end_well()
     ensures { WholeRunsEndWell }

@@ -18,6 +18,7 @@ fn put_behind<A: Drop>(crew: &mut Vec<Crew<A>>, riders: Vec<Mounted<A>>)
 }
 
 /// The actors as riders without passes. The vector is empty then and keeps its room; without memory it stays as it was.
+#[tactic(auto, using(crate::proofs::WholeRounds::put_again))]
 pub(crate) fn mount<A: Drop>(
     alloc: Global,
     crew: &mut Vec<Crew<A>>,

@@ -57,13 +57,13 @@ use Rattle.world_laws.specs.StampedBooks.{answer_to}
 use Rattle.world_laws.specs.Worlds.{WorldState, Turn, after_turn}
 use Rattle.world_laws.proofs.Whole.Ends.{MeansIs, means_so}
 use Rattle.world_laws.specs.Writes.{side_of}
+use Rattle.whole_paths.specs.Copies.{LinksAreNumbered}
 use Rattle.whole_paths.specs.AgendaSteps.{is_silent}
 use Rattle.whole_paths.specs.Answered.{CopiesAreAnswered, HasAnswered}
 use Rattle.whole_paths.specs.AsFar.{stage}
 use Rattle.whole_paths.specs.Brought.{comes_before_keeping, IsToKeep, IsThere, StaysThere, Comes, IsTo, Brings, KeepsWhatComes, PathsKeepWhatComes}
 use Rattle.whole_paths.specs.Brought.{IsThere as there}
 use Rattle.whole_paths.specs.Brought.{StaysThere as octet_goes}
-use Rattle.whole_paths.specs.Harms.{longest_way}
 use Rattle.whole_paths.specs.InHand.{IsInHand, IsInOrder, IsPartial, HandGoesOn, HandComesSo, HandsGoOn, WhatIsInHandIsAcknowledged}
 use Rattle.whole_paths.specs.InHand.{HandGoesOn as hand}
 use Rattle.whole_paths.specs.Mapped.{IsToLearn, IsMapped, StaysMapped, KnowsWhatIsTold, PathsKnowWhatIsTold, EndsAreLive, AreLive, MappingsAreLive}
@@ -295,7 +295,7 @@ module _ {C : Type 0} where
         (λ octets. ⊎_elim
         (λ mapped. (
           hand.on (record {
-            in_time = (let way = frames.way s in let low = h.in_time in omega (arith, clock, way, low));
+            in_time = (let low = h.in_time in omega (arith, clock, low));
             opened = (let low = h.opened in let up = (turned.far s).subflow.state in omega (arith, low, up));
             due = due;
             octets = octets;
@@ -514,7 +514,7 @@ module _ {C : Type 0} where
     until = b.position + length b.copy.segment.payload
 
     abbrev soon : ℕ
-    soon = q.clock + longest_way taker q.link
+    soon = q.clock + 400
 
     abbrev Begins : Type 0
     Begins = (go : HandGoesOn k taker until soon p q) × HandComesSo Was go
@@ -576,9 +576,9 @@ module _ {C : Type 0} where
   abbrev pub HandsComeSo : (PlainSegment → Type 0) → Codec C → Actor C → Actor C → Type 0
   HandsComeSo Was k (Path p) (Path q) =
       ((b : Brings k p) → IsInOrder k p b
-      → (q ≡ p) ⊎ ((go : HandGoesOn k b.copy.due.to (b.position + length b.copy.segment.payload) (q.clock + longest_way b.copy.due.to q.link) p q) × HandComesSo Was go))
+      → (q ≡ p) ⊎ ((go : HandGoesOn k b.copy.due.to (b.position + length b.copy.segment.payload) (q.clock + 400) p q) × HandComesSo Was go))
       × (((c : Comes k p) → IsTo k p c (judged.As means.Outside) → 3 ≤ stage (end_at c.due.to p).tcp.state
-      → (q ≡ p) ⊎ ((go : AnswerGoesOn k c.due.to (end_at c.due.to p).tcp.recv.edge (q.clock + longest_way c.due.to q.link) p q) × AnswerComesSo Was go))
+      → (q ≡ p) ⊎ ((go : AnswerGoesOn k c.due.to (end_at c.due.to p).tcp.recv.edge (q.clock + 400) p q) × AnswerComesSo Was go))
       × ((s : Side) (position by_then : ℕ) → segments_sent s p.link < 2 ^ 64 - 1 → GoesSo Was s p → IsInHand s position by_then p → (go : HandGoesOn k s position by_then p q) × HandComesSo Was go))
   HandsComeSo Was k (App a) (App b) = Unit {0}
   HandsComeSo Was k _ _ = ⊥
@@ -595,7 +595,7 @@ module _ {C : Type 0} where
   )
     where
       outside_so : (c : Comes k p) → 3 ≤ stage (end_at c.due.to p).tcp.state → (end_at c.due.to q).tcp.due.ack ≡ true
-          → AnswerGoesOn k c.due.to (end_at c.due.to p).tcp.recv.edge (q.clock + longest_way c.due.to q.link) p q
+          → AnswerGoesOn k c.due.to (end_at c.due.to p).tcp.recv.edge (q.clock + 400) p q
       outside_so c high due = (let far = turned.far c.due.to in let state = far.subflow.state in goes.on (owes (le_refl _) (omega (arith, high, state)) far.subflow.received due))
   hands_come Was k (App a) (Path q) turned frames keeps knows hands answers owed answered passed live = absurd turned
   hands_come Was k (Path p) (App b) turned frames keeps knows hands answers owed answered passed live = absurd turned
@@ -613,9 +613,9 @@ module _ {C : Type 0} where
   pub same_actor : (P : ActorCrew C → Type 0) (v : WorldState C) (actor : ℕ) (d : ActorCrew C) → slice_get v.crew actor ≡ Some d → ((e : ActorCrew C) × (slice_get v.crew actor ≡ Some e) × P e) → P d
   same_actor P v actor d at x = subst P (same_Some x.0 d (sym x.1 ∙ at)) x.2
 
-  pub hands_come_so : (Was : PlainSegment → Type 0) (k : Codec C) (w : WorldState C) → CopiesAreAnswered w → WhatIsInOrderIsPassed w → MappingsAreLive w → (turn : Turn) (actor : ℕ) (c : ActorCrew C)
+  pub hands_come_so : (Was : PlainSegment → Type 0) (k : Codec C) (w : WorldState C) → CopiesAreAnswered w → LinksAreNumbered w → WhatIsInOrderIsPassed w → MappingsAreLive w → (turn : Turn) (actor : ℕ) (c : ActorCrew C)
       → slice_get w.crew actor ≡ Some c → (d : ActorCrew C) × (slice_get (after_turn k turn w).crew actor ≡ Some d) × HandsComeSo Was k c.member d.member
-  hands_come_so Was k w answered passed live turn actor c at =
+  hands_come_so Was k w answered numbered passed live turn actor c at =
       let turned = turned_to k w turn actor c at in
       let d : ActorCrew C = turned.0 in
       let v : WorldState C = after_turn k turn w in (
@@ -626,11 +626,11 @@ module _ {C : Type 0} where
             (same_actor (λ x. PathsKeepWhatComes k c.member x.member) v actor d turned.1 (what_comes_is_kept k w turn actor c at))
             (same_actor (λ x. PathsKnowWhatIsTold k c.member x.member) v actor d turned.1 ((what_is_told_is_known k).goes_on w live turn actor c at))
             (same_actor (λ x. PathsHandOver k c.member x.member) v actor d turned.1 (each_segment_says_what_came k w turn actor c at))
-            (same_actor (λ x. AnswersComeSo Was k c.member x.member) v actor d turned.1 (answers_come_so Was k w answered turn actor c at))
+            (same_actor (λ x. AnswersComeSo Was k c.member x.member) v actor d turned.1 (answers_come_so Was k w answered numbered turn actor c at))
             (same_actor (λ x. Owing k c.member x.member) v actor d turned.1 (owing_turn k w turn actor c at))
             (answered.each actor c at) (passed.each actor c at) (live.each actor c at),
       )
 
   pub what_is_in_hand_is_acknowledged : (k : Codec C) → WhatIsInHandIsAcknowledged k
-  what_is_in_hand_is_acknowledged k w answered passed live turn actor c at =
-      let go = hands_come_so (λ x. Unit {0}) k w answered passed live turn actor c at in (go.0, go.1, whatever_comes k c.member go.0.member go.2)
+  what_is_in_hand_is_acknowledged k w answered numbered passed live turn actor c at =
+      let go = hands_come_so (λ x. Unit {0}) k w answered numbered passed live turn actor c at in (go.0, go.1, whatever_comes k c.member go.0.member go.2)

@@ -20,7 +20,6 @@ use Rattle.whole_paths.specs.AskStages.{AnswerIsAwaitedBy, AnswerIsAwaitedFrom, 
 use Rattle.whole_paths.specs.AskStages.{AnswerIsAwaitedOn as goes}
 use Rattle.whole_paths.specs.Courses.{BeginsARound, TakesAStep, counted, round_end}
 use Rattle.whole_paths.specs.Finish.{IsPathAt}
-use Rattle.whole_paths.specs.Harms.{longest_way}
 use Rattle.whole_paths.specs.Mild.{IsMildStart}
 use Rattle.whole_paths.specs.News.{Counts as counts}
 use Rattle.whole_paths.specs.OpenAsks.{AskIsDue, IsHardlyAwry}
@@ -180,7 +179,7 @@ module _ (start : Start) (plan : PathPlan) (one : start.paths ≡ plan ∷ []) (
             side = h.side;
             place = h.place;
             fin = h.fin;
-            by = h.path.clock + 60000 + longest_way h.side h.path.link + longest_way (peer h.side) h.path.link;
+            by = h.path.clock + 60000 + 400 + 400;
             soon = (let clock = (near h.path h.here).clock in let low = h.near in let ends = until h.path h.here in omega (arith, clock, low, ends));
             room = h.room;
             waits = begun h.path h.here (opened h.path h.here) (silent h.path h.here) h.side h.none h.place h.fin h.unanswered h.has;

@@ -42,14 +42,14 @@ use Rattle.whole_paths.specs.Answered.IsDone.{next, over}
 use Rattle.whole_paths.specs.AnsweredExpiries.{IsAnsweredAt, IsAnsweredInTime, IsHeardBy, IsLivingTurn, IsOwed, OpensOn, SegmentsMeanSo}
 use Rattle.whole_paths.specs.AnsweredExpiries.{IsHeardBy as heard}
 use Rattle.whole_paths.specs.AnsweredExpiries.{OpensOn as opening}
-use Rattle.whole_paths.specs.Copies.{CopiesGoOn, GoesOnItsWay, IsUnderWay}
+use Rattle.whole_paths.specs.Copies.{CopiesAreNumbered, CopiesGoOn, GoesOnItsWay, IsUnderWay}
 use Rattle.whole_paths.specs.Copies.{GoesOnItsWay as going}
 use Rattle.whole_paths.specs.Expiries.{Expires, IsToSend, IsToSendAgain, PathsGoAgain, RunsOut, SendsAgain}
 use Rattle.whole_paths.specs.ExpiriesInARow.{ExpiriesAreAnswered, in_a_row}
 use Rattle.whole_paths.specs.FewLossesEnd.{RunsAlive}
 use Rattle.whole_paths.specs.Finish.{IsPathAt, harmed, is_harmed}
 use Rattle.whole_paths.specs.InTime.{ComesFrom}
-use Rattle.whole_paths.specs.Mending.{CopiesAreNumbered, IsSentSoon}
+use Rattle.whole_paths.specs.Mending.{IsSentSoon}
 use Rattle.whole_paths.specs.Mild.{LinkIsMild}
 use Rattle.whole_paths.specs.OwedGoes.{IsReply, OwedGoes}
 use Rattle.whole_paths.specs.OwedGoes.{IsReply as reply}

@@ -25,7 +25,7 @@ use Rattle.whole_paths.proofs.KnownWindows.{unshut_at}
 
 module _ (start : Start) (plan : PathPlan) (one : start.paths ≡ plan ∷ []) (mild : IsMildStart start) where
   -- B's side received nothing before A has its SYN, but for the end of A's stream perhaps
-  fewer : (turns : List Turn) (p : PathState Carried) → IsPathAt 0 (reached values start turns) p → IsAlive p → stage p.a.tcp.state ≤ 1 → next_wanted (arrived_at B (reached values start turns)) < 2
+  pub fewer : (turns : List Turn) (p : PathState Carried) → IsPathAt 0 (reached values start turns) p → IsAlive p → stage p.a.tcp.state ≤ 1 → next_wanted (arrived_at B (reached values start turns)) < 2
   fewer turns p here alive low = by (is_end (arrived_at B w).known_end (received (arrived_at B w)))
     where
       w : WorldState Carried
@@ -48,7 +48,7 @@ module _ (start : Start) (plan : PathPlan) (one : start.paths ≡ plan ∷ []) (
       by false = (let empty = none in omega (arith, empty))
 
   pub none_is_shut_before : 2 ≤ start.buffer → (turns : List Turn) (p : PathState Carried) → IsPathAt 0 (reached values start turns) p → IsAlive p → p.a.tcp.send.nxt ≤ 1 → p.a.sending.shut ≡ false
-  none_is_shut_before room = unshut_at start plan one mild A 2 room fewer
+  none_is_shut_before room = unshut_at start plan one mild A 2 1 (omega arith) (omega arith) room (λ turns p here alive low. (let few = fewer turns p here alive low in omega (arith, few)))
 
 pub no_window_is_shut_before : NoWindowIsShutBefore
 no_window_is_shut_before start plan turns x p here alive few = none_is_shut_before start plan x.one x.mild (let room = x.buffer in omega (arith, room)) turns p here alive few

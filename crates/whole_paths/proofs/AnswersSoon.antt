@@ -21,7 +21,8 @@ use Rattle.whole_paths.specs.AnswersSoon.{EachSynAckIsAnsweredSoon, SynAckIsAnsw
 use Rattle.whole_paths.specs.AsFar.{stage}
 use Rattle.whole_paths.specs.Exchanges.{IsBareWithin}
 use Rattle.whole_paths.specs.Finish.{is_harmed}
-use Rattle.whole_paths.specs.Mending.{CopiesAreNumbered, IsSentSoon}
+use Rattle.whole_paths.specs.Copies.{CopiesAreNumbered}
+use Rattle.whole_paths.specs.Mending.{IsSentSoon}
 use Rattle.whole_paths.specs.Owed.{Covers, IsAnswered}
 use Rattle.whole_paths.specs.RecordsGo.{IsOneSo}
 use Rattle.whole_paths.specs.SynAcks.{IsSynAnswered, IsToBeAnswered}

@@ -57,7 +57,6 @@ use Rattle.whole_paths.specs.Due.{CopiesArriveSo}
 use Rattle.whole_paths.specs.Exchanges.{IsFaithful}
 use Rattle.whole_paths.specs.Exchanges.{IsHeldUp as held}
 use Rattle.whole_paths.specs.Flights.{IsFirst}
-use Rattle.whole_paths.specs.Harms.{longest_way}
 use Rattle.whole_paths.specs.InTime.{ComesFrom}
 use Rattle.whole_paths.specs.Kept.{EndsKeepWhatWaits, KeepsWhatWaits}
 use Rattle.whole_paths.specs.Mild.{IsUnbroken, EndsGoByMappings, EndsHaveKeys, NeverBreaks, HasKeys, IsNeverBroken, IsMildStart, KeysAreKnown, LinkIsMild, MappingIsKept}
@@ -94,6 +93,7 @@ use Rattle.whole_paths.proofs.OpenPieces.{AgreesWith, EndsAgreeWith, closed_stay
 use Rattle.whole_paths.proofs.Reached.{EndsAreReached, each_is_reached, none_left}
 use Rattle.whole_paths.proofs.Sent.{what_came_was_sent}
 use Rattle.whole_paths.proofs.Straying.{never_resets}
+use Rattle.whole_paths.proofs.SentSoon.{what_is_sent_comes_soon}
 
 -- ---- what held of a sender
 
@@ -290,18 +290,17 @@ module _ (books : StampedBooks) (later : SixBooks) (steps : List Note) (p q : Pa
     ask_comes : Goes
     ask_comes = ⊎_elim (λ none. absurd (both_ways (is_data_fin_owed a.sender) none so.1)) (λ owes_it. end_comes owes_it.0 owes_it.1) so.0.ends
 
-  asking_goes : (arrival : ℕ) → arrival + longest_way (peer s) p.link ≤ by → (go : AskingGoesOn values s arrival p q) → AskComesSo (Asks base) go → Goes
+  asking_goes : (arrival : ℕ) → arrival + 400 ≤ by → (go : AskingGoesOn values s arrival p q) → AskComesSo (Asks base) go → Goes
   asking_goes arrival soon (asking.on next) so = ⊎_elim
       (λ more. ask.held_up (held.news (news.on_subflow more)))
       (λ low. (let same : (end_at s q).tcp.send.una ≡ base = (let up = (t.kept s).una in omega (arith, low, up)) in let parts = parts_so (IsAskedPlainly base) Owes next so in
-      waits_on (asks arrival (let way = t.frames.way (peer s) in omega (arith, way, soon)) next (subst (λ n. IsAskedSo (IsAskedPlainly n) next) (sym same) parts.0)) (inr parts.1)))
+      waits_on (asks arrival (omega (arith, soon)) next (subst (λ n. IsAskedSo (IsAskedPlainly n) next) (sym same) parts.0)) (inr parts.1)))
       (cases_lt base (end_at s q).tcp.send.una)
   asking_goes arrival soon (asking.arrives f in_time there a others first next) so = ask_comes f there a so others first next
-  asking_goes arrival soon (asking.record_waits r none first way) so = rises r none first
+  asking_goes arrival soon (asking.record_waits r none first way ungone) so = rises r none first
   asking_goes arrival soon (asking.news is) so = ask.held_up (held.news is)
   asking_goes arrival soon (asking.done none) so = done_goes none
-  asking_goes arrival soon (asking.harmed less) so = ask.held_up (held.harmed less)
-  asking_goes arrival soon (asking.lost y of_it taken loses) so = ask.held_up (held.lost s y taken loses)
+  asking_goes arrival soon (asking.harmed is) so = ask.held_up (held.harmed s is)
   asking_goes arrival soon (asking.gone dead) so = absurd (both_ways _ (t.open_q.living s) dead)
   asking_goes arrival soon (asking.dies line next is dead) so = ask.held_up (held.dies line next is dead)
 
@@ -443,7 +442,7 @@ begins_so six (Path p) mapped asked = λ opened done s none place fin still has.
       none = none;
       unanswered = still;
       has = has;
-      inquiry = asks (p.clock + 60000 + longest_way s p.link) (le_refl (p.clock + 60000 + longest_way s p.link + longest_way (peer s) p.link)) next.0 parts.0;
+      inquiry = asks (p.clock + 60000 + 400) (le_refl (p.clock + 60000 + 400 + 400)) next.0 parts.0;
       end = inr parts.1;
     }
 
@@ -498,7 +497,7 @@ turn_of start turns turn plan one mild actor c d was now =
       wanted = what_is_heard_is_wanted start turns size actor c was;
       go = same_actor (λ x. InquiriesGoOn w.books x.list c.member x.member) v actor d now (each_ask_is_answered.goes_on start turns plan one size mild.fit turn actor c was);
       hardly = open_ends_hardly_go_awry start turns turn mild actor c d was now;
-      come = λ Was. same_actor (λ x. AsksComeSo Was values c.member x.member) v actor d now (asks_come_so Was values w late turn actor c was);
+      come = λ Was. same_actor (λ x. AsksComeSo Was values c.member x.member) v actor d now (asks_come_so Was values w late ((what_is_sent_comes_soon values).numbered start turns) turn actor c was);
     }
 
 pub open_asks_are_answered : OpenAsksAreAnswered

@@ -76,7 +76,7 @@ same_size [] (y ∷ ys) is = absurd (true≢false (sym is))
 same_size (x ∷ xs) [] is = absurd (true≢false (sym is))
 same_size (x ∷ xs) (y ∷ ys) is = ap suc (same_size xs ys (and_parts (x == y) (are_same xs ys) is).1)
 
-part_size : (p : Lane) (m : Mapping) → IsRight p.sent m → length (part_of p.sent m) ≡ m.len
+pub part_size : (p : Lane) (m : Mapping) → IsRight p.sent m → length (part_of p.sent m) ≡ m.len
 part_size p m right =
     let bytes : List ℕ = map (λ c. c.byte) p.sent in
     let within = right.within in

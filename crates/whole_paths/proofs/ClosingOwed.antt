@@ -36,7 +36,7 @@ use Rattle.whole_paths.proofs.Paying.{settled_due}
 use Rattle.whole_paths.proofs.Turns.{turn_each}
 
 -- by its positions, or by what it says
-owing_due : (wants : Bool) (x : EndState) (c : Copy) → (0 < occupied c) ⊎ (wants ≡ true) → (owing_if wants (after_occupying c x)).due.ack ≡ true
+pub owing_due : (wants : Bool) (x : EndState) (c : Copy) → (0 < occupied c) ⊎ (wants ≡ true) → (owing_if wants (after_occupying c x)).due.ack ≡ true
 owing_due true x c either = refl
 owing_due false x c (inl more) = ap (λ b. (if b then owing_ack x.due else x.due).ack) (lt-ltb 0 (occupied c) more)
 owing_due false x c (inr wants) = absurd (true≢false (sym wants))

@@ -38,59 +38,7 @@ use Rattle.whole_paths.proofs.Courses.{harmed_append}
 use Rattle.whole_paths.proofs.Due.{Counted, LinkIs, LinkMember, each_link}
 use Rattle.whole_paths.proofs.News.{each_news_counts, news_never_falls}
 
--- ---- a segment that the link loses
-
-none_arrives : (told chance refused : Bool) (fate : Fate) (tick : ℕ) → (chance || refused) ≡ true → arrivals (fate_by (told || chance) refused fate) tick ≡ []
-none_arrives true chance refused fate tick lost = refl
-none_arrives false true refused fate tick lost = refl
-none_arrives false false true fate tick lost = refl
-none_arrives false false false fate tick lost = absurd (true≢false (sym lost))
-
-none_any : {X : Type 0} (test : X → Bool) (xs : List X) → ((i : ℕ) (x : X) → slice_get xs i ≡ Some x → test x ≡ false) → list_any test xs ≡ false
-none_any test [] none = refl
-none_any test (x ∷ xs) none = or_from (test x) (list_any test xs) (none 0 x refl) (none_any test xs (λ i y there. none (suc i) y there))
-
-module _ {C : Type 0} where
-  -- one was taken from the side, and no copy of it comes in time
-  abbrev HarmedOn : Side → ℕ → LinkState C → LinkState C → Type 0
-  HarmedOn s now l m =
-      let number = segments_sent s m in
-      (nat_lt (segments_sent s l) number && not (list_any (λ f. same_side f.to (peer s) && (f.number == number && nat_le f.tick (now + 400))) m.under_way)) ≡ true
-
-  -- no copy under way has the number of the next segment
-  none_has : (s : Side) (now number : ℕ) (l : LinkState C) → segments_sent s l < number → Every (Counted l) l.under_way
-      → list_any (λ f. same_side f.to (peer s) && (f.number == number && nat_le f.tick (now + 400))) l.under_way ≡ false
-  none_has s now number l next low = none_any _ l.under_way (λ i f there. by f (low.each i f there) (same_side f.to (peer s)) refl)
-    where
-      by : (f : Flight C) → Counted l f → (b : Bool) → same_side f.to (peer s) ≡ b → (b && (f.number == number && nat_le f.tick (now + 400))) ≡ false
-      by f few false is = refl
-      by f few true is =
-          let few_sent : f.number ≤ segments_sent s l =
-          subst (λ t. f.number ≤ segments_sent t l) (ap peer (one_side f.to (peer s) is) ∙ sender_of s) few in
-          ap (λ b. b && nat_le f.tick (now + 400)) (ne_eqb f.number number (λ same. omega (arith, same, few_sent, next)))
-
-  lost_harms : (strip alter : Side → C → C) (s : Side) (carried : C) (size now : ℕ) (l : LinkState C) → segments_sent s l < 2 ^ 64 - 1 → Every (Counted l) l.under_way → loses s size now l ≡ true
-      → HarmedOn s now l (after_send strip alter s carried size now l)
-  lost_harms strip alter A carried size now l few low lost =
-      subst (λ (ticks : List ℕ). (nat_lt l.from_a (next_number A l)
-      && not (list_any (λ f. same_side f.to B && (f.number == next_number A l && nat_le f.tick (now + 400))) (with_flights B (next_number A l) (as_it_arrives strip alter A carried now l) ticks l.under_way))) ≡ true)
-      (sym none)
-      (and_from (nat_lt l.from_a (next_number A l)) (not (list_any (λ f. same_side f.to B && (f.number == next_number A l && nat_le f.tick (now + 400))) l.under_way))
-      (lt-ltb l.from_a (next_number A l) (omega (arith, few))) (ap not (none_has A now (next_number A l) l (omega (arith, few)) low)))
-    where
-      none : arrivals (fate_by (is_lost (fate_of A (next_number A l) l.lines) || is_lost_by_chance A (next_number A l) l) (is_refused A size now l) (fate_of A (next_number A l) l.lines)) (first_arrival A (next_number A l) size now l) ≡ []
-      none = none_arrives (is_lost (fate_of A (next_number A l) l.lines)) (is_lost_by_chance A (next_number A l) l) (is_refused A size now l) (fate_of A (next_number A l) l.lines) (first_arrival A (next_number A l) size now l) lost
-  lost_harms strip alter B carried size now l few low lost =
-      subst (λ (ticks : List ℕ). (nat_lt l.from_b (next_number B l)
-      && not (list_any (λ f. same_side f.to A && (f.number == next_number B l && nat_le f.tick (now + 400))) (with_flights A (next_number B l) (as_it_arrives strip alter B carried now l) ticks l.under_way))) ≡ true)
-      (sym none)
-      (and_from (nat_lt l.from_b (next_number B l)) (not (list_any (λ f. same_side f.to A && (f.number == next_number B l && nat_le f.tick (now + 400))) l.under_way))
-      (lt-ltb l.from_b (next_number B l) (omega (arith, few))) (ap not (none_has B now (next_number B l) l (omega (arith, few)) low)))
-    where
-      none : arrivals (fate_by (is_lost (fate_of B (next_number B l) l.lines) || is_lost_by_chance B (next_number B l) l) (is_refused B size now l) (fate_of B (next_number B l) l.lines)) (first_arrival B (next_number B l) size now l) ≡ []
-      none = none_arrives (is_lost (fate_of B (next_number B l) l.lines)) (is_lost_by_chance B (next_number B l) l) (is_refused B size now l) (fate_of B (next_number B l) l.lines) (first_arrival B (next_number B l) size now l) lost
-
-one_harmed : (s : Side) (p q : PathState Carried) → is_harmed s p q ≡ true → 0 < harms_between (Path p) (Path q)
+pub one_harmed : (s : Side) (p q : PathState Carried) → is_harmed s p q ≡ true → 0 < harms_between (Path p) (Path q)
 one_harmed A p q is = let one = ap one_if is in omega (arith, one)
 one_harmed B p q is = let one = ap one_if is in omega (arith, one)
 
@@ -140,16 +88,10 @@ module _ (start : Start) (turns : List Turn) (turn : Turn) where
         counts_so : ActorCounts (Path p) (Path q) → Rises
         counts_so is = by_counts (subst (λ m. ActorCounts m d.member) (sym from) (subst (λ n. ActorCounts (Path p) n) (sym to) is))
 
-        lost_so : (t : Side) (x : PlainSegment) → q.link ≡ handed values t x p → loses t (length (made p.profile.spelling t x)) p.clock p.link ≡ true → is_harmed t p q ≡ true
-        lost_so t x taken gone = subst (λ (l : LinkState Carried). HarmedOn t p.clock p.link l) (sym taken)
-            (lost_harms (values.strips p.profile.spelling) (values.alters p.profile.spelling) t (values.makes p.profile.spelling t x) (length (made p.profile.spelling t x)) p.clock p.link (few t) link.low gone)
-
         by : IsHeldUp s p q → Rises
         by (held.news is) = counts_so (counts.at_end s is)
         by (held.more_came more) = counts_so (counts.in_order s more)
-        by (held.harmed less) = counts_so (counts.harm less)
-        by (held.lost t x taken gone) =
-            by_harm c d was now (subst (λ m. 0 < harms_between m d.member) (sym from) (subst (λ n. 0 < harms_between (Path p) n) (sym to) (one_harmed t p q (lost_so t x taken gone))))
+        by (held.harmed t is) = by_harm c d was now (subst (λ m. 0 < harms_between m d.member) (sym from) (subst (λ n. 0 < harms_between (Path p) n) (sym to) (one_harmed t p q is)))
         by (held.gone t (inl dead)) = absurd (true≢false (sym dead ∙ living_p t))
         by (held.gone t (inr dead)) = absurd (true≢false (sym dead ∙ living_q t))
         by (held.dies line next is dead) = absurd (true≢false (sym dead ∙ living_q A))

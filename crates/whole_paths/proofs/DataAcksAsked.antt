@@ -38,7 +38,7 @@ use Rattle.world_laws.specs.Members.{HoldsOfKind}
 use Rattle.world_laws.specs.NeverFalls.{StripsNothing}
 use Rattle.world_laws.specs.Openings.{Start, opened_world}
 use Rattle.world_laws.specs.Worlds.{WorldState, Turn, after_turn, world_run}
-use Rattle.whole_paths.specs.Copies.{IsUnderWay, GoesOnItsWay, CopiesGoOn}
+use Rattle.whole_paths.specs.Copies.{IsUnderWay, GoesOnItsWay, CopiesGoOn, CopiesAreNumbered, LinksAreNumbered}
 use Rattle.whole_paths.specs.Copies.{GoesOnItsWay as copy}
 use Rattle.whole_paths.specs.DataAcksAsked.{IsAsking, IsAskedAgain, AskingGoesOn, IsAskedSo, AskComesSo, AsksGoOn, IsAskedAtTheEnd, WhatIsAskedComes}
 use Rattle.whole_paths.specs.DataAcksAsked.IsAskedAgain.{waits, resends, flies}
@@ -46,7 +46,7 @@ use Rattle.whole_paths.specs.DataAcksAsked.{AskingGoesOn as goes}
 use Rattle.whole_paths.specs.Expiries.{IsToSend, IsToSendAgain, PathsGoAgain, GoesAgain, Expires}
 use Rattle.whole_paths.specs.Flights.{IsFirst}
 use Rattle.whole_paths.specs.Flights.{IsOnItsWay as way}
-use Rattle.whole_paths.specs.Harms.{harms_left, as_it_arrives, longest_way, IsOnTime}
+use Rattle.whole_paths.specs.Mending.{IsSentSoon}
 use Rattle.whole_paths.specs.InTime.{ComesFrom, NothingIsOverdue}
 use Rattle.whole_paths.specs.Kept.{IsSameRecord}
 use Rattle.whole_paths.specs.Reasons.{IsOutstanding, IsTimedWhereItWaits}
@@ -58,11 +58,11 @@ use Rattle.whole_paths.specs.Waits.{IsSettledAtTheEnd}
 use Rattle.whole_paths.proofs.Copies.{copies_leave}
 use Rattle.whole_paths.proofs.Flying.{Frames, FramesStay, frames_stay}
 use Rattle.whole_paths.proofs.InTime.{timer_behind}
-use Rattle.whole_paths.proofs.Links.{each_uses_a_line_or_comes}
 use Rattle.whole_paths.proofs.Reasons.{who_waits_has_a_timer}
 use Rattle.whole_paths.proofs.Resending.{what_runs_out_goes_again}
 use Rattle.whole_paths.proofs.Running.{timers_run_on}
 use Rattle.whole_paths.proofs.Saying.{ToSend, each_segment_says_what_came}
+use Rattle.whole_paths.proofs.SentSoon.{segments_come_soon}
 use Rattle.whole_paths.proofs.Timing.{timers_run_out}
 use Rattle.whole_paths.proofs.Waiting.{no_timer_is_put_off}
 
@@ -92,22 +92,22 @@ module _ {C : Type 0} where
     first_of r others is = record { first = r; others = others; records = is; same = same_record r }
 
     -- the timer runs on, for this or for a record
-    running_on : (end_at s p).tcp.send.records ≡ [] → (tick : ℕ) → tick + longest_way s q.link ≤ by_then → IsRunning tick (end_at s q) → Next
+    running_on : (end_at s p).tcp.send.records ≡ [] → (tick : ℕ) → tick + 400 ≤ by_then → IsRunning tick (end_at s q) → Next
     running_on had tick low h = by (end_at s q).tcp.send.records refl
       where
         by : (rs : List Record) → (end_at s q).tcp.send.records ≡ rs → Next
         by [] none = (goes.on (waits tick low h none), tt)
-        by (r ∷ others) is = (goes.record_waits r had (first_of r others is) (way.waits tick low (record { timer = h.timer; settled = h.settled; first = r; others = others; records = is; living = h.living }) (first_of r others is)), tt)
+        by (r ∷ others) is = (goes.record_waits r had (first_of r others is) (way.waits tick low (record { timer = h.timer; settled = h.settled; first = r; others = others; records = is; living = h.living }) (first_of r others is)) tt, tt)
 
-    sending_on : (end_at s p).tcp.send.records ≡ [] → q.clock + longest_way s q.link ≤ by_then → IsToSendAgain s q → Next
+    sending_on : (end_at s p).tcp.send.records ≡ [] → q.clock + 400 ≤ by_then → IsToSendAgain s q → Next
     sending_on had low next = by (end_at s q).tcp.send.records refl
       where
         by : (rs : List Record) → (end_at s q).tcp.send.records ≡ rs → Next
         by [] none = (goes.on (resends low next none), tt)
-        by (r ∷ others) is = (goes.record_waits r had (first_of r others is) (way.resends low next (first_of r others is)), tt)
+        by (r ∷ others) is = (goes.record_waits r had (first_of r others is) (way.resends low next (first_of r others is)) tt, tt)
 
-    waits_goes : GoesAgain k p q → ComesFrom p.clock p → (tick : ℕ) → tick + longest_way s p.link ≤ by_then → IsRunning tick (end_at s p) → (end_at s p).tcp.send.records ≡ [] → RunsOn s tick p q → Next
-    waits_goes again past tick low h none (run.on on) = running_on none tick (let way = frames.way s in omega (arith, way, low)) on
+    waits_goes : GoesAgain k p q → ComesFrom p.clock p → (tick : ℕ) → tick + 400 ≤ by_then → IsRunning tick (end_at s p) → (end_at s p).tcp.send.records ≡ [] → RunsOn s tick p q → Next
+    waits_goes again past tick low h none (run.on on) = running_on none tick (omega (arith, low)) on
     waits_goes again past tick low h none (run.news news) = (goes.news news, tt)
     waits_goes again past tick low h none (run.gone gone) = (goes.gone gone, tt)
     waits_goes again past tick low h none (run.done done) = (goes.done done, tt)
@@ -122,44 +122,28 @@ module _ {C : Type 0} where
             (λ many. (goes.gone (expired.sixth many), tt))
             (cases_lt (end_at s p).tcp.timing.expiries 5)
           where
-            in_time : q.clock + longest_way s q.link ≤ by_then
+            in_time : q.clock + 400 ≤ by_then
             in_time =
                 let early = timer_behind s (happenings.Fires s at) tick p out.next h.timer in
                 let from = timer_from s tick p past h.timer in
-                let way = frames.way s in
-                omega (arith, clock, early, from, way, low)
+                omega (arith, clock, early, from, low)
 
-    flown : (x : PlainSegment) → x ≡ ack_resent p.profile s (end_at s p) → q.link ≡ handed k s x p → (end_at s p).tcp.send.records ≡ [] → p.clock + longest_way s p.link ≤ by_then → segments_sent s p.link < 2 ^ 64 - 1 → Next
-    flown x asks taken none low few = ⊎_elim
-        (λ less. (goes.harmed (subst (λ (l : LinkState C). harms_left l < harms_left p.link) (sym taken) less), tt))
-        (λ comes. ⊎_elim (λ lost. (goes.lost x asks taken lost, tt)) by comes.1)
-        (each_uses_a_line_or_comes (k.strips p.profile.spelling) (k.alters p.profile.spelling) s (k.makes p.profile.spelling s x) size p.clock p.link few)
+    flown : CopiesAreNumbered p → (x : PlainSegment) → x ≡ ack_resent p.profile s (end_at s p) → q.link ≡ handed k s x p → (end_at s p).tcp.send.records ≡ [] → p.clock + 400 ≤ by_then → segments_sent s p.link < 2 ^ 64 - 1 → Next
+    flown numbered x asks taken none low few = ⊎_elim (λ harmed. (goes.harmed harmed, tt)) by (segments_come_soon k p q numbered s x few taken)
       where
-        size : ℕ
-        size = length (made p.profile.spelling s x)
-
-        after : LinkState C
-        after = handed k s x p
-
-        by : Has (IsOnTime s size p.clock (as_it_arrives (k.strips p.profile.spelling) (k.alters p.profile.spelling) s (k.makes p.profile.spelling s x) p.clock p.link) p.link) after.under_way → Next
-        by has = (
-          goes.on (flies has.item (let in_time = has.holds.in_time in omega (arith, in_time, low))
-              (subst (λ (l : LinkState C). Has (λ g. g ≡ has.item) l.under_way) (sym taken) (record { at = has.at; item = has.item; there = has.there; holds = refl }))
-              (record {
-                to = has.holds.to;
-                sender = end_at s p;
-                stripped = is_stripped s (next_number s p.link) p.clock p.link.lines;
-                altered = is_altered s (next_number s p.link) p.link.lines;
-                whole = λ strips. (subst StripsNothing frames.lines strips).strips s (next_number s p.link) p.clock;
-                plain = λ alters. (subst AltersNothing frames.lines alters).alters s (next_number s p.link);
-                carried = subst (λ (c : Profile). has.item.carried
-                    ≡ changed (k.strips c.spelling s) (k.alters c.spelling s) (is_stripped s (next_number s p.link) p.clock p.link.lines) (is_altered s (next_number s p.link) p.link.lines)
-                    (k.makes c.spelling s (ack_resent c s (end_at s p)))) (sym frames.profile)
-                    (subst (λ (y : PlainSegment). has.item.carried
-                    ≡ changed (k.strips p.profile.spelling s) (k.alters p.profile.spelling s) (is_stripped s (next_number s p.link) p.clock p.link.lines) (is_altered s (next_number s p.link) p.link.lines)
-                    (k.makes p.profile.spelling s y)) asks has.holds.carried);
-              })),
-          was none,
+        by : IsSentSoon k s x p q → Next
+        by c = (
+          goes.on (flies c.copy (let soon = c.soon in omega (arith, soon, low)) c.there (record {
+            to = c.to;
+            sender = end_at s p;
+            stripped = c.stripped;
+            altered = c.altered;
+            whole = λ strips. c.whole (subst StripsNothing frames.lines strips);
+            plain = λ alters. c.plain (subst AltersNothing frames.lines alters);
+            carried = subst (λ (y : Profile). c.copy.carried ≡ changed (k.strips y.spelling s) (k.alters y.spelling s) c.stripped c.altered (k.makes y.spelling s (ack_resent y s (end_at s p)))) (sym frames.profile)
+                (subst (λ (y : PlainSegment). c.copy.carried ≡ changed (k.strips p.profile.spelling s) (k.alters p.profile.spelling s) c.stripped c.altered (k.makes p.profile.spelling s y)) asks c.carried);
+          })),
+          subst (λ b. Was (end_at s p) b c.altered) (sym c.strips_it) (subst (λ b. Was (end_at s p) (is_stripped s (next_number s p.link) p.clock p.link.lines) b) (sym c.alters_it) (was none)),
         )
 
     -- what goes in the place of the first record
@@ -173,21 +157,21 @@ module _ {C : Type 0} where
     Sent t = (q ≡ p) ⊎ ((q.link ≡ handed k t.from (segment_sent p t) p) × SaysWhatCame (end_at t.from p) (segment_sent p t))
 
     -- without a record the acknowledgement is sent that asks
-    sent_so : HandsOver k p q → IsToSend s p → (end_at s p).tcp.send.records ≡ [] → p.clock + longest_way s p.link ≤ by_then → segments_sent s p.link < 2 ^ 64 - 1 → Next
-    sent_so hands is none low few = by (subst (λ ds. IfSome (first_sends ds p) Sent) is hands.sends)
+    sent_so : CopiesAreNumbered p → HandsOver k p q → IsToSend s p → (end_at s p).tcp.send.records ≡ [] → p.clock + 400 ≤ by_then → segments_sent s p.link < 2 ^ 64 - 1 → Next
+    sent_so numbered hands is none low few = by (subst (λ ds. IfSome (first_sends ds p) Sent) is hands.sends)
       where
         by : (q ≡ p) ⊎ ((q.link ≡ handed k s resent p) × SaysWhatCame (end_at s p) resent) → Next
-        by sent = ⊎_elim (λ same. same_on same (resends low (inr is) none) tt) (λ taken. flown resent (resent_asks none) taken.0 none low few) sent
+        by sent = ⊎_elim (λ same. same_on same (resends low (inr is) none) tt) (λ taken. flown numbered resent (resent_asks none) taken.0 none low few) sent
 
-    resends_goes : GoesAgain k p q → HandsOver k p q → p.clock + longest_way s p.link ≤ by_then → segments_sent s p.link < 2 ^ 64 - 1 → IsToSendAgain s p → (end_at s p).tcp.send.records ≡ [] → Next
-    resends_goes again hands low few (inl is) none = ⊎_elim
+    resends_goes : CopiesAreNumbered p → GoesAgain k p q → HandsOver k p q → p.clock + 400 ≤ by_then → segments_sent s p.link < 2 ^ 64 - 1 → IsToSendAgain s p → (end_at s p).tcp.send.records ≡ [] → Next
+    resends_goes numbered again hands low few (inl is) none = ⊎_elim
         (λ same. same_on same (resends low (inl is) none) tt)
         (λ given. sending_on none still (inr given.0))
         (again.gives_back s is)
       where
-        still : q.clock + longest_way s q.link ≤ by_then
-        still = let clock = frames.stands (duties.Ask (ask_duties.Return s)) (duties.Send (send_duties.Resend s) ∷ emission s) is refl in let way = frames.way s in omega (arith, clock, way, low)
-    resends_goes again hands low few (inr is) none = sent_so hands is none low few
+        still : q.clock + 400 ≤ by_then
+        still = let clock = frames.stands (duties.Ask (ask_duties.Return s)) (duties.Send (send_duties.Resend s) ∷ emission s) is refl in omega (arith, clock, low)
+    resends_goes numbered again hands low few (inr is) none = sent_so numbered hands is none low few
 
     flies_goes : (f : Flight C) → f.tick ≤ by_then → IsUnderWay f p → (h : IsAsking k s p f) → Was h.sender h.stripped h.altered → GoesOnItsWay f p q → Next
     flies_goes f low before h so (copy.on there) = (
@@ -205,13 +189,16 @@ module _ {C : Type 0} where
     flies_goes f low before h so (copy.arrives others first next) = (goes.arrives f low before h others first next, so)
     flies_goes f low before h so (copy.dies line next is dead) = (goes.dies line next is dead, tt)
 
-    goes_by : EndsRunOn (Path p) (Path q) → GoesAgain k p q → HandsOver k p q → CopiesGoOn (Path p) (Path q) → ComesFrom p.clock p → segments_sent s p.link < 2 ^ 64 - 1
+    goes_by : CopiesAreNumbered p → EndsRunOn (Path p) (Path q) → GoesAgain k p q → HandsOver k p q → CopiesGoOn (Path p) (Path q) → ComesFrom p.clock p → segments_sent s p.link < 2 ^ 64 - 1
         → (h : IsAskedAgain k s by_then p) → IsAskedSo Was h → Next
-    goes_by timers again hands copies past few (waits tick low h none) so = waits_goes again past tick low h none (timers s tick h)
-    goes_by timers again hands copies past few (resends low is none) so = resends_goes again hands low few is none
-    goes_by timers again hands copies past few (flies f low there h) so = flies_goes f low there h so (copies f there)
+    goes_by numbered timers again hands copies past few (waits tick low h none) so = waits_goes again past tick low h none (timers s tick h)
+    goes_by numbered timers again hands copies past few (resends low is none) so = resends_goes numbered again hands low few is none
+    goes_by numbered timers again hands copies past few (flies f low there h) so = flies_goes f low there h so (copies f there)
 
   -- ---- the world
+
+  abbrev AreNumbered : Actor C → Type 0
+  AreNumbered = HoldsOfKind (λ app. Unit {0}) (λ (p : PathState C). CopiesAreNumbered p)
 
   abbrev ComesInTime : Actor C → Type 0
   ComesInTime = HoldsOfKind (λ app. Unit {0}) (λ (p : PathState C). ComesFrom p.clock p)
@@ -224,11 +211,11 @@ module _ {C : Type 0} where
   AsksComeSo Was k (App a) (App b) = Unit {0}
   AsksComeSo Was k _ _ = ⊥
 
-  asks_go_on : (Was : PathEnd → Bool → Bool → Type 0) (k : Codec C) (m n : Actor C) → EndsRunOn m n → PathsGoAgain k m n → PathsHandOver k m n → CopiesGoOn m n → FramesStay m n → ComesInTime m → AsksComeSo Was k m n
-  asks_go_on Was k (App a) (App b) timers again hands copies frames past = tt
-  asks_go_on Was k (Path p) (Path q) timers again hands copies frames past = λ s by_then few was h so. goes_by k s by_then p q frames Was was timers again hands copies past few h so
-  asks_go_on Was k (App a) (Path q) timers again hands copies frames past = absurd timers
-  asks_go_on Was k (Path p) (App b) timers again hands copies frames past = absurd timers
+  asks_go_on : (Was : PathEnd → Bool → Bool → Type 0) (k : Codec C) (m n : Actor C) → EndsRunOn m n → PathsGoAgain k m n → PathsHandOver k m n → CopiesGoOn m n → FramesStay m n → ComesInTime m → AreNumbered m → AsksComeSo Was k m n
+  asks_go_on Was k (App a) (App b) timers again hands copies frames past numbered = tt
+  asks_go_on Was k (Path p) (Path q) timers again hands copies frames past numbered = λ s by_then few was h so. goes_by k s by_then p q frames Was was numbered timers again hands copies past few h so
+  asks_go_on Was k (App a) (Path q) timers again hands copies frames past numbered = absurd timers
+  asks_go_on Was k (Path p) (App b) timers again hands copies frames past numbered = absurd timers
 
   -- whatever its sender
   any_asker : {s : Side} {n : ℕ} {p : PathState C} (k : Codec C) (h : IsAskedAgain k s n p) → IsAskedSo (λ e strips alters. Unit {0}) h
@@ -242,9 +229,9 @@ module _ {C : Type 0} where
   whoever_asks k (App a) (Path q) h = absurd h
   whoever_asks k (Path p) (App b) h = absurd h
 
-  pub asks_come_so : (Was : PathEnd → Bool → Bool → Type 0) (k : Codec C) (w : WorldState C) → NothingIsOverdue w → (turn : Turn) (actor : ℕ) (c : ActorCrew C) → slice_get w.crew actor ≡ Some c
+  pub asks_come_so : (Was : PathEnd → Bool → Bool → Type 0) (k : Codec C) (w : WorldState C) → NothingIsOverdue w → LinksAreNumbered w → (turn : Turn) (actor : ℕ) (c : ActorCrew C) → slice_get w.crew actor ≡ Some c
       → (d : ActorCrew C) × (slice_get (after_turn k turn w).crew actor ≡ Some d) × AsksComeSo Was k c.member d.member
-  asks_come_so Was k w past turn actor c there =
+  asks_come_so Was k w past numbered turn actor c there =
       let timers = timers_run_on k w turn actor c there in
       let d : ActorCrew C = timers.0 in
       let again = what_runs_out_goes_again k w turn actor c there in
@@ -258,17 +245,18 @@ module _ {C : Type 0} where
             (subst (λ (x : ActorCrew C). PathsHandOver k c.member x.member) (same_Some hands.0 d (sym hands.1 ∙ timers.1)) hands.2)
             (subst (λ (x : ActorCrew C). CopiesGoOn c.member x.member) (same_Some copies.0 d (sym copies.1 ∙ timers.1)) copies.2)
             (subst (λ (x : ActorCrew C). FramesStay c.member x.member) (same_Some frames.0 d (sym frames.1 ∙ timers.1)) frames.2)
-            (past.each actor c there),
+            (past.each actor c there)
+            (numbered.each actor c there),
       )
 
-  goes_on_so : (k : Codec C) (w : WorldState C) → NothingIsOverdue w → (turn : Turn) (actor : ℕ) (c : ActorCrew C) → slice_get w.crew actor ≡ Some c
+  goes_on_so : (k : Codec C) (w : WorldState C) → NothingIsOverdue w → LinksAreNumbered w → (turn : Turn) (actor : ℕ) (c : ActorCrew C) → slice_get w.crew actor ≡ Some c
       → (d : ActorCrew C) × (slice_get (after_turn k turn w).crew actor ≡ Some d) × AsksGoOn k c.member d.member
-  goes_on_so k w past turn actor c there = let go = asks_come_so (λ e strips alters. Unit {0}) k w past turn actor c there in (go.0, go.1, whoever_asks k c.member go.0.member go.2)
+  goes_on_so k w past numbered turn actor c there = let go = asks_come_so (λ e strips alters. Unit {0}) k w past numbered turn actor c there in (go.0, go.1, whoever_asks k c.member go.0.member go.2)
 
   -- at the end of a turn
   abbrev pub AskedAtTheEnd : (PathEnd → Bool → Bool → Type 0) → Codec C → PathState C → Type 0
   AskedAtTheEnd Was k p = p.agenda ≡ [] → (s : Side) → is_closed_to_segments (end_at s p).tcp.state ≡ false → (end_at s p).tcp.send.records ≡ [] → IsOutstanding (end_at s p)
-      → (h : IsAskedAgain k s (p.clock + 60000 + longest_way s p.link) p) × IsAskedSo Was h
+      → (h : IsAskedAgain k s (p.clock + 60000 + 400) p) × IsAskedSo Was h
 
   begins_so : (Was : PathEnd → Bool → Bool → Type 0) (k : Codec C) (p : PathState C) → IsTimedWhereItWaits p → IsSettledAtTheEnd p → TimersAreNear p → AskedAtTheEnd Was k p
   begins_so Was k p timed settled near over s living none out = by (end_at s p).tcp.timing.timer refl (timed over s living out)
@@ -277,7 +265,7 @@ module _ {C : Type 0} where
       alive phase.Dead living = absurd (true≢false living)
       alive _ living = refl
 
-      by : (o : Option ℕ) → (end_at s p).tcp.timing.timer ≡ o → IsSome o → (h : IsAskedAgain k s (p.clock + 60000 + longest_way s p.link) p) × IsAskedSo Was h
+      by : (o : Option ℕ) → (end_at s p).tcp.timing.timer ≡ o → IsSome o → (h : IsAskedAgain k s (p.clock + 60000 + 400) p) × IsAskedSo Was h
       by None runs some = absurd (true≢false (sym some))
       by (Some tick) runs some = (
         waits tick (let low = timer_near s tick p near runs in omega (arith, low))

@@ -66,7 +66,6 @@ use Rattle.whole_paths.specs.Due.{CopiesArriveSo}
 use Rattle.whole_paths.specs.Expiries.{IsToSendAgain}
 use Rattle.whole_paths.specs.Exchanges.{IsFaithful}
 use Rattle.whole_paths.specs.Exchanges.{IsHeldUp as held}
-use Rattle.whole_paths.specs.Harms.{longest_way}
 use Rattle.whole_paths.specs.InTime.{ComesFrom}
 use Rattle.whole_paths.specs.Kept.{KeepsWhatWaits, EndsKeepWhatWaits}
 use Rattle.whole_paths.specs.Owed.{AnswerGoesOn, AnswerComesSo, IsAnswer, IsAnswered, IsAnsweredSo}
@@ -99,6 +98,7 @@ use Rattle.whole_paths.proofs.Passing.{what_is_in_order_is_passed}
 use Rattle.whole_paths.proofs.Paying.{AnswersComeSo, GoesSo, TurnedTo, answers_come_so, turned_to}
 use Rattle.whole_paths.proofs.Reached.{EndsAreReached, each_is_reached, none_left}
 use Rattle.whole_paths.proofs.Sent.{what_came_was_sent}
+use Rattle.whole_paths.proofs.SentSoon.{what_is_sent_comes_soon}
 
 pub item_wants : (index place : ℕ) (items : List Heard) → item_at index items ≡ Some (says.DataFin place) → list_any wants_ack items ≡ true
 item_wants index place [] at = cc
@@ -300,15 +300,14 @@ module _ (steps : List Note) (p q : PathState Carried) (known : Known p) (faithf
       goes.on (answered (let up = turn.later s in omega (arith, high, up)) later.0
       (subst (λ n. IsAnsweredSo (Says n (end_at (peer s) q).tcp.send.nxt) later.0) (sym same) (said_later 1 until later.0 later.1)))))
   answer_goes takes high still position before some low (answer.arrives f in_time there h others first next) so = answer_comes f there (less_answered position f some h) so others first next takes high still
-  answer_goes takes high still position before some low (answer.harmed less) so = goes.held_up (held.harmed less)
-  answer_goes takes high still position before some low (answer.lost x covers taken loses) so = goes.held_up (held.lost (peer s) x taken loses)
+  answer_goes takes high still position before some low (answer.harmed is) so = goes.held_up (held.harmed (peer s) is)
   answer_goes takes high still position before some low (answer.resets is) so = goes.awry (awry.resets is)
   answer_goes takes high still position before some low (answer.gone dead) so = goes.held_up (held.gone (peer s) (inr dead))
   answer_goes takes high still position before some low (answer.dies line next is dead) so = goes.held_up (held.dies line next is dead)
 
   -- ---- what the end asks comes
 
-  module _ (arrival : ℕ) (soon : arrival + longest_way (peer s) p.link ≤ until) (takes : TakesAnswer) (still : Stage p) (f : Flight Carried) (in_time : f.tick ≤ arrival) (there : IsUnderWay f p)
+  module _ (arrival : ℕ) (soon : arrival + 400 ≤ until) (takes : TakesAnswer) (still : Stage p) (f : Flight Carried) (in_time : f.tick ≤ arrival) (there : IsUnderWay f p)
       (h : IsAsking values s p f) (so : Plainly h.sender h.stripped h.altered) (hands : HandsComeSo Ack values (Path p) (Path q))
       (others : List Duty) (first : p.agenda ≡ duties.Step step_duties.Events ∷ others) (next : next_event p ≡ Some (happenings.Arrives (due_of f))) where
     abbrev x : PlainSegment
@@ -326,10 +325,10 @@ module _ (steps : List Note) (p q : PathState Carried) (known : Known p) (faithf
     side_is : (c : Comes values p) → c.due.to ≡ peer s
     side_is c = sym (ap event_side c.next) ∙ ap event_side next ∙ h.to
 
-    by_clock : (q.clock + longest_way (peer s) q.link ≤ until → Goes) → Goes
+    by_clock : (q.clock + 400 ≤ until → Goes) → Goes
     by_clock then_so = ⊎_elim
         (λ same. same_goes same still)
-        (λ is. then_so (let from = tick_from f there in let way = turn.frames.way (peer s) in omega (arith, is, from, in_time, way, soon)))
+        (λ is. then_so (let from = tick_from f there in omega (arith, is, from, in_time, soon)))
         (turn.frames.moves (happenings.Arrives (due_of f)) others first next)
 
     -- before RCV.NXT it is answered
@@ -341,8 +340,8 @@ module _ (steps : List Note) (p q : PathState Carried) (known : Known p) (faithf
         let to : again.copy.due.to ≡ peer s = side_is again.copy in
         ⊎_elim
         (λ same. same_goes same still)
-        (λ go. by_clock (λ soon_enough. (let here = subst (λ t. (go : AnswerGoesOn values t (end_at t p).tcp.recv.edge (q.clock + longest_way t q.link) p q) × AnswerComesSo Ack go) to go in
-        answer_goes takes high still taker.tcp.recv.edge (q.clock + longest_way (peer s) q.link) (let some = known.edge (peer s) in omega (arith, some)) soon_enough here.0 here.1)))
+        (λ go. by_clock (λ soon_enough. (let here = subst (λ t. (go : AnswerGoesOn values t (end_at t p).tcp.recv.edge (q.clock + 400) p q) × AnswerComesSo Ack go) to go in
+        answer_goes takes high still taker.tcp.recv.edge (q.clock + 400) (let some = known.edge (peer s) in omega (arith, some)) soon_enough here.0 here.1)))
         (hands.1.0 again.copy again.outside (subst (λ t. 3 ≤ stage (end_at t p).tcp.state) (sym to) opened))
 
     -- the DATA_FIN is taken in the window
@@ -387,16 +386,15 @@ module _ (steps : List Note) (p q : PathState Carried) (known : Known p) (faithf
   -- ---- each stage
 
   -- what the end asks is on its way
-  asking_goes : (arrival : ℕ) → arrival + longest_way (peer s) p.link ≤ until → TakesAnswer → Stage p → HandsComeSo Ack values (Path p) (Path q)
+  asking_goes : (arrival : ℕ) → arrival + 400 ≤ until → TakesAnswer → Stage p → HandsComeSo Ack values (Path p) (Path q)
       → (go : AskingGoesOn values s arrival p q) → AskComesSo Plainly go → Goes
   asking_goes arrival soon takes still hands (asking.on h) so =
-      if_unacked (λ same. goes.on (asks arrival (let way = turn.frames.way (peer s) in omega (arith, way, soon)) h (subst (λ n. IsAskedSo (IsAskedPlainly n) h) (sym same) so)))
+      if_unacked (λ same. goes.on (asks arrival (omega (arith, soon)) h (subst (λ n. IsAskedSo (IsAskedPlainly n) h) (sym same) so)))
   asking_goes arrival soon takes still hands (asking.arrives f in_time there h others first next) so = ask_comes arrival soon takes still f in_time there h so hands others first next
-  asking_goes arrival soon takes still hands (asking.record_waits r none first way) so = goes.record_waits r arrival (omega (arith, soon)) none first way
+  asking_goes arrival soon takes still hands (asking.record_waits r none first way ungone) so = goes.record_waits r arrival (omega (arith, soon)) none first way
   asking_goes arrival soon takes still hands (asking.news h) so = goes.held_up (held.news h)
   asking_goes arrival soon takes still hands (asking.done none) so = goes.done none
-  asking_goes arrival soon takes still hands (asking.harmed less) so = goes.held_up (held.harmed less)
-  asking_goes arrival soon takes still hands (asking.lost x of_it taken loses) so = goes.held_up (held.lost s x taken loses)
+  asking_goes arrival soon takes still hands (asking.harmed is) so = goes.held_up (held.harmed s is)
   asking_goes arrival soon takes still hands (asking.gone dead) so = goes.held_up (held.gone s (inr dead))
   asking_goes arrival soon takes still hands (asking.dies line next is dead) so = goes.held_up (held.dies line next is dead)
 
@@ -450,7 +448,7 @@ module _ (steps : List Note) (p q : PathState Carried) (known : Known p) (faithf
   PeerSays = is_dead (end_at (peer s) p).tcp.state ≡ false → (end_at (peer s) p).modes.clear ≡ true → (end_at (peer s) p).modes.identity ≡ false → GoesSo Ack (peer s) p
 
   pub asks_on : AsksComeSo Plainly values (Path p) (Path q) → HandsComeSo Ack values (Path p) (Path q) → TakesAnswer
-      → (arrival : ℕ) → arrival + longest_way (peer s) p.link ≤ until → (h : IsAskedAgain values s arrival p) → IsAskedSo Plainly h → Goes
+      → (arrival : ℕ) → arrival + 400 ≤ until → (h : IsAskedAgain values s arrival p) → IsAskedSo Plainly h → Goes
   asks_on come hands takes arrival soon h so = if_plain (λ was. (let go = come s arrival (few s) was h so in asking_goes arrival soon takes (asks arrival soon h so) hands go.0 go.1))
 
   pub answered_on : AnswersComeSo Ack values (Path p) (Path q) → PeerSays → TakesAnswer → 2 ≤ stage (end_at s p).tcp.state → (h : IsAnswered values (peer s) 1 until p) → IsAnsweredSo Ack h → Goes
@@ -563,10 +561,10 @@ turn_facts start turns size fit turn actor c d at there =
       frames = same_actor (λ x. FramesStay c.member x.member) v actor d there (frames_stay values w turn actor c at);
       turned = same_actor (λ x. TurnedTo c.member x.member) v actor d there (turned_to values w turn actor c at);
       owed = same_actor (λ x. PathsOwe values c.member x.member) v actor d there (what_wants_an_answer_is_owed_one values w turn actor c at);
-      come = λ Was. same_actor (λ x. AsksComeSo Was values c.member x.member) v actor d there (asks_come_so Was values w late turn actor c at);
-      answers = λ Was. same_actor (λ x. AnswersComeSo Was values c.member x.member) v actor d there (answers_come_so Was values w all_answered turn actor c at);
+      come = λ Was. same_actor (λ x. AsksComeSo Was values c.member x.member) v actor d there (asks_come_so Was values w late ((what_is_sent_comes_soon values).numbered start turns) turn actor c at);
+      answers = λ Was. same_actor (λ x. AnswersComeSo Was values c.member x.member) v actor d there (answers_come_so Was values w all_answered ((what_is_sent_comes_soon values).numbered start turns) turn actor c at);
       hands = λ Was. same_actor (λ x. HandsComeSo Was values c.member x.member) v actor d there
-          (hands_come_so Was values w all_answered (what_is_in_order_is_passed values start turns) ((what_is_told_is_known values).live start turns) turn actor c at);
+          (hands_come_so Was values w all_answered ((what_is_sent_comes_soon values).numbered start turns) (what_is_in_order_is_passed values start turns) ((what_is_told_is_known values).live start turns) turn actor c at);
       shown = each_shown start turns size fit actor c at;
       reached = (each_is_reached values start turns).each actor c at;
       came = (what_is_acknowledged_came start turns).each actor c at;
@@ -626,10 +624,10 @@ inquiries_by_turns start turns plan one size fit turn actor c at =
 -- where a turn is over
 pub asked_begins : (p : PathState Carried) → ((Was : PathEnd → Bool → Bool → Type 0) → AskedAtTheEnd Was values p) → (Says : ℕ → ℕ → PlainSegment → Type 0) (Hears : PathState Carried → Type 0)
     → p.agenda ≡ [] → (s : Side) → is_closed_to_segments (end_at s p).tcp.state ≡ false → (end_at s p).tcp.send.records ≡ [] → IsOutstanding (end_at s p)
-    → IsAskedFor Says Hears s (p.clock + 60000 + longest_way s p.link + longest_way (peer s) p.link) p
+    → IsAskedFor Says Hears s (p.clock + 60000 + 400 + 400) p
 asked_begins p asked Says Hears over s living none out =
     let h = asked (IsAskedPlainly (end_at s p).tcp.send.una) over s living none out in
-    asks (p.clock + 60000 + longest_way s p.link) (le_refl (p.clock + 60000 + longest_way s p.link + longest_way (peer s) p.link)) h.0 h.1
+    asks (p.clock + 60000 + 400) (le_refl (p.clock + 60000 + 400 + 400)) h.0 h.1
 
 inquiries_begin : (m : Actor Carried) → ((Was : PathEnd → Bool → Bool → Type 0) → OfPaths (AskedAtTheEnd Was values) m) → OfPaths InquiriesBegin m
 inquiries_begin (App a) asked = tt

@@ -29,6 +29,7 @@ use Rattle.whole_paths.proofs.Owing.{copies_are_answered}
 use Rattle.whole_paths.proofs.Paying.{AnswersComeSo, GoesSo, TurnedTo, answers_come_so, turned_to}
 use Rattle.whole_paths.proofs.Saying.{ToSend}
 use Rattle.whole_paths.proofs.Waiting.{gone_stays}
+use Rattle.whole_paths.proofs.SentSoon.{what_is_sent_comes_soon}
 
 module _ {C : Type 0} where
   -- a bare acknowledgement at SND.NXT
@@ -88,6 +89,6 @@ module _ {C : Type 0} where
         d,
         turned.1,
         data_acks_go (books_in w.books) k c.member d.member turned.2
-            (λ Was. same_actor (λ x. AnswersComeSo Was k c.member x.member) (after_turn k turn w) actor d turned.1 (answers_come_so Was k w answered turn actor c at))
+            (λ Was. same_actor (λ x. AnswersComeSo Was k c.member x.member) (after_turn k turn w) actor d turned.1 (answers_come_so Was k w answered ((what_is_sent_comes_soon k).numbered start turns) turn actor c at))
             (answered.first actor c at) ((each_data_ack_is_up_to_date k start turns plan one).each actor c at),
       )

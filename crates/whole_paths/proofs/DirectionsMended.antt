@@ -12,8 +12,8 @@ use Rattle.world_laws.specs.Openings.{PathPlan, Start}
 use Rattle.world_laws.specs.RoundDone.{reached}
 use Rattle.world_laws.specs.Worlds.{Turn}
 use Rattle.whole_paths.specs.Courses.{harmed_so_far, round_end}
-use Rattle.whole_paths.specs.Debts.{Beginning, DebtsAreMended, MendsOn, OwesAtMost, OwesOn, Stepping, long_wait}
-use Rattle.whole_paths.specs.Debts.MendsOn.{quiet, fewer, harmed}
+use Rattle.whole_paths.specs.Debts.{Beginning, DebtsAreMended, MendsOn, OwesOn, Stepping, one_timeout}
+use Rattle.whole_paths.specs.Debts.MendsOnBy.{quiet, fewer, harmed}
 use Rattle.whole_paths.specs.Delivery.{IsAllThere}
 use Rattle.whole_paths.specs.DirectionWaits.{DirectionsAreMended, HearsSoon, MendsAlong, MendsInTurn, MendsThese, NumbersAgree}
 use Rattle.whole_paths.specs.DirectionWaits.{HearsSoon as hears, MendsInTurn as in_turn, MendsThese as these_mend}
@@ -54,8 +54,7 @@ comes_up_later s last before later p low comes pos few = ⊎_elim (λ below. inl
     by (in_time.acknowledged reaches) = in_time.acknowledged reaches
     by (in_time.comes t is_one same soon) = in_time.comes t is_one same (there_so s t t (same_record t) p before later low soon)
 
-module _ (start : Start) (plan : PathPlan) (most : ℕ) (s : Side) (one : BeginsWithOnePath start plan) (agree : NumbersAgree start s)
-    (known : (turns : List Turn) → IsOpenAfter start turns → OwesAtMost start plan most (OwesAlong start s) turns) where
+module _ (start : Start) (plan : PathPlan) (most : ℕ) (s : Side) (one : BeginsWithOnePath start plan) (agree : NumbersAgree start s) where
   abbrev Along : ℕ → List Turn → Type 0
   Along = OwesAlong start s
 
@@ -228,7 +227,7 @@ module _ (start : Start) (plan : PathPlan) (most : ℕ) (s : Side) (one : Begins
 
     module _ (debts : ℕ) where
       abbrev by_tick : ℕ
-      by_tick = until v + long_wait start plan most Along
+      by_tick = until v + one_timeout
 
       abbrev Begins : Type 0
       Begins = Along debts u ⊎ Waits (suc debts) by_tick u
@@ -303,7 +302,6 @@ module _ (start : Start) (plan : PathPlan) (most : ℕ) (s : Side) (one : Begins
 
   pub along_mended : DebtsAreMended start plan most Along Waits
   along_mended = record {
-    known = known;
     on = λ debts v u step h. directions_go_on start plan most s debts v u one (inl step) h;
     next = λ debts v u step h. directions_go_on start plan most s debts v u one (inr step) h;
     owing = owed;
@@ -314,4 +312,4 @@ module _ (start : Start) (plan : PathPlan) (most : ℕ) (s : Side) (one : Begins
   }
 
 pub directions_are_mended : DirectionsAreMended
-directions_are_mended start plan most s one agree known = along_mended start plan most s one agree known
+directions_are_mended start plan most s one agree = along_mended start plan most s one agree

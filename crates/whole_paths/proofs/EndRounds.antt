@@ -1,5 +1,5 @@
 -- Once all of a stream is read its writer closes it, and its end, of which nothing waits to be acknowledged, sends the DATA_FIN.
-use Rattle.std.proofs.Common.{◌≡◌, ◌⊎◌, refl, sym, subst, ap, ◌∙◌, inl, ⊎_elim, ℕ, ◌≤◌, arith, Bool, true, false, true≢false, is_some, Option, Some, List, [], ◌∷◌, length, length-append}
+use Rattle.std.proofs.Common.{◌≡◌, ◌⊎◌, refl, sym, subst, ap, ◌∙◌, inl, ⊎_elim, ℕ, ◌<◌, ◌≤◌, arith, Bool, true, false, true≢false, is_some, Option, Some, List, [], ◌∷◌, length, length-append}
 use Rattle.std.specs.List.{slice_get}
 use Rattle.std.proofs.lemmas.Bool.{both_ways}
 use Rattle.sides.specs.declared.side.Side.{Side}
@@ -148,10 +148,19 @@ module _ (start : Start) (plan : PathPlan) (x : BeginsWithOnePath start plan) (s
             (λ stop. absurd (both_ways _ (subst (λ (w : WorldState Carried). (written_by s w).aborted ≡ false) (ended start written_at b sends) ((mild_paths_are_never_stopped start plan b x.one x.mild).send s)) stop))
             (acked (λ sent unacked. true≢false (sym sent ∙ is)))
 
+  -- behind bytes that are all acknowledged
+  sent_behind : (end_at (peer s) p).tcp.recv.edge ≤ (end_at s told_path.path).tcp.send.una → (end_at s q).sending.fin_sent ≡ true → FinIsSent start s b
+  sent_behind una sent z there = subst (λ (y : PathState Carried). ((end_at s y).sending.fin_sent ≡ true) × (total < (end_at s y).tcp.send.una)) (path_is (reached values start b) q z sent_path.here there) (sent, acked)
+    where
+      acked : total < (end_at s q).tcp.send.una
+      acked =
+          let came = (counts start plan x v p here s).came in
+          let later = una_up start plan x s told_path.path q (path_far start plan x heard_at b told_path.path q to_sent told_path.here sent_path.here) in omega (arith, came, una, later, all_read)
+
   known_last : Goal
   known_last = ⊎_elim
       (λ all. there_known (stays_there start plan x heard_at b s to_sent all))
-      (λ una. if_may start plan x Goal b q sent_path.here sent_path.is_open s there_known (λ may. sent_or_known una may (λ sent. comes (λ z there. subst (λ (y : PathState Carried). (end_at s y).sending.fin_sent ≡ true) (path_is (reached values start b) q z sent_path.here there) sent))))
+      (λ una. if_may start plan x Goal b q sent_path.here sent_path.is_open s there_known (λ may. sent_or_known una may (λ sent. comes (sent_behind una sent))))
       (⊎_elim (λ told. tell start plan x v heard_at first.1.0 s p told_path.path here told_path.here told) (λ all. inl (stays_there start plan x v heard_at s to_heard all)) mended)
 
 pub an_end_is_told : AnEndIsTold

@@ -75,7 +75,6 @@ use Rattle.whole_paths.specs.Exchanges.{ExchangeGoesOn as goes}
 use Rattle.whole_paths.specs.Flights.{IsCopyOf, IsFirst, IsOnItsWay, IsSentSo, ComesSo, GoesOnTo}
 use Rattle.whole_paths.specs.Flights.{GoesOnTo as way}
 use Rattle.whole_paths.specs.Flights.{IsOnItsWay as ways}
-use Rattle.whole_paths.specs.Harms.{longest_way}
 use Rattle.whole_paths.specs.Hearing.{Counts, PathsCount}
 use Rattle.whole_paths.specs.InHand.{HandGoesOn, HandComesSo, IsInHand, IsPartial}
 use Rattle.whole_paths.specs.InHand.{HandGoesOn as hand}
@@ -100,6 +99,7 @@ use Rattle.whole_paths.proofs.Paying.{AnswersComeSo, GoesSo, TurnedTo, answers_c
 use Rattle.whole_paths.proofs.Reached.{EndsAreReached, each_is_reached, first_reached, past_opening}
 use Rattle.whole_paths.proofs.Saying.{ToSend}
 use Rattle.whole_paths.proofs.Sent.{what_came_was_sent}
+use Rattle.whole_paths.proofs.SentSoon.{what_is_sent_comes_soon}
 
 -- ---- what is known of a path at every moment
 
@@ -449,8 +449,7 @@ module _ (p q : PathState Carried) (known : Known p) (faithful : IsFaithful p) (
         (λ hindered. ⊎_elim (λ y. goes.held_up y) (λ y. goes.astray (stray.past_window y)) hindered)
         x)
         (answer_comes position f there h so opened others first next (omega (arith, enough, some)))
-    answer_goes position before enough low some (answer.harmed less) so = goes.held_up (held.harmed less)
-    answer_goes position before enough low some (answer.lost x covers taken loses) so = goes.held_up (held.lost (peer s) x taken loses)
+    answer_goes position before enough low some (answer.harmed is) so = goes.held_up (held.harmed (peer s) is)
     answer_goes position before enough low some (answer.resets is) so = goes.astray (stray.resets is)
     answer_goes position before enough low some (answer.gone dead) so = goes.held_up (held.gone (peer s) (inr dead))
     answer_goes position before enough low some (answer.dies line next is dead) so = goes.held_up (held.dies line next is dead)
@@ -471,7 +470,7 @@ module _ (p q : PathState Carried) (known : Known p) (faithful : IsFaithful p) (
 
     -- ---- a copy of it comes
 
-    module _ (arrival : ℕ) (soon : arrival + longest_way (peer s) p.link ≤ until) (is_first : IsFirst r (end_at s p)) (still : IsExchanged s r until p)
+    module _ (arrival : ℕ) (soon : arrival + 400 ≤ until) (is_first : IsFirst r (end_at s p)) (still : IsExchanged s r until p)
         (f : Flight Carried) (in_time : f.tick ≤ arrival) (there : IsUnderWay f p) (copy : IsCopyOf values s r p f) (sent : IsSentWhole p.profile s r copy.sender copy.stripped copy.altered)
         (others : List Duty) (first : p.agenda ≡ duties.Step step_duties.Events ∷ others) (next : next_event p ≡ Some (happenings.Arrives (due_of f))) where
       abbrev copied : PlainSegment
@@ -500,10 +499,10 @@ module _ (p q : PathState Carried) (known : Known p) (faithful : IsFaithful p) (
       side_is : (c : Comes values p) → c.due.to ≡ peer s
       side_is c = sym (ap event_side c.next) ∙ ap event_side next ∙ copy.to
 
-      clock_is : q.clock ≡ max p.clock f.tick → q.clock + longest_way (peer s) q.link ≤ until
-      clock_is is = (let from = tick_from f there in let way = turn.frames.way (peer s) in omega (arith, is, from, in_time, way, soon))
+      clock_is : q.clock ≡ max p.clock f.tick → q.clock + 400 ≤ until
+      clock_is is = (let from = tick_from f there in omega (arith, is, from, in_time, soon))
 
-      by_clock : (q.clock + longest_way (peer s) q.link ≤ until → Goes) → Goes
+      by_clock : (q.clock + 400 ≤ until → Goes) → Goes
       by_clock then_so = ⊎_elim (λ same. same_goes same still) (λ is. then_so (clock_is is)) (turn.frames.moves (happenings.Arrives (due_of f)) others first next)
 
       sender_acks : copied.acknowledged ≡ Some copy.sender.tcp.recv.edge
@@ -525,8 +524,8 @@ module _ (p q : PathState Carried) (known : Known p) (faithful : IsFaithful p) (
       in_order c =
           let to : c.brings.copy.due.to ≡ peer s = side_is c.brings.copy in
           ⊎_elim (λ same. same_goes same still)
-          (λ h. by_clock (λ low. (let here = subst (λ t. (go : HandGoesOn values t (c.brings.position + length c.brings.copy.segment.payload) (q.clock + longest_way t q.link) p q) × HandComesSo Bare go) to h in
-          hand_goes (c.brings.position + length c.brings.copy.segment.payload) (q.clock + longest_way (peer s) q.link)
+          (λ h. by_clock (λ low. (let here = subst (λ t. (go : HandGoesOn values t (c.brings.position + length c.brings.copy.segment.payload) (q.clock + 400) p q) × HandComesSo Bare go) to h in
+          hand_goes (c.brings.position + length c.brings.copy.segment.payload) (q.clock + 400)
           (let pos = c.position in let octets : length c.brings.copy.segment.payload ≡ length copied.payload = ap (λ (o : List ℕ). length o) c.payload in omega (arith, pos, octets, at_pos, len, end_is))
           low some_end here.0 here.1)))
           (hands.0 c.brings c.in_order)
@@ -535,8 +534,8 @@ module _ (p q : PathState Carried) (known : Known p) (faithful : IsFaithful p) (
       again passed opened c =
           let to : c.copy.due.to ≡ peer s = side_is c.copy in
           ⊎_elim (λ same. same_goes same still)
-          (λ h. by_clock (λ low. (let here = subst (λ t. (go : AnswerGoesOn values t (end_at t p).tcp.recv.edge (q.clock + longest_way t q.link) p q) × AnswerComesSo Bare go) to h in
-          answer_goes taker.tcp.recv.edge (q.clock + longest_way (peer s) q.link) passed low some_end here.0 here.1)))
+          (λ h. by_clock (λ low. (let here = subst (λ t. (go : AnswerGoesOn values t (end_at t p).tcp.recv.edge (q.clock + 400) p q) × AnswerComesSo Bare go) to h in
+          answer_goes taker.tcp.recv.edge (q.clock + 400) passed low some_end here.0 here.1)))
           (hands.1.0 c.copy c.outside (subst (λ t. 3 ≤ stage (end_at t p).tcp.state) (sym to) opened))
 
       arrives_in : Takes copied taker → Goes
@@ -604,21 +603,20 @@ module _ (p q : PathState Carried) (known : Known p) (faithful : IsFaithful p) (
     -- ---- each stage
 
     -- a copy of the record is on its way
-    on_way : (arrival : ℕ) → arrival + longest_way (peer s) p.link ≤ until → IsFirst r (end_at s p) → IsExchanged s r until p
+    on_way : (arrival : ℕ) → arrival + 400 ≤ until → IsFirst r (end_at s p) → IsExchanged s r until p
         → (go : GoesOnTo values s r arrival p q) → ComesSo (IsSentWhole p.profile s r) go → Goes
     on_way arrival soon first still (way.on next) so = ⊎_elim
-        (λ kept. goes.on (comes arrival (let way = turn.frames.way (peer s) in omega (arith, way, soon)) kept next (subst (λ c. IsSentSo (IsSentWhole c s r) next) (sym turn.frames.profile) so)))
+        (λ kept. goes.on (comes arrival (omega (arith, soon)) kept next (subst (λ c. IsSentSo (IsSentWhole c s r) next) (sym turn.frames.profile) so)))
         (λ acked. goes.on (acknowledged acked))
         (first_or_acked r (end_at s p) (end_at s q) (turn.kept s) first)
     on_way arrival soon first still (way.arrives f in_time there copy others begins next) so = record_comes arrival soon first still f in_time there copy so others begins next
     on_way arrival soon first still (way.news news) so = goes.held_up (held.news news)
-    on_way arrival soon first still (way.harmed less) so = goes.held_up (held.harmed less)
-    on_way arrival soon first still (way.lost x of_it taken loses) so = goes.held_up (held.lost s x taken loses)
+    on_way arrival soon first still (way.harmed is) so = goes.held_up (held.harmed s is)
     on_way arrival soon first still (way.gone dead) so = goes.held_up (held.gone s (inr dead))
     on_way arrival soon first still (way.dies line next is dead) so = goes.held_up (held.dies line next is dead)
 
     -- where its end sends it with its own mapping
-    sends_so : SentGoOn (IsSentWhole p.profile s r) values (Path p) (Path q) → (arrival : ℕ) → arrival + longest_way (peer s) p.link ≤ until → IsFirst r (end_at s p) → IsExchanged s r until p
+    sends_so : SentGoOn (IsSentWhole p.profile s r) values (Path p) (Path q) → (arrival : ℕ) → arrival + 400 ≤ until → IsFirst r (end_at s p) → IsExchanged s r until p
         → (next : IsOnItsWay values s r arrival p) → IsSentSo (IsSentWhole p.profile s r) next → Goes
     sends_so goes_on arrival soon first still next so = by_plain (end_at s p).modes.identity refl
       where
@@ -756,10 +754,10 @@ exchanges_by_turns start turns size fit turn actor c at =
       exchanges_go c.member d.member kept.2
           (same_actor (λ x. FramesStay c.member x.member) v actor d kept.1 (frames_stay values w turn actor c at))
           (same_actor (λ x. TurnedTo c.member x.member) v actor d kept.1 (turned_to values w turn actor c at))
-          (λ Was. same_actor (λ x. SentGoOn Was values c.member x.member) v actor d kept.1 (sent_go_on Was values w (nothing_is_overdue values start turns) turn actor c at))
+          (λ Was. same_actor (λ x. SentGoOn Was values c.member x.member) v actor d kept.1 (sent_go_on Was values w (nothing_is_overdue values start turns) ((what_is_sent_comes_soon values).numbered start turns) turn actor c at))
           (λ Was. same_actor (λ x. HandsComeSo Was values c.member x.member) v actor d kept.1
-          (hands_come_so Was values w all_answered (what_is_in_order_is_passed values start turns) ((what_is_told_is_known values).live start turns) turn actor c at))
-          (λ Was. same_actor (λ x. AnswersComeSo Was values c.member x.member) v actor d kept.1 (answers_come_so Was values w all_answered turn actor c at))
+          (hands_come_so Was values w all_answered ((what_is_sent_comes_soon values).numbered start turns) (what_is_in_order_is_passed values start turns) ((what_is_told_is_known values).live start turns) turn actor c at))
+          (λ Was. same_actor (λ x. AnswersComeSo Was values c.member x.member) v actor d kept.1 (answers_come_so Was values w all_answered ((what_is_sent_comes_soon values).numbered start turns) turn actor c at))
           (same_actor (λ x. PathsCount values c.member x.member) v actor d kept.1 (each_acknowledgement_counts values w turn actor c at))
           (each_shown start turns size fit actor c at) ((each_is_reached values start turns).each actor c at) ((what_is_acknowledged_came start turns).each actor c at) ((what_came_was_sent start turns size).each actor c at)
           ((each_link values start turns).each actor c at) ((copies_arrive_as_sent values start turns).each actor c at) ((nothing_is_overdue values start turns).each actor c at) (all_answered.first actor c at),
@@ -771,7 +769,7 @@ exchanges_begin : (m : Actor Carried) → ((Was : PathEnd → Bool → Bool → 
 exchanges_begin (App a) sent = tt
 exchanges_begin (Path p) sent = λ over s living r others is.
     let way = sent (IsSentWhole p.profile s r) over s living r others is in
-    comes (p.clock + 60000 + longest_way s p.link) (le_refl (p.clock + 60000 + longest_way s p.link + longest_way (peer s) p.link)) (record { first = r; others = others; records = is; same = same_record r }) way.0 way.1
+    comes (p.clock + 60000 + 400) (le_refl (p.clock + 60000 + 400 + 400)) (record { first = r; others = others; records = is; same = same_record r }) way.0 way.1
 
 exchanges_end : (m : Actor Carried) → OfPaths (λ p. ComesFrom p.clock p) m → OfPaths ExchangesEnd m
 exchanges_end (App a) past = tt

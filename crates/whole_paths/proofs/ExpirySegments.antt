@@ -39,12 +39,11 @@ use Rattle.whole_paths.specs.AsFar.{stage}
 use Rattle.whole_paths.specs.Brought.{Comes, IsTo}
 use Rattle.whole_paths.specs.ClosingOwed.{OwesAnAnswer, PathsOwe}
 use Rattle.whole_paths.specs.ComingCopies.{CopiesCount, PathsHear, is_answered}
-use Rattle.whole_paths.specs.Copies.{IsUnderWay}
+use Rattle.whole_paths.specs.Copies.{CopiesAreNumbered, IsUnderWay}
 use Rattle.whole_paths.specs.Due.{ArrivesAs, CopiesArriveSo}
 use Rattle.whole_paths.specs.ExpiriesInARow.{in_a_row}
 use Rattle.whole_paths.specs.ExpirySegments.{AcksSomething, AsksForAnAck, IsHeardInWindow}
 use Rattle.whole_paths.specs.ExpirySegments.{AsksForAnAck as asks}
-use Rattle.whole_paths.specs.Mending.{CopiesAreNumbered}
 use Rattle.whole_paths.specs.Mild.{EndsGoByMappings, IsMildStart}
 use Rattle.whole_paths.specs.Opening.{IsSyn}
 use Rattle.whole_paths.proofs.Closing.{each_data_fin_is_said}

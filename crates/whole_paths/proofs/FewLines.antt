@@ -10,15 +10,16 @@ use Rattle.world_laws.specs.Openings.{Start, start_of}
 use Rattle.whole_paths.specs.Finish.{BriefFewLinesFinish, harms_to}
 use Rattle.whole_paths.specs.News.{most_news}
 use Rattle.whole_paths.specs.OnlyPaths.{news_within}
-use Rattle.whole_paths.specs.OpeningCourses.{opening_patience}
+use Rattle.whole_paths.specs.OnePathScripts.{for_all_news}
+use Rattle.whole_paths.specs.OpeningCourses.{opening_patience, with_opening}
 use Rattle.whole_paths.specs.Rounds.{ticks_for}
 use Rattle.whole_paths.proofs.FewLossesDeliver.{few_losses_finish, few_losses_finish_in_octets}
 use Rattle.whole_paths.proofs.Harmed.{harms_use_lines}
 use Rattle.whole_paths.proofs.OverOctets.{as_far}
 use Rattle.whole_paths.proofs.Rounds.{ticks_up}
 
-rounds_up : (m n : ℕ) → m ≤ n → (2 * m + 200) / 100 + 4 ≤ (2 * n + 200) / 100 + 4
-rounds_up m n low = let down = div-mul-le_self (2 * m + 200) 100 in let up = lt-div-mul-add {a = 2 * n + 200} {b = 100} (omega arith) in omega (arith, low, down, up)
+rounds_up : (m n : ℕ) → m ≤ n → m / 100 + 4 ≤ n / 100 + 4
+rounds_up m n low = let down = div-mul-le_self m 100 in let up = lt-div-mul-add {a = n} {b = 100} (omega arith) in omega (arith, low, down, up)
 
 more : (k m n : ℕ) → m ≤ n → suc (k + m) ≤ suc (k + n)
 more k m n low = omega (arith, low)
@@ -26,8 +27,8 @@ more k m n low = omega (arith, low)
 patience_up : (script : Script) (path : PathLine) (file_a file_b : List ℕ) (m n : ℕ) → m ≤ n → opening_patience script path file_a file_b m ≤ opening_patience script path file_a file_b n
 patience_up script path file_a file_b m n low =
     let start : Start = start_of script file_a file_b in
-    rounds_up (ticks_for (news_within start) (suc (most_news start + m))) (ticks_for (news_within start) (suc (most_news start + n)))
-    (ticks_up (news_within start) (suc (most_news start + m)) (suc (most_news start + n)) (more (most_news start) m n low))
+    let ticks = ticks_up (news_within start) (suc (most_news start + m)) (suc (most_news start + n)) (more (most_news start) m n low) in
+    rounds_up (with_opening (for_all_news news_within) start m) (with_opening (for_all_news news_within) start n) (omega (arith, low, ticks))
 
 at_most : (k m n : ℕ) → m ≤ n → n ≤ k → m ≤ k
 at_most k m n low high = omega (arith, low, high)

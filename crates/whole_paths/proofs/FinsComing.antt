@@ -1,5 +1,5 @@
 -- A DATA_FIN that is sent is harmed, or comes and is heard, unless more is sent behind it.
-use Rattle.std.proofs.Common.{◌≡◌, refl, sym, subst, ap, ◌∙◌, ◌⊎◌, inl, inr, ⊎_elim, ℕ, ◌+◌, ◌^◌, ◌<◌, ◌≤◌, arith, ◌&&◌, not, true, false, true≢false, if◌then◌else◌, Option, Some, None, IfSome, is_some, List, [], ◌∷◌}
+use Rattle.std.proofs.Common.{◌≡◌, refl, sym, subst, ap, ◌∙◌, ◌⊎◌, inl, inr, ⊎_elim, ℕ, ◌+◌, ◌-◌, ◌^◌, ◌<◌, ◌≤◌, arith, ◌&&◌, not, true, false, true≢false, if◌then◌else◌, Option, Some, None, IfSome, is_some, List, [], ◌∷◌}
 use Rattle.std.proofs.lemmas.Bool.{and_parts, both_ways}
 use Rattle.path_segments.specs.Heard.{HeardSegment}
 use Rattle.path_segments.specs.Spelled.{PlainSegment}
@@ -9,20 +9,23 @@ use Rattle.sides.specs.declared.side.Side.TheVariants.{B}
 use Rattle.sides.specs.Side.{peer}
 use Rattle.link_model.specs.Steps.{changed}
 use Rattle.link_model.specs.declared.flight.Due.{Due}
+use Rattle.subflow_send.specs.Records.{Record}
+use Rattle.subflow_tcp.specs.State.{is_some_record}
 use Rattle.subflow_tcp.specs.States.{is_dead, may_finish}
 use Rattle.path_agenda.specs.declared.duty.Duty.{Duty}
 use Rattle.path_agenda.specs.declared.duty.Duty.TheVariants as duties
 use Rattle.path_agenda.specs.declared.duty.SendDuty.TheVariants as send_duties
 use Rattle.path_agenda.specs.declared.heard.Heard.TheVariants as says
 use Rattle.path_core.specs.Choices.{item_at}
-use Rattle.path_core.specs.DataFin.{data_fin_segment, is_data_fin_due}
+use Rattle.path_core.specs.DataFin.{data_fin_segment, is_data_fin_due, is_data_fin_owed}
+use Rattle.path_core.specs.Emission.{ack_resent, first_record, resend_said}
 use Rattle.path_core.specs.DssOut.{data_fin_mapping, fail_beside}
 use Rattle.path_core.specs.End.{PathEnd}
 use Rattle.path_core.specs.Looking.{first_sends, segment_sent}
 use Rattle.path_core.specs.Modes.{sends_plainly}
 use Rattle.path_core.specs.MpJoin.{is_joined}
 use Rattle.path_core.specs.OptionsIn.{items_of, options_heard}
-use Rattle.path_core.specs.OptionsOut.{opening_options}
+use Rattle.path_core.specs.OptionsOut.{ack_said, carried_said, opening_options, record_or_ack}
 use Rattle.path_core.specs.State.{PathState, end_at}
 use Rattle.path_core.specs.Turns.{FirstStands}
 use Rattle.path_core.specs.Values.{Carried, as_arrived, values}
@@ -38,7 +41,7 @@ use Rattle.whole_paths.specs.Finish.{is_harmed}
 use Rattle.whole_paths.specs.FinsComing.{DataFinsComeSoon, DataFinsStaySoon, FinComesBy, FinIsSoon, FinIsTold, FinsGoOn}
 use Rattle.whole_paths.specs.FinsComing.{FinIsSoon as is_soon}
 use Rattle.whole_paths.specs.FinsComing.FinIsTold.{heard, comes, behind}
-use Rattle.whole_paths.specs.Mending.{LeavesRoomFor}
+use Rattle.whole_paths.specs.Mending.{IsBegunTurn, LeavesRoomFor}
 use Rattle.whole_paths.specs.Mild.{IsMildStart}
 use Rattle.whole_paths.specs.OnePathScripts.{BeginsWithOnePath}
 use Rattle.whole_paths.specs.OpenCourses.{IsNow}
@@ -137,25 +140,16 @@ module _ (start : Start) (mild : IsMildStart start) (turns : List Turn) (turn : 
 
   -- ---- one that is sent
 
-  module _ (room : LeavesRoomFor t p) (others : List Duty) (first : p.agenda ≡ duties.Send (send_duties.DataFin s) ∷ others) where
+  -- an acknowledgement with the end of the stream, from an end that may send a DSS and knows it
+  module _ (room : LeavesRoomFor t p) (clear : (end_at s p).modes.clear ≡ true) (knows : is_some (end_at s p).sending.known_end ≡ true) where
     abbrev e : PathEnd
     e = end_at s p
 
     abbrev sent : PlainSegment
     sent = data_fin_segment s p
 
-    due : is_data_fin_due e ≡ true
-    due = subst (λ (ds : List Duty). FirstStands ds p) first stood
-
-    fair : (e.modes.clear ≡ true) × (is_some e.sending.known_end ≡ true)
-    fair =
-        let mapped = and_parts (may_finish e.tcp.state) (not (sends_plainly e.modes) && (e.modes.clear && (is_some e.sending.known_end && (not e.sending.fin_sent && not e.sending.close.own_acked)))) due in
-        let clear = and_parts (not (sends_plainly e.modes)) (e.modes.clear && (is_some e.sending.known_end && (not e.sending.fin_sent && not e.sending.close.own_acked))) mapped.1 in
-        let known = and_parts e.modes.clear (is_some e.sending.known_end && (not e.sending.fin_sent && not e.sending.close.own_acked)) clear.1 in
-        (known.0, (and_parts (is_some e.sending.known_end) (not e.sending.fin_sent && not e.sending.close.own_acked) known.1).0)
-
     the_end : (place : ℕ) × (e.sending.known_end ≡ Some place)
-    the_end = some_of e.sending.known_end fair.1
+    the_end = some_of e.sending.known_end knows
 
     abbrev place : ℕ
     place = the_end.0
@@ -163,7 +157,7 @@ module _ (start : Start) (mild : IsMildStart start) (turns : List Turn) (turn : 
     options : sent.options ≡ Dss (Some e.receiving.next) (data_fin_mapping p.profile s (Some place)) ∷ []
     options =
         ap (λ b. if b then [] else (if e.modes.clear then Dss (Some e.receiving.next) (data_fin_mapping p.profile s e.sending.known_end) ∷ fail_beside e.sending.known_end e.modes else opening_options p.profile s e)) ((mapped_p start mild turns turn before after) s).identity
-        ∙ ap (λ b. if b then Dss (Some e.receiving.next) (data_fin_mapping p.profile s e.sending.known_end) ∷ fail_beside e.sending.known_end e.modes else opening_options p.profile s e) fair.0
+        ∙ ap (λ b. if b then Dss (Some e.receiving.next) (data_fin_mapping p.profile s e.sending.known_end) ∷ fail_beside e.sending.known_end e.modes else opening_options p.profile s e) clear
         ∙ ap (λ (fin : Option ℕ). Dss (Some e.receiving.next) (data_fin_mapping p.profile s fin) ∷ fail_beside fin e.modes) the_end.1
 
     is_bare : IsBareFrom (peer t) p sent
@@ -193,20 +187,58 @@ module _ (start : Start) (mild : IsMildStart start) (turns : List Turn) (turn : 
     abbrev Goes : PlainSegment → Type 0
     Goes x = (q ≡ p) ⊎ ((is_harmed (peer t) p q ≡ true) ⊎ BareIsSent t x p q)
 
-    handed_on : Goes sent
-    handed_on = subst (λ (ds : List Duty). IfSome (first_sends ds p) (λ x. x.from ≡ peer t → IsBareFrom (peer t) p (segment_sent p x) → Goes (segment_sent p x))) first (bares.sent room) (sym (sender_of s)) is_bare
+    abbrev Comes : Type 0
+    Comes = (q ≡ p) ⊎ ((is_harmed s p q ≡ true) ⊎ FinComesBy s e.tcp.send.nxt (p.clock + 400) q)
 
-    goes : (q ≡ p) ⊎ ((is_harmed s p q ≡ true) ⊎ FinComesBy s e.tcp.send.nxt (p.clock + 400) q)
-    goes = ⊎_elim (λ same. inl same) (λ on. inr (⊎_elim (λ harmed. inl (subst (λ u. is_harmed u p q ≡ true) (sender_of s) harmed)) (λ c. inr (on_its_way c)) on)) handed_on
+    handed_on : Goes sent → Comes
+    handed_on = ⊎_elim (λ same. inl same) (λ on. inr (⊎_elim (λ harmed. inl (subst (λ u. is_harmed u p q ≡ true) (sender_of s) harmed)) (λ c. inr (on_its_way c)) on))
+
+    -- the first time
+    sent_first : (others : List Duty) → p.agenda ≡ duties.Send (send_duties.DataFin s) ∷ others → Comes
+    sent_first others first =
+        handed_on (subst (λ (ds : List Duty). IfSome (first_sends ds p) (λ x. x.from ≡ peer t → IsBareFrom (peer t) p (segment_sent p x) → Goes (segment_sent p x))) first (bares.sent room) (sym (sender_of s)) is_bare)
+
+    -- and where the end is to send again, without a record, by which no third MP_JOIN and no fast close is answered
+    module _ (others : List Duty) (first : p.agenda ≡ duties.Send (send_duties.Resend s) ∷ others) (none : e.tcp.send.records ≡ []) (third : e.modes.owes_third ≡ false) (close : e.notices.fast_closed ≡ false)
+        (owed : is_data_fin_owed e ≡ true) where
+      said : resend_said p.profile s e ≡ sent
+      said =
+          ap (λ (rs : List Record). if is_some_record rs then record_or_ack p.profile s (first_record e) e else ack_resent p.profile s e) none
+          ∙ ap (λ b. if b then ack_said p.profile s e.tcp.send.nxt None e
+          else (if e.notices.fast_closed then carried_said p.profile s e.notices.carrier e
+          else (if is_data_fin_owed e then ack_said p.profile s e.tcp.send.nxt e.sending.known_end e
+          else ack_said p.profile s (e.tcp.send.una - 1) None e))) third
+          ∙ ap (λ b. if b then carried_said p.profile s e.notices.carrier e
+          else (if is_data_fin_owed e then ack_said p.profile s e.tcp.send.nxt e.sending.known_end e
+          else ack_said p.profile s (e.tcp.send.una - 1) None e)) close
+          ∙ ap (λ b. if b then ack_said p.profile s e.tcp.send.nxt e.sending.known_end e else ack_said p.profile s (e.tcp.send.una - 1) None e) owed
+
+      handed : IsBareFrom (peer t) p (resend_said p.profile s e) → Goes (resend_said p.profile s e)
+      handed = subst (λ (ds : List Duty). IfSome (first_sends ds p) (λ x. x.from ≡ peer t → IsBareFrom (peer t) p (segment_sent p x) → Goes (segment_sent p x))) first (bares.sent room) (sym (sender_of s))
+
+      pub sent_again : Comes
+      sent_again = handed_on (subst (λ x. IsBareFrom (peer t) p x → Goes x) said handed is_bare)
+
+  -- the duty that sends it first stands where the end may send a DSS and knows the end
+  fair : (others : List Duty) → p.agenda ≡ duties.Send (send_duties.DataFin s) ∷ others → ((end_at s p).modes.clear ≡ true) × (is_some (end_at s p).sending.known_end ≡ true)
+  fair others first =
+      let e : PathEnd = end_at s p in
+      let due : is_data_fin_due e ≡ true = subst (λ (ds : List Duty). FirstStands ds p) first stood in
+      let mapped = and_parts (may_finish e.tcp.state) (not (sends_plainly e.modes) && (e.modes.clear && (is_some e.sending.known_end && (not e.sending.fin_sent && not e.sending.close.own_acked)))) due in
+      let clear = and_parts (not (sends_plainly e.modes)) (e.modes.clear && (is_some e.sending.known_end && (not e.sending.fin_sent && not e.sending.close.own_acked))) mapped.1 in
+      let known = and_parts e.modes.clear (is_some e.sending.known_end && (not e.sending.fin_sent && not e.sending.close.own_acked)) clear.1 in
+      (known.0, (and_parts (is_some e.sending.known_end) (not e.sending.fin_sent && not e.sending.close.own_acked) known.1).0)
+
+  sent_now : LeavesRoomFor t p → (others : List Duty) → p.agenda ≡ duties.Send (send_duties.DataFin s) ∷ others
+      → (q ≡ p) ⊎ ((is_harmed s p q ≡ true) ⊎ FinComesBy s (end_at s p).tcp.send.nxt (p.clock + 400) q)
+  sent_now room others first = sent_first room (fair others first).0 (fair others first).1 others first
 
   fins_go_on : FinsGoOn s p q
-  fins_go_on = record { comes = told_on; sent = goes }
+  fins_go_on = record { comes = told_on; sent = sent_now }
 
--- what is told by a tick is told by each later one
-told_later : (s : Side) (position by later : ℕ) (p : PathState Carried) → by ≤ later → FinIsTold s position by p → FinIsTold s position later p
-told_later s position by later p up (heard is) = heard is
-told_later s position by later p up (behind past) = behind past
-told_later s position by later p up (comes h) = comes (record {
+-- what comes by a tick comes by each later one
+pub comes_later : (s : Side) (position by later : ℕ) (p : PathState Carried) → by ≤ later → FinComesBy s position by p → FinComesBy s position later p
+comes_later s position by later p up h = record {
   copy = h.copy;
   there = h.there;
   at = h.at;
@@ -218,7 +250,13 @@ told_later s position by later p up (comes h) = comes (record {
   low = h.low;
   fair = h.fair;
   soon = (let soon = h.soon in omega (arith, soon, up));
-})
+}
+
+-- what is told by a tick is told by each later one
+told_later : (s : Side) (position by later : ℕ) (p : PathState Carried) → by ≤ later → FinIsTold s position by p → FinIsTold s position later p
+told_later s position by later p up (heard is) = heard is
+told_later s position by later p up (behind past) = behind past
+told_later s position by later p up (comes h) = comes (comes_later s position by later p up h)
 
 -- ---- over one path
 
@@ -258,6 +296,17 @@ module _ (start : Start) (plan : PathPlan) (one : BeginsWithOnePath start plan) 
 pub data_fins_come_soon : DataFinsComeSoon
 data_fins_come_soon start turns turn h s =
     subst (λ (u : WorldState Carried). (a : IsNow (IsOpenFrom B) u) → FinsGoOn s h.before.path a.path) (sym (last start h.mild turns turn)) (λ a. fins_go_on start h.mild turns turn h.before a s) h.after
+
+-- where the end is to send again, and has no record, the DATA_FIN goes so, unless it is harmed
+pub fin_goes_again : (start : Start) (turns : List Turn) (turn : Turn) (h : IsBegunTurn start turns turn) (s : Side) → LeavesRoomFor (peer s) h.before.path → (end_at s h.before.path).modes.clear ≡ true
+    → is_some (end_at s h.before.path).sending.known_end ≡ true → (others : List Duty) → h.before.path.agenda ≡ duties.Send (send_duties.Resend s) ∷ others → (end_at s h.before.path).tcp.send.records ≡ []
+    → (end_at s h.before.path).modes.owes_third ≡ false → (end_at s h.before.path).notices.fast_closed ≡ false → is_data_fin_owed (end_at s h.before.path) ≡ true
+    → (h.after.path ≡ h.before.path)
+    ⊎ ((is_harmed s h.before.path h.after.path ≡ true) ⊎ FinComesBy s (end_at s h.before.path).tcp.send.nxt (h.before.path.clock + 400) h.after.path)
+fin_goes_again start turns turn h s room clear knows others first none third close owed =
+    subst (λ (u : WorldState Carried). (a : IsNow (IsOpenFrom B) u) → (a.path ≡ h.before.path)
+    ⊎ ((is_harmed s h.before.path a.path ≡ true) ⊎ FinComesBy s (end_at s h.before.path).tcp.send.nxt (h.before.path.clock + 400) a.path)) (sym (last start h.mild turns turn))
+    (λ a. sent_again start h.mild turns turn h.before a s room clear knows others first none third close owed) h.after
 
 pub data_fins_stay_soon : DataFinsStaySoon
 data_fins_stay_soon start plan turns turn one h s =

@@ -34,7 +34,6 @@ use Rattle.whole_paths.specs.Came.{AcksWhatCame}
 use Rattle.whole_paths.specs.Copies.{IsUnderWay}
 use Rattle.whole_paths.specs.InTime.{ComesFrom}
 use Rattle.whole_paths.specs.Exchanges.{IsFaithful}
-use Rattle.whole_paths.specs.Exchanges.{IsHeldUp as held}
 use Rattle.whole_paths.specs.Flights.{ComesSo, GoesOnTo, IsCopyOf}
 use Rattle.whole_paths.specs.Flights.{GoesOnTo as way}
 use Rattle.whole_paths.proofs.Acking.{same_actor}
@@ -66,7 +65,7 @@ use Rattle.whole_paths.specs.FirstPieces.IsFirstPieceAwaited.{comes, hears}
 use Rattle.whole_paths.specs.FirstPieces.{FirstPieceGoesOn as goes}
 use Rattle.whole_paths.specs.Flights.{IsOnItsWay, IsSentSo}
 use Rattle.whole_paths.specs.Mild.{EndsGoByMappings, HasKeys, IsMildStart, IsNeverBroken, IsUnbroken, treats_answer}
-use Rattle.whole_paths.specs.News.{Counts as counts}
+use Rattle.whole_paths.specs.Opened.{OpensOn as opened}
 use Rattle.whole_paths.specs.OpeningConfirmed.{Confirming, ConfirmedOn, PathsConfirm}
 use Rattle.whole_paths.specs.OpeningConfirmed.{ConfirmedOn as confirmed}
 use Rattle.whole_paths.specs.OpeningConfirmed.{IsConfirmed as sure}
@@ -82,6 +81,7 @@ use Rattle.whole_paths.proofs.OpeningConfirmed.{each_confirmation_counts, signs_
 use Rattle.path_core.specs.DssOut.{checksum_told}
 use Rattle.whole_paths.specs.DataAcksHeard.{IsToHear}
 use Rattle.whole_paths.proofs.Syns.{apart, each_known}
+use Rattle.whole_paths.proofs.SentSoon.{what_is_sent_comes_soon}
 
 -- ---- a state
 
@@ -139,14 +139,14 @@ module _ (p q : PathState Carried) (known : Known p) (faithful : IsFaithful p) (
     if_unsure unsure still = by q.b.modes.clear refl
       where
         by : (b : Bool) → q.b.modes.clear ≡ b → Goes
-        by true is = goes.counts (counts.clears B unsure is)
+        by true is = goes.opens (opened.clears B unsure is)
         by false is = still is
 
     if_unclear : p.a.modes.clear ≡ false → (q.a.modes.clear ≡ false → Goes) → Goes
     if_unclear unclear still = by q.a.modes.clear refl
       where
         by : (b : Bool) → q.a.modes.clear ≡ b → Goes
-        by true is = goes.counts (counts.clears A unclear is)
+        by true is = goes.opens (opened.clears A unclear is)
         by false is = still is
 
     never_reset : IsToReset B q.agenda → ⊥
@@ -156,7 +156,7 @@ module _ (p q : PathState Carried) (known : Known p) (faithful : IsFaithful p) (
 
     confirmed_goes : p.b.modes.clear ≡ false → ConfirmedOn B steps q → Goes
     confirmed_goes unsure (confirmed.on h) = if_unsure unsure (λ still. goes.on (hears still h))
-    confirmed_goes unsure (confirmed.gone dead) = goes.held_up B (held.gone B (inr dead))
+    confirmed_goes unsure (confirmed.gone dead) = goes.opens (opened.gone B (inr dead))
     confirmed_goes unsure (confirmed.reset is) = absurd (never_reset is)
     confirmed_goes unsure (confirmed.plain is) = absurd (both_ways q.b.modes.identity (later_maps B).identity is)
     confirmed_goes unsure (confirmed.refused is) = absurd (both_ways (was_told tells_other_key steps) own_key is)
@@ -168,7 +168,7 @@ module _ (p q : PathState Carried) (known : Known p) (faithful : IsFaithful p) (
 
       on_goes : (w : IsOnItsWay values A r x q) → IsSentSo (ShowsBothKeys p.profile r) w → Goes
       on_goes w w_so = if_unclear unclear (λ still_unclear. if_unsure unsure (λ still_unsure. ⊎_elim
-          (λ more. goes.counts (counts.in_order B more))
+          (λ more. goes.opens (opened.comes B unsure more))
           (λ same. by_life still_unclear still_unsure (let up = far.b.subflow.received in omega (arith, same, up, edge)) (is_dead q.a.tcp.state) refl)
           (cases_lt p.b.tcp.recv.edge q.b.tcp.recv.edge)))
         where
@@ -179,7 +179,7 @@ module _ (p q : PathState Carried) (known : Known p) (faithful : IsFaithful p) (
           up_b = let up = far.b.subflow.state in omega (arith, there_high, up)
 
           by_life : q.a.modes.clear ≡ false → q.b.modes.clear ≡ false → q.b.tcp.recv.edge ≡ 1 → (b : Bool) → is_dead q.a.tcp.state ≡ b → Goes
-          by_life c d edge_q true is = goes.held_up A (held.gone A (inr is))
+          by_life c d edge_q true is = goes.opens (opened.gone A (inr is))
           by_life c d edge_q false is = goes.on (comes r kind at up_a c (far.a.keyed key) d up_b edge_q w (subst (λ c. IsSentSo (ShowsBothKeys c r) w) (sym frames.profile) w_so))
 
       -- a copy comes
@@ -247,7 +247,7 @@ module _ (p q : PathState Carried) (known : Known p) (faithful : IsFaithful p) (
         piece_comes = by (is_dead e.tcp.state) refl
           where
             by : (b : Bool) → is_dead e.tcp.state ≡ b → Goes
-            by true is = goes.held_up B (held.gone B (inl (subst (λ t. is_dead (end_at t p).tcp.state ≡ true) to_b is)))
+            by true is = goes.opens (opened.gone B (inl (subst (λ t. is_dead (end_at t p).tcp.state ≡ true) to_b is)))
             by false is = ⊎_elim
                 (λ same. same_goes same)
                 (λ told. confirmed_goes unsure (subst (λ t. ConfirmedOn t steps q) to_b told))
@@ -256,11 +256,10 @@ module _ (p q : PathState Carried) (known : Known p) (faithful : IsFaithful p) (
       goes_by : (go : GoesOnTo values A r x p q) → ComesSo (ShowsBothKeys p.profile r) go → Goes
       goes_by (way.on w) w_so = on_goes w w_so
       goes_by (way.arrives f low there copy others first then_event) w_so = piece_comes f there copy w_so others first then_event
-      goes_by (way.news news) w_so = goes.held_up A (held.news news)
-      goes_by (way.harmed less) w_so = goes.held_up A (held.harmed less)
-      goes_by (way.lost y of_it taken loses) w_so = goes.held_up A (held.lost A y taken loses)
-      goes_by (way.gone dead) w_so = goes.held_up A (held.gone A (inr dead))
-      goes_by (way.dies line event is dead) w_so = goes.held_up A (held.dies line event is dead)
+      goes_by (way.news news) w_so = goes.opens (opened.news A unsure news)
+      goes_by (way.harmed is) w_so = goes.opens (opened.harmed A is)
+      goes_by (way.gone dead) w_so = goes.opens (opened.gone A (inr dead))
+      goes_by (way.dies line event is dead) w_so = goes.opens (opened.gone A (inr dead))
 
       record_goes : SentGoOn (ShowsBothKeys p.profile r) values (Path p) (Path q) → Goes
       record_goes sent =
@@ -296,7 +295,7 @@ pieces_by_turns start turns mild turn actor c at =
       d,
       told.1,
       turn_goes c.member d.member d.list (each_known start turns mild.plain.size mild.fit actor c at)
-          (λ Was. same_actor (λ x. SentGoOn Was values c.member x.member) v actor d told.1 (sent_go_on Was values w (nothing_is_overdue values start turns) turn actor c at))
+          (λ Was. same_actor (λ x. SentGoOn Was values c.member x.member) v actor d told.1 (sent_go_on Was values w (nothing_is_overdue values start turns) ((what_is_sent_comes_soon values).numbered start turns) turn actor c at))
           (same_actor (λ x. FramesStay c.member x.member) v actor d told.1 (frames_stay values w turn actor c at))
           ((mapping_is_kept start turns mild).each actor c at)
           told.2

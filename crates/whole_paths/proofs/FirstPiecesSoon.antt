@@ -26,7 +26,8 @@ use Rattle.whole_paths.specs.FirstPieces.{IsFirstPieceAwaited, ShowsBothKeys}
 use Rattle.whole_paths.specs.FirstPieces.{IsFirstPieceAwaited as awaited}
 use Rattle.whole_paths.specs.FirstPiecesSoon.{AwaitsKeys, EachFirstPieceComesSoon, FirstPieceComesSoon}
 use Rattle.whole_paths.specs.Flights.{IsOnItsWay}
-use Rattle.whole_paths.specs.Mending.{CopiesAreNumbered, IsSentSoon}
+use Rattle.whole_paths.specs.Copies.{CopiesAreNumbered}
+use Rattle.whole_paths.specs.Mending.{IsSentSoon}
 use Rattle.whole_paths.specs.Mild.{EndsGoByMappings, LinkIsMild}
 use Rattle.whole_paths.specs.RecordsGo.{IsOneSo}
 use Rattle.whole_paths.proofs.ByTurns.{Becomes, Of, then_path}

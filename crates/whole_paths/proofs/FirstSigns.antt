@@ -27,7 +27,6 @@ use Rattle.whole_paths.specs.Came.{AcksWhatCame}
 use Rattle.whole_paths.specs.Copies.{IsUnderWay}
 use Rattle.whole_paths.specs.InTime.{ComesFrom}
 use Rattle.whole_paths.specs.Exchanges.{IsFaithful}
-use Rattle.whole_paths.specs.Exchanges.{IsHeldUp as held}
 use Rattle.whole_paths.proofs.Acking.{same_actor}
 use Rattle.whole_paths.proofs.Exchanges.{Known, OfPaths, Shown, SameHeader, below_limit, changed_said, under_way}
 use Rattle.whole_paths.proofs.Flying.{Frames, FramesStay, frames_stay}
@@ -45,7 +44,7 @@ use Rattle.path_core.specs.OptionsIn.{items_of, options_heard}
 use Rattle.path_core.specs.Profile.{Profile}
 use Rattle.whole_paths.specs.Brought.{Brings, IsToReset}
 use Rattle.whole_paths.specs.Mild.{EndsGoByMappings, IsMildStart, IsNeverBroken, IsUnbroken}
-use Rattle.whole_paths.specs.News.{Counts as counts}
+use Rattle.whole_paths.specs.Opened.{OpensOn as opens_on}
 use Rattle.whole_paths.specs.OpeningConfirmed.{Confirming, ConfirmedOn, PathsConfirm}
 use Rattle.whole_paths.specs.OpeningConfirmed.{ConfirmedOn as confirmed}
 use Rattle.whole_paths.specs.OpeningConfirmed.{IsConfirmed as sure}
@@ -78,7 +77,6 @@ use Rattle.whole_paths.proofs.Arrivals.{sender_of}
 use Rattle.whole_paths.proofs.DataAcksAsked.{AskedAtTheEnd, AsksComeSo, asked_at_the_end, asks_come_so}
 use Rattle.whole_paths.proofs.DataAcksCome.{each_ack_comes, each_ask_arrives}
 use Rattle.whole_paths.proofs.Exchanges.{all_at}
-use Rattle.whole_paths.proofs.OpenAsksGoOn.{more_sent}
 use Rattle.path_agenda.specs.Agenda.{emission, expired}
 use Rattle.path_agenda.specs.declared.duty.SendDuty.TheVariants as send_duties
 use Rattle.path_core.specs.OptionsOut.{opening_options}
@@ -89,8 +87,8 @@ use Rattle.whole_paths.proofs.Endings.{BothKnowTheirEnd}
 use Rattle.whole_paths.specs.Finish.{IsPathAt}
 use Rattle.whole_paths.proofs.OpenPieces.{each_knows}
 use Rattle.whole_paths.proofs.OpenAsks.{EndsAskForThemselves, ends_ask_for_themselves}
-use Rattle.whole_paths.proofs.Exchanges.{each_shown}
-use Rattle.whole_paths.proofs.Reached.{EndsAreReached, each_is_reached, none_left}
+use Rattle.whole_paths.proofs.Reached.{none_left}
+use Rattle.whole_paths.proofs.SentSoon.{what_is_sent_comes_soon}
 
 -- ---- what B asks
 
@@ -113,7 +111,7 @@ owed_so e mapped finite sent unacked = rw (mapped, finite, sent, unacked) refl
 module _ (p q : PathState Carried) (known : Known p) (faithful : IsFaithful p) (few : (t : Side) → segments_sent t p.link < 2 ^ 64 - 1) (far : IsActorAsFar (Path p) (Path q)) (frames : Frames p q)
     (maps : EndsGoByMappings p) (steps : List Note) (turn : Confirming values steps p q)
     (unbroken : IsUnbroken q) (later_maps : EndsGoByMappings q) (own_key : was_told tells_other_key steps ≡ false)
-    (reached_q : EndsAreReached q) (shown_q : Shown q) (third : p.b.modes.owes_third ≡ false) (close : p.b.notices.fast_closed ≡ false) where
+    (third : p.b.modes.owes_third ≡ false) (close : p.b.notices.fast_closed ≡ false) where
   numbered : (f : Flight Carried) → IsUnderWay f p → f.number < 2 ^ 64 - 1
   numbered f there = let low = under_way (λ g. g.number ≤ segments_sent (peer g.to) p.link) f p there known.link.low in let most = few (peer f.to) in omega (arith, low, most)
 
@@ -134,7 +132,7 @@ module _ (p q : PathState Carried) (known : Known p) (faithful : IsFaithful p) (
     if_unclear unclear still = by q.a.modes.clear refl
       where
         by : (b : Bool) → q.a.modes.clear ≡ b → Goes
-        by true is = goes.counts (counts.clears A unclear is)
+        by true is = goes.opens (opens_on.clears A unclear is)
         by false is = still is
 
     never_reset : IsToReset A q.agenda → ⊥
@@ -144,7 +142,7 @@ module _ (p q : PathState Carried) (known : Known p) (faithful : IsFaithful p) (
 
     confirmed_goes : p.a.modes.clear ≡ false → ConfirmedOn A steps q → Goes
     confirmed_goes unclear (confirmed.on h) = if_unclear unclear (λ still. goes.on (hears still h))
-    confirmed_goes unclear (confirmed.gone dead) = goes.held_up A (held.gone A (inr dead))
+    confirmed_goes unclear (confirmed.gone dead) = goes.opens (opens_on.gone A (inr dead))
     confirmed_goes unclear (confirmed.reset is) = absurd (never_reset is)
     confirmed_goes unclear (confirmed.plain is) = absurd (both_ways q.a.modes.identity (later_maps A).identity is)
     confirmed_goes unclear (confirmed.refused is) = absurd (both_ways (was_told tells_other_key steps) own_key is)
@@ -158,12 +156,12 @@ module _ (p q : PathState Carried) (known : Known p) (faithful : IsFaithful p) (
       if_unacked still = by q.b.sending.close.own_acked refl
         where
           by : (b : Bool) → q.b.sending.close.own_acked ≡ b → Goes
-          by true is = goes.held_up B (held.news (news.data_fin waits.unacked is))
+          by true is = goes.opens (opens_on.news B unclear (news.data_fin waits.unacked is))
           by false is = still is
 
       on_goes : (w : IsAskedAgain values B x q) → IsAskedSo (AsksByItsEnd p.a.tcp.recv.edge) w → Goes
       on_goes w w_so = if_unclear unclear (λ still. ⊎_elim
-          (λ more. goes.counts (counts.in_order A more))
+          (λ more. goes.opens (opens_on.comes A unclear more))
           (λ same. if_unacked (λ unacked. goes.on (comes still (let up = far.a.subflow.state in omega (arith, high, up))
           (record { clear = far.b.clear waits.clear; sent = far.b.stream.fin_sent waits.sent; unacked = unacked }) w (subst (λ n. IsAskedSo (AsksByItsEnd n) w) (let up = far.a.subflow.received in omega (arith, same, up)) w_so))))
           (cases_lt p.a.tcp.recv.edge q.a.tcp.recv.edge))
@@ -220,7 +218,7 @@ module _ (p q : PathState Carried) (known : Known p) (faithful : IsFaithful p) (
         sign_comes = by (is_dead p.a.tcp.state) refl
           where
             by : (b : Bool) → is_dead p.a.tcp.state ≡ b → Goes
-            by true is = goes.held_up A (held.gone A (inl is))
+            by true is = goes.opens (opens_on.gone A (inl is))
             by false is =
                 let t = taken is in ⊎_elim
                 (λ same. same_goes same)
@@ -230,13 +228,12 @@ module _ (p q : PathState Carried) (known : Known p) (faithful : IsFaithful p) (
       goes_by : (go : AskingGoesOn values B x p q) → AskComesSo (AsksByItsEnd p.a.tcp.recv.edge) go → Goes
       goes_by (asking.on w) w_so = on_goes w w_so
       goes_by (asking.arrives f low there h others first then_event) w_so = sign_comes f there h w_so others first then_event
-      goes_by (asking.record_waits r none is_first way) w_so = goes.counts (counts.sent_more B (more_sent B p q (known.reached B) (reached_q B) shown_q far.b.subflow.acknowledged none r is_first))
-      goes_by (asking.news news) w_so = goes.held_up B (held.news news)
+      goes_by (asking.record_waits r none is_first way ungone) w_so = goes.record_waits (far.b.clear waits.clear) (let up = far.a.subflow.state in omega (arith, high, up)) r is_first way ungone
+      goes_by (asking.news news) w_so = goes.opens (opens_on.news B unclear news)
       goes_by (asking.done none) w_so = if_unacked (λ unacked. absurd (none (outstanding.data_fin (later_maps B).identity (later_maps B).own (far.b.stream.fin_sent waits.sent) unacked)))
-      goes_by (asking.harmed less) w_so = goes.held_up B (held.harmed less)
-      goes_by (asking.lost y of_it taken loses) w_so = goes.held_up B (held.lost B y taken loses)
-      goes_by (asking.gone dead) w_so = goes.held_up B (held.gone B (inr dead))
-      goes_by (asking.dies line event is dead) w_so = goes.held_up B (held.dies line event is dead)
+      goes_by (asking.harmed is) w_so = goes.opens (opens_on.harmed B is)
+      goes_by (asking.gone dead) w_so = goes.opens (opens_on.gone B (inr dead))
+      goes_by (asking.dies line event is dead) w_so = goes.opens (opens_on.gone A (inr dead))
 
       -- what the end sends now
       asks_so : is_dead p.b.tcp.state ≡ false → p.b.tcp.send.records ≡ [] → AsksByItsEnd p.a.tcp.recv.edge p.b (is_stripped B (next_number B p.link) p.clock p.link.lines) (is_altered B (next_number B p.link) p.link.lines)
@@ -256,7 +253,7 @@ module _ (p q : PathState Carried) (known : Known p) (faithful : IsFaithful p) (
       sign_goes asks = by (is_dead p.b.tcp.state) refl
         where
           by : (b : Bool) → is_dead p.b.tcp.state ≡ b → Goes
-          by true is = goes.held_up B (held.gone B (inl is))
+          by true is = goes.opens (opens_on.gone B (inl is))
           by false living = let go = asks B x (few B) (asks_so living) next so in goes_by go.0 go.1
 
     goes_so : ((Was : PathEnd → Bool → Bool → Type 0) → AsksComeSo Was values (Path p) (Path q)) → IsSignAwaited x p → Goes
@@ -281,14 +278,14 @@ alone_so s p alone ends = record {
     never false unlike = refl
 
 turn_goes : (m n : Actor Carried) → (steps : List Note) → OfPaths Known m → ((Was : PathEnd → Bool → Bool → Type 0) → AsksComeSo Was values m n) → FramesStay m n → OfPaths EndsGoByMappings m → PathsConfirm values steps m n → IsActorAsFar m n
-    → OfPaths IsNeverBroken n → OfPaths EndsGoByMappings n → was_told tells_other_key steps ≡ false → OfPaths EndsAreReached n → OfPaths Shown n → OfPaths EndsAskForThemselves m → OfPaths BothKnowTheirEnd m → SignsGoOn m n
-turn_goes (App a) (App b) steps known asks frames maps confirms far breaks later_maps own_key reached_q shown_q alone ends = tt
-turn_goes (Path p) (Path q) steps known asks frames maps confirms far breaks later_maps own_key reached_q shown_q alone ends = λ faithful few x h.
+    → OfPaths IsNeverBroken n → OfPaths EndsGoByMappings n → was_told tells_other_key steps ≡ false → OfPaths EndsAskForThemselves m → OfPaths BothKnowTheirEnd m → SignsGoOn m n
+turn_goes (App a) (App b) steps known asks frames maps confirms far breaks later_maps own_key alone ends = tt
+turn_goes (Path p) (Path q) steps known asks frames maps confirms far breaks later_maps own_key alone ends = λ faithful few x h.
     let first : is_joined q.profile ≡ false = ap is_joined frames.profile ∙ faithful.joined in
     let for_end = alone_so B p alone ends in
-    goes_so p q known faithful few far frames maps steps confirms (breaks first) later_maps own_key reached_q shown_q (for_end.third faithful.joined) for_end.close x asks h
-turn_goes (App a) (Path q) steps known asks frames maps confirms far breaks later_maps own_key reached_q shown_q alone ends = absurd confirms
-turn_goes (Path p) (App b) steps known asks frames maps confirms far breaks later_maps own_key reached_q shown_q alone ends = absurd confirms
+    goes_so p q known faithful few far frames maps steps confirms (breaks first) later_maps own_key (for_end.third faithful.joined) for_end.close x asks h
+turn_goes (App a) (Path q) steps known asks frames maps confirms far breaks later_maps own_key alone ends = absurd confirms
+turn_goes (Path p) (App b) steps known asks frames maps confirms far breaks later_maps own_key alone ends = absurd confirms
 
 signs_by_turns : (start : Start) (turns : List Turn) → IsMildStart start → let w = reached values start turns in (turn : Turn) (actor : ℕ) (c : ActorCrew Carried) → slice_get w.crew actor ≡ Some c
     → (d : ActorCrew Carried) × (slice_get (after_turn values turn w).crew actor ≡ Some d) × SignsGoOn c.member d.member
@@ -302,7 +299,7 @@ signs_by_turns start turns mild turn actor c at =
       d,
       told.1,
       turn_goes c.member d.member d.list (each_known start turns mild.plain.size mild.fit actor c at)
-          (λ Was. same_actor (λ x. AsksComeSo Was values c.member x.member) v actor d told.1 (asks_come_so Was values w (nothing_is_overdue values start turns) turn actor c at))
+          (λ Was. same_actor (λ x. AsksComeSo Was values c.member x.member) v actor d told.1 (asks_come_so Was values w (nothing_is_overdue values start turns) ((what_is_sent_comes_soon values).numbered start turns) turn actor c at))
           (same_actor (λ x. FramesStay c.member x.member) v actor d told.1 (frames_stay values w turn actor c at))
           ((mapping_is_kept start turns mild).each actor c at)
           told.2
@@ -310,8 +307,6 @@ signs_by_turns start turns mild turn actor c at =
           ((never_breaks start more mild).each actor d there)
           ((mapping_is_kept start more mild).each actor d there)
           (ap (λ o. was_told tells_other_key (notes_or o)) (sym there) ∙ keys_never_differ start more actor)
-          ((each_is_reached values start more).each actor d there)
-          (each_shown start more mild.plain.size mild.fit actor d there)
           (ends_ask_for_themselves start turns mild actor c at)
           (each_knows start turns mild.plain.size actor c at),
     )

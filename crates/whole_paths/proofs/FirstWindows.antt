@@ -75,7 +75,7 @@ each_nothing start turns size =
 
 module _ (start : Start) (plan : PathPlan) (one : start.paths ≡ plan ∷ []) (mild : IsMildStart start) where
   -- A's side received nothing before B has its SYN
-  fewer : (turns : List Turn) (p : PathState Carried) → IsPathAt 0 (reached values start turns) p → IsAlive p → stage p.b.tcp.state ≤ 1 → next_wanted (arrived_at A (reached values start turns)) < 1
+  pub fewer : (turns : List Turn) (p : PathState Carried) → IsPathAt 0 (reached values start turns) p → IsAlive p → stage p.b.tcp.state ≤ 1 → next_wanted (arrived_at A (reached values start turns)) < 1
   fewer turns p here alive low =
       let none = a_is_told_no_end_before start plan turns one mild p here unclear in
       let edge = nothing_comes_before start plan turns one mild p here alive A unclear in
@@ -123,7 +123,7 @@ module _ (start : Start) (plan : PathPlan) (one : start.paths ≡ plan ∷ []) (
             let untold = a_is_told_no_end_before start plan turns one mild p here unclear in let some = all.known in cc)
 
     idle : (p.b.sending.granted ≡ []) × (p.b.sending.shut ≡ false)
-    idle = ((nothing_at turns p here).nothing unfinished few, unshut_at start plan one mild B 1 room fewer turns p here alive few)
+    idle = ((nothing_at turns p here).nothing unfinished few, unshut_at start plan one mild B 1 1 (omega arith) (omega arith) room (λ turns p here alive low. (let none = fewer turns p here alive low in omega (arith, none))) turns p here alive few)
 
 pub b_is_idle_before : BIsIdleBefore
 b_is_idle_before start plan turns one mild room p here alive over unclear clear none = idle start plan one mild room turns p here alive unclear none

@@ -55,14 +55,15 @@ use Rattle.world_laws.specs.Worlds.{WorldState, Turn, after_turn, world_run}
 use Rattle.world_laws.specs.Writes.{PathView}
 use Rattle.world_laws.proofs.Writes.Paths.{writes_no_more, passes_no_more}
 use Rattle.world_laws.proofs.Writes.Steps.{Lasts, settled_lasts, takes_lasts, begins_lasts}
-use Rattle.whole_paths.specs.Copies.{IsUnderWay, GoesOnItsWay, CopiesGoOn}
+use Rattle.whole_paths.specs.Copies.{IsUnderWay, GoesOnItsWay, CopiesGoOn, CopiesAreNumbered, LinksAreNumbered}
 use Rattle.whole_paths.specs.Copies.{GoesOnItsWay as copy}
 use Rattle.whole_paths.specs.Expiries.{IsSegmentOf, IsSaidAt, IsToSendAgain, PathsGoAgain, SendsAgain, GoesAgain, Expires}
 use Rattle.whole_paths.specs.Flights.{IsFirst, IsCopyOf, IsOnItsWay, IsSentSo, ComesSo, GoesOnTo, RecordsGoOn, IsOnItsWayAtTheEnd, WhatWaitsComes}
 use Rattle.whole_paths.specs.Flights.IsOnItsWay.{waits, resends, flies}
 use Rattle.whole_paths.specs.Flights.{GoesOnTo as goes}
-use Rattle.whole_paths.specs.Harms.{harms_left, as_it_arrives, longest_way, IsOnTime}
+use Rattle.whole_paths.specs.Harms.{longest_way}
 use Rattle.whole_paths.specs.InTime.{ComesFrom, NothingIsOverdue}
+use Rattle.whole_paths.specs.Mending.{IsSentSoon}
 use Rattle.whole_paths.specs.Kept.{AreKept, IsSameRecord, KeepsWhatWaits, EndsKeepWhatWaits}
 use Rattle.whole_paths.specs.Reasons.{IsOutstanding, IsTimedWhereItWaits}
 use Rattle.whole_paths.specs.Timers.{TimersAreNear}
@@ -72,9 +73,9 @@ use Rattle.whole_paths.proofs.Copies.{LinkStep, LinkStays, links_last, link_step
 use Rattle.whole_paths.proofs.Copies.LinkStep.{stays, hands, delivers, is_cut}
 use Rattle.whole_paths.proofs.InTime.{is_event, answered_same, passed_same, timer_behind}
 use Rattle.whole_paths.proofs.Keeping.{what_waits_is_kept}
-use Rattle.whole_paths.proofs.Links.{each_uses_a_line_or_comes}
 use Rattle.whole_paths.proofs.Reasons.{who_waits_has_a_timer}
 use Rattle.whole_paths.proofs.Resending.{what_runs_out_goes_again}
+use Rattle.whole_paths.proofs.SentSoon.{segments_come_soon}
 use Rattle.whole_paths.proofs.Timing.{happens_clock, timers_run_out}
 use Rattle.whole_paths.proofs.Turns.{turn_each}
 use Rattle.whole_paths.proofs.Waiting.{no_timer_is_put_off}
@@ -271,8 +272,8 @@ module _ {C : Type 0} where
     same_on : q ≡ p → (way : IsOnItsWay k s r by_then p) → IsSentSo Was way → Next
     same_on same way so = let there = subst (λ v. (w : IsOnItsWay k s r by_then v) × IsSentSo Was w) (sym same) (way, so) in (goes.on there.0, there.1)
 
-    waits_goes : GoesAgain k p q → ComesFrom p.clock p → (tick : ℕ) → tick + longest_way s p.link ≤ by_then → RunsTo tick (end_at s p) → IsFirst r (end_at s p) → WaitsOn s tick p q → Next
-    waits_goes again past tick low h first (wait.runs on) = let way = frames.way s in with_first first (λ still. (goes.on (waits tick (omega (arith, way, low)) on still), tt))
+    waits_goes : GoesAgain k p q → ComesFrom p.clock p → (tick : ℕ) → tick + 400 ≤ by_then → RunsTo tick (end_at s p) → IsFirst r (end_at s p) → WaitsOn s tick p q → Next
+    waits_goes again past tick low h first (wait.runs on) = with_first first (λ still. (goes.on (waits tick (omega (arith, low)) on still), tt))
     waits_goes again past tick low h first (wait.news news) = (goes.news news, tt)
     waits_goes again past tick low h first (wait.gone gone) = (goes.gone gone, tt)
     waits_goes again past tick low h first (wait.runs_out at out) = ⊎_elim
@@ -286,60 +287,46 @@ module _ {C : Type 0} where
             (λ many. (goes.gone (expired.sixth many), tt))
             (cases_lt (end_at s p).tcp.timing.expiries 5)
           where
-            in_time : q.clock ≡ max p.clock at → q.clock + longest_way s q.link ≤ by_then
+            in_time : q.clock ≡ max p.clock at → q.clock + 400 ≤ by_then
             in_time clock =
                 let early = timer_behind s (happenings.Fires s at) tick p out.next h.timer in
                 let from = timer_from s tick p past h.timer in
-                let way = frames.way s in
-                omega (arith, clock, early, from, way, low)
+                omega (arith, clock, early, from, low)
 
-    flown : SendsAgain k s p q → IsFirst r (end_at s p) → p.clock + longest_way s p.link ≤ by_then → segments_sent s p.link < 2 ^ 64 - 1 → Next
-    flown sent h low few = ⊎_elim
-        (λ less. (goes.harmed (subst (λ (l : LinkState C). harms_left l < harms_left p.link) (sym sent.taken) less), tt))
-        (λ comes. ⊎_elim (λ lost. (goes.lost sent.segment of_it sent.taken lost, tt)) by comes.1)
-        (each_uses_a_line_or_comes (k.strips p.profile.spelling) (k.alters p.profile.spelling) s (k.makes p.profile.spelling s sent.segment) size p.clock p.link few)
+    flown : CopiesAreNumbered p → SendsAgain k s p q → IsFirst r (end_at s p) → p.clock + 400 ≤ by_then → segments_sent s p.link < 2 ^ 64 - 1 → Next
+    flown numbered sent h low few = ⊎_elim (λ harmed. (goes.harmed harmed, tt)) by (segments_come_soon k p q numbered s sent.segment few sent.taken)
       where
-        size : ℕ
-        size = length (made p.profile.spelling s sent.segment)
-
-        after : LinkState C
-        after = handed k s sent.segment p
-
         of_it : IsSegmentOf r sent.segment
         of_it = same_segment r h.first sent.segment h.same (sent.first h.first h.others h.records).0
 
-        by : Has (IsOnTime s size p.clock (as_it_arrives (k.strips p.profile.spelling) (k.alters p.profile.spelling) s (k.makes p.profile.spelling s sent.segment) p.clock p.link) p.link) after.under_way → Next
-        by has = (
-          goes.on (flies has.item (let in_time = has.holds.in_time in omega (arith, in_time, low))
-              (subst (λ (l : LinkState C). Has (λ g. g ≡ has.item) l.under_way) (sym sent.taken) (record { at = has.at; item = has.item; there = has.there; holds = refl }))
-              (record {
-                to = has.holds.to;
-                segment = sent.segment;
-                of_it = of_it;
-                sender = end_at s p;
-                says = subst (λ c. IsSaidAt c s r (end_at s p) sent.segment) (sym frames.profile) (same_said p.profile s (end_at s p) r h.first sent.segment h.same (sent.first h.first h.others h.records).1);
-                stripped = is_stripped s (next_number s p.link) p.clock p.link.lines;
-                altered = is_altered s (next_number s p.link) p.link.lines;
-                whole = λ strips. (subst StripsNothing frames.lines strips).strips s (next_number s p.link) p.clock;
-                plain = λ alters. (subst AltersNothing frames.lines alters).alters s (next_number s p.link);
-                carried = subst (λ (c : Profile). has.item.carried
-                    ≡ changed (k.strips c.spelling s) (k.alters c.spelling s) (is_stripped s (next_number s p.link) p.clock p.link.lines) (is_altered s (next_number s p.link) p.link.lines)
-                    (k.makes c.spelling s sent.segment)) (sym frames.profile) has.holds.carried;
-              })),
-          was h,
+        by : IsSentSoon k s sent.segment p q → Next
+        by c = (
+          goes.on (flies c.copy (let soon = c.soon in omega (arith, soon, low)) c.there (record {
+            to = c.to;
+            segment = sent.segment;
+            of_it = of_it;
+            sender = end_at s p;
+            says = subst (λ c. IsSaidAt c s r (end_at s p) sent.segment) (sym frames.profile) (same_said p.profile s (end_at s p) r h.first sent.segment h.same (sent.first h.first h.others h.records).1);
+            stripped = c.stripped;
+            altered = c.altered;
+            whole = λ strips. c.whole (subst StripsNothing frames.lines strips);
+            plain = λ alters. c.plain (subst AltersNothing frames.lines alters);
+            carried = subst (λ (y : Profile). c.copy.carried ≡ changed (k.strips y.spelling s) (k.alters y.spelling s) c.stripped c.altered (k.makes y.spelling s sent.segment)) (sym frames.profile) c.carried;
+          })),
+          subst (λ b. Was (end_at s p) b c.altered) (sym c.strips_it) (subst (λ b. Was (end_at s p) (is_stripped s (next_number s p.link) p.clock p.link.lines) b) (sym c.alters_it) (was h)),
         )
 
-    resends_goes : GoesAgain k p q → p.clock + longest_way s p.link ≤ by_then → segments_sent s p.link < 2 ^ 64 - 1 → IsToSendAgain s p → IsFirst r (end_at s p) → Next
-    resends_goes again low few (inl is) h = ⊎_elim
+    resends_goes : CopiesAreNumbered p → GoesAgain k p q → p.clock + 400 ≤ by_then → segments_sent s p.link < 2 ^ 64 - 1 → IsToSendAgain s p → IsFirst r (end_at s p) → Next
+    resends_goes numbered again low few (inl is) h = ⊎_elim
         (λ same. same_on same (resends low (inl is) h) tt)
         (λ given. (goes.on (resends still (inr given.0) (subst (IsFirst r) (sym given.1) h)), tt))
         (again.gives_back s is)
       where
-        still : q.clock + longest_way s q.link ≤ by_then
-        still = let clock = frames.stands (duties.Ask (ask_duties.Return s)) (duties.Send (send_duties.Resend s) ∷ emission s) is refl in let way = frames.way s in omega (arith, clock, way, low)
-    resends_goes again low few (inr is) h = ⊎_elim
+        still : q.clock + 400 ≤ by_then
+        still = let clock = frames.stands (duties.Ask (ask_duties.Return s)) (duties.Send (send_duties.Resend s) ∷ emission s) is refl in omega (arith, clock, low)
+    resends_goes numbered again low few (inr is) h = ⊎_elim
         (λ same. same_on same (resends low (inr is) h) tt)
-        (λ sent. flown sent h low few)
+        (λ sent. flown numbered sent h low few)
         (again.sends s is)
 
     flies_goes : (f : Flight C) → f.tick ≤ by_then → IsUnderWay f p → (h : IsCopyOf k s r p f) → Was h.sender h.stripped h.altered → GoesOnItsWay f p q → Next
@@ -361,12 +348,15 @@ module _ {C : Type 0} where
     flies_goes f low before h so (copy.arrives others first next) = (goes.arrives f low before h others first next, so)
     flies_goes f low before h so (copy.dies line next is dead) = (goes.dies line next is dead, tt)
 
-    goes_by : TimersWaitOn (Path p) (Path q) → GoesAgain k p q → CopiesGoOn (Path p) (Path q) → ComesFrom p.clock p → segments_sent s p.link < 2 ^ 64 - 1 → (way : IsOnItsWay k s r by_then p) → IsSentSo Was way → Next
-    goes_by timers again copies past few (waits tick low h first) so = waits_goes again past tick low h first (timers s tick h)
-    goes_by timers again copies past few (resends low is first) so = resends_goes again low few is first
-    goes_by timers again copies past few (flies f low there h) so = flies_goes f low there h so (copies f there)
+    goes_by : CopiesAreNumbered p → TimersWaitOn (Path p) (Path q) → GoesAgain k p q → CopiesGoOn (Path p) (Path q) → ComesFrom p.clock p → segments_sent s p.link < 2 ^ 64 - 1 → (way : IsOnItsWay k s r by_then p) → IsSentSo Was way → Next
+    goes_by numbered timers again copies past few (waits tick low h first) so = waits_goes again past tick low h first (timers s tick h)
+    goes_by numbered timers again copies past few (resends low is first) so = resends_goes numbered again low few is first
+    goes_by numbered timers again copies past few (flies f low there h) so = flies_goes f low there h so (copies f there)
 
   -- ---- the world
+
+  abbrev AreNumbered : Actor C → Type 0
+  AreNumbered = HoldsOfKind (λ app. Unit {0}) (λ (p : PathState C). CopiesAreNumbered p)
 
   abbrev ComesInTime : Actor C → Type 0
   ComesInTime = HoldsOfKind (λ app. Unit {0}) (λ (p : PathState C). ComesFrom p.clock p)
@@ -380,11 +370,11 @@ module _ {C : Type 0} where
   SentGoOn Was k _ _ = ⊥
 
   records_go_on : (Was : PathEnd → Bool → Bool → Type 0) (k : Codec C) (m n : Actor C) → EndsKeepWhatWaits m n → TimersWaitOn m n → PathsGoAgain k m n → CopiesGoOn m n → FramesStay m n → ComesInTime m
-      → SentGoOn Was k m n
-  records_go_on Was k (App a) (App b) kept timers again copies frames past = tt
-  records_go_on Was k (Path p) (Path q) kept timers again copies frames past = λ s r by_then few was way so. goes_by k s r by_then p q (kept s) frames Was was timers again copies past few way so
-  records_go_on Was k (App a) (Path q) kept timers again copies frames past = absurd kept
-  records_go_on Was k (Path p) (App b) kept timers again copies frames past = absurd kept
+      → AreNumbered m → SentGoOn Was k m n
+  records_go_on Was k (App a) (App b) kept timers again copies frames past numbered = tt
+  records_go_on Was k (Path p) (Path q) kept timers again copies frames past numbered = λ s r by_then few was way so. goes_by k s r by_then p q (kept s) frames Was was numbered timers again copies past few way so
+  records_go_on Was k (App a) (Path q) kept timers again copies frames past numbered = absurd kept
+  records_go_on Was k (Path p) (App b) kept timers again copies frames past numbered = absurd kept
 
   -- whatever its sender
   any_sender : {s : Side} {r : Record} {n : ℕ} {p : PathState C} (k : Codec C) (way : IsOnItsWay k s r n p) → IsSentSo (λ e strips alters. Unit {0}) way
@@ -403,9 +393,9 @@ module _ {C : Type 0} where
   frames_stay k w turn = turn_each k (λ x y. FramesStay x.member y.member) (λ x. member_stays x.member) (λ ask books x. member_frames k (answer_to books ask) x.member)
       (λ stamp x over. member_begins x.member over) turn w
 
-  pub sent_go_on : (Was : PathEnd → Bool → Bool → Type 0) (k : Codec C) (w : WorldState C) → NothingIsOverdue w → (turn : Turn) (actor : ℕ) (c : ActorCrew C) → slice_get w.crew actor ≡ Some c
+  pub sent_go_on : (Was : PathEnd → Bool → Bool → Type 0) (k : Codec C) (w : WorldState C) → NothingIsOverdue w → LinksAreNumbered w → (turn : Turn) (actor : ℕ) (c : ActorCrew C) → slice_get w.crew actor ≡ Some c
       → (d : ActorCrew C) × (slice_get (after_turn k turn w).crew actor ≡ Some d) × SentGoOn Was k c.member d.member
-  sent_go_on Was k w past turn actor c there =
+  sent_go_on Was k w past numbered turn actor c there =
       let kept = what_waits_is_kept k w (turn ∷ []) actor c there in
       let d : ActorCrew C = kept.0 in
       let timers = (no_timer_is_put_off k).waits w turn actor c there in
@@ -419,17 +409,18 @@ module _ {C : Type 0} where
             (subst (λ (x : ActorCrew C). PathsGoAgain k c.member x.member) (same_Some again.0 d (sym again.1 ∙ kept.1)) again.2)
             (subst (λ (x : ActorCrew C). CopiesGoOn c.member x.member) (same_Some copies.0 d (sym copies.1 ∙ kept.1)) copies.2)
             (subst (λ (x : ActorCrew C). FramesStay c.member x.member) (same_Some frames.0 d (sym frames.1 ∙ kept.1)) frames.2)
-            (past.each actor c there),
+            (past.each actor c there)
+            (numbered.each actor c there),
       )
 
-  goes_on_so : (k : Codec C) (w : WorldState C) → NothingIsOverdue w → (turn : Turn) (actor : ℕ) (c : ActorCrew C) → slice_get w.crew actor ≡ Some c
+  goes_on_so : (k : Codec C) (w : WorldState C) → NothingIsOverdue w → LinksAreNumbered w → (turn : Turn) (actor : ℕ) (c : ActorCrew C) → slice_get w.crew actor ≡ Some c
       → (d : ActorCrew C) × (slice_get (after_turn k turn w).crew actor ≡ Some d) × RecordsGoOn k c.member d.member
-  goes_on_so k w past turn actor c there = let go = sent_go_on (λ e strips alters. Unit {0}) k w past turn actor c there in (go.0, go.1, whoever_sent k c.member go.0.member go.2)
+  goes_on_so k w past numbered turn actor c there = let go = sent_go_on (λ e strips alters. Unit {0}) k w past numbered turn actor c there in (go.0, go.1, whoever_sent k c.member go.0.member go.2)
 
   -- at the end of a turn
   abbrev pub SentAtTheEnd : (PathEnd → Bool → Bool → Type 0) → Codec C → PathState C → Type 0
   SentAtTheEnd Was k p = p.agenda ≡ [] → (s : Side) → is_closed_to_segments (end_at s p).tcp.state ≡ false → (r : Record) (others : List Record) → (end_at s p).tcp.send.records ≡ r ∷ others
-      → (way : IsOnItsWay k s r (p.clock + 60000 + longest_way s p.link) p) × IsSentSo Was way
+      → (way : IsOnItsWay k s r (p.clock + 60000 + 400) p) × IsSentSo Was way
 
   begins_so : (Was : PathEnd → Bool → Bool → Type 0) (k : Codec C) (p : PathState C) → IsTimedWhereItWaits p → IsSettledAtTheEnd p → TimersAreNear p → SentAtTheEnd Was k p
   begins_so Was k p timed settled near over s living r others is = by (end_at s p).tcp.timing.timer refl (timed over s living (IsOutstanding.on_subflow r others is))
@@ -438,7 +429,7 @@ module _ {C : Type 0} where
       alive phase.Dead living = absurd (true≢false living)
       alive _ living = refl
 
-      by : (o : Option ℕ) → (end_at s p).tcp.timing.timer ≡ o → IsSome o → (way : IsOnItsWay k s r (p.clock + 60000 + longest_way s p.link) p) × IsSentSo Was way
+      by : (o : Option ℕ) → (end_at s p).tcp.timing.timer ≡ o → IsSome o → (way : IsOnItsWay k s r (p.clock + 60000 + 400) p) × IsSentSo Was way
       by None none some = absurd (true≢false (sym some))
       by (Some tick) runs some = (
         waits tick

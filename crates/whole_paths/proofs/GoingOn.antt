@@ -131,7 +131,7 @@ there_or s w = by (written_by s w).closed refl (arrived_at (peer s) w).known_end
 
 -- ---- what is counted
 
-prefix_up : (xs ys : List ℕ) → IsPrefix xs ys → length xs ≤ length ys
+pub prefix_up : (xs ys : List ℕ) → IsPrefix xs ys → length xs ≤ length ys
 prefix_up xs ys h = let is : length ys ≡ length (xs ++ h.rest) = ap (λ (zs : List ℕ). length zs) h.whole_is in omega (arith, is, length-append xs h.rest)
 
 module _ (start : Start) where
@@ -205,7 +205,7 @@ module _ (start : Start) where
   step_more [] actor = refl
   step_more (x ∷ order) actor = ap (λ xs. Turn.Step x ∷ xs) (step_more order actor)
 
-  one_more : (since turns : List Turn) (order : List ℕ) (actor : ℕ) → turns ≡ since ++ steps_of order → turns ++ Turn.Step actor ∷ [] ≡ since ++ steps_of (order ++ actor ∷ [])
+  pub one_more : (since turns : List Turn) (order : List ℕ) (actor : ℕ) → turns ≡ since ++ steps_of order → turns ++ Turn.Step actor ∷ [] ≡ since ++ steps_of (order ++ actor ∷ [])
   one_more since turns order actor is = ap (λ xs. xs ++ Turn.Step actor ∷ []) is ∙ append_assoc since (steps_of order) (Turn.Step actor ∷ []) ∙ ap (λ xs. since ++ xs) (sym (step_more order actor))
 
   step_so : (n rounds : ℕ) (turns : List Turn) (actor : ℕ) → IsAboutToGoOn start n rounds turns → IsAboutToGoOn start n rounds (turns ++ Turn.Step actor ∷ [])
@@ -353,7 +353,23 @@ module _ (start : Start) (plan : PathPlan) (one : start.paths ≡ plan ∷ []) (
                 (λ left. next (became c there p is s is_open may left))
                 (left_or (end_at s p) (acked_len (written_by s (after turns)).marks) (length (written_by s (after turns)).written) (kept c there p is s is_open s).identity (kept c there p is s is_open s).own)
 
-  -- the second one
+    -- where an open end's stream was closed as the round began, or had more bytes then than are acknowledged, something is outstanding at it now
+    pub waits_for_something : (c : ActorCrew Carried) → slice_get (after turns).crew 2 ≡ Some c → (p : PathState Carried) → c.member ≡ Path p → (s : Side) → IsEndOpen s p → (IsAllThere s (after turns) → ⊥)
+        → ((written_by s (after since)).closed ≡ true) ⊎ (acked_len (written_by s (after turns)).marks < length (written_by s (after since)).written) → (may_finish (end_at s p).tcp.state ≡ true) × IsOutstanding (end_at s p)
+    waits_for_something c there p is s opened missing had = by_state (may_finish (end_at s p).tcp.state) refl
+      where
+        never : Became s → ⊥
+        never (inl all) = missing all
+        never (inr rest) = ⊎_elim (λ closed. both_ways (written_by s (after since)).closed rest.0 closed) (λ less. let low = rest.1 in omega (arith, less, low)) had
+
+        by_state : (b : Bool) → may_finish (end_at s p).tcp.state ≡ b → (may_finish (end_at s p).tcp.state ≡ true) × IsOutstanding (end_at s p)
+        by_state false behind = absurd (never (behind_became c there p is s opened behind))
+        by_state true may = ⊎_elim
+            (λ some. (may, some.outstanding))
+            (λ left. absurd (never (became c there p is s opened may left)))
+            (left_or (end_at s p) (acked_len (written_by s (after turns)).marks) (length (written_by s (after turns)).written) (kept c there p is s opened s).identity (kept c there p is s opened s).own)
+
+  -- where each turn is over nobody goes on
   not_going : (actor : ℕ) (w : WorldState Carried) → all_over w.crew ≡ true → is_going actor w ≡ false
   not_going actor w over = by (slice_get w.crew actor) refl
     where
@@ -361,6 +377,28 @@ module _ (start : Start) (plan : PathPlan) (one : start.paths ≡ plan ∷ []) (
       by None there = refl
       by (Some c) there = rw (all_over_each w.crew actor c over there) refl
 
+  -- the application wrote, or closed the stream, in the round
+  pub has_written : (since : List Turn) (order : List ℕ) → BeginsRound values start (after since) → all_over (after (since ++ steps_of order)).crew ≡ true → (s : Side)
+      → ((written_by s (after (since ++ steps_of order))).closed ≡ true) ⊎ (1 ≤ length (written_by s (after (since ++ steps_of order))).written)
+  has_written since order begin over s =
+      by (subst Goes (sym ended) (writers_go_on start (after since) order mild.fit begin s (not_going (pick s 0 1) (after_steps values order (after since)) (subst (λ (w : WorldState Carried). all_over w.crew ≡ true) ended over))))
+    where
+      turns : List Turn
+      turns = since ++ steps_of order
+
+      ended : after turns ≡ after_steps values order (after since)
+      ended = run_append values since (steps_of order) (opened_world start)
+
+      Goes : WorldState Carried → Type 0
+      Goes w = GoesOnWriting (pick s start.file_a start.file_b) start.buffer (acked_len (written_by s (after since)).marks) (written_by s w)
+
+      by : GoesOnWriting (pick s start.file_a start.file_b) start.buffer (acked_len (written_by s (after since)).marks) (written_by s (after turns))
+          → ((written_by s (after turns)).closed ≡ true) ⊎ (1 ≤ length (written_by s (after turns)).written)
+      by (GoesOnWriting.whole file closed) = inl closed
+      by (GoesOnWriting.more written) = inr (omega (arith, some, written))
+      by (GoesOnWriting.stopped stop) = absurd (both_ways _ ((stopped_at turns).send s) stop)
+
+  -- the second one
   second_so : (s : Side) (since more : List Turn) (order : List ℕ) → BeginsRound values start (after (since ++ more)) → all_over (after ((since ++ more) ++ steps_of order)).crew ≡ true → (written_by s (after since)).closed ≡ false
       → length (written_by s (after since)).written ≤ acked_len (written_by s (after (since ++ more))).marks → counted values start since < counted values start ((since ++ more) ++ steps_of order)
   second_so s since more order begin over unclosed low =

@@ -160,7 +160,7 @@ module _ (c : Profile) (s : Side) (e : PathEnd) where
 
 module _ (p : PathState Carried) where
   -- so it is of the segment that is sent
-  abbrev AllTold : Option ToSend → Type 0
+  abbrev pub AllTold : Option ToSend → Type 0
   AllTold o = IfSome o (λ (t : ToSend). (segment_sent p t).window ≡ (end_at t.from p).receiving.window)
 
   broken_told : (s : Side) (reason : ℕ) → AllTold (broken_by s reason p)
@@ -174,7 +174,7 @@ module _ (p : PathState Carried) where
   heard_told s (Some (says.Mapping fin)) = elim (is_clash (end_at s p)) as (λ b. AllTold (if b then broken_by s 1 p else None)) [ true ↦ broken_told s 1 | false ↦ tt ]
   heard_told s _ = tt
 
-  duty_told : (d : Duty) → AllTold (duty_sends d p)
+  pub duty_told : (d : Duty) → AllTold (duty_sends d p)
   duty_told (duties.Step (step_duties.Data s)) = unsent_told s (first_unsent (end_at s p))
   duty_told (duties.Step (step_duties.Heard s index)) = heard_told s (item_of index (end_at s p))
   duty_told (duties.Step (step_duties.PlainAck s)) = elim (breaks_by_ack p.profile (end_at s p)) as (λ b. AllTold (if b then broken_by s 6 p else None)) [ true ↦ broken_told s 6 | false ↦ tt ]
@@ -198,7 +198,7 @@ module _ (p : PathState Carried) where
   duty_told (duties.Send (send_duties.SynAck s)) = refl
   duty_told _ = tt
 
-  first_told : AllTold (first_sends p.agenda p)
+  pub first_told : AllTold (first_sends p.agenda p)
   first_told = by p.agenda
     where
       by : (ds : List Duty) → AllTold (first_sends ds p)
@@ -207,16 +207,16 @@ module _ (p : PathState Carried) where
 
 -- ---- copies to a side
 
--- a reset, or one that tells a window that isn't shut; or the side's end has its peer's SYN
-abbrev CopyOffers : Side → PathState Carried → Flight Carried → Type 0
-CopyOffers s p f = f.to ≡ s → (f.carried.segment.rst ≡ true) ⊎ ((1 ≤ f.carried.segment.window) ⊎ (2 ≤ stage (end_at s p).tcp.state))
+-- a reset, or one that tells so great a window; or the side's end has its peer's SYN
+abbrev CopyOffers : ℕ → Side → PathState Carried → Flight Carried → Type 0
+CopyOffers least s p f = f.to ≡ s → (f.carried.segment.rst ≡ true) ⊎ ((least ≤ f.carried.segment.window) ⊎ (2 ≤ stage (end_at s p).tcp.state))
 
 -- as it sends before then the peer knows such a window
-abbrev pub FirstWindow : Side → PathState Carried → Type 0
-FirstWindow s p = stage (end_at s p).tcp.state ≤ 1 → IfSome (first_sends p.agenda p) (λ (t : ToSend). t.from ≡ peer s → ((segment_sent p t).rst ≡ true) ⊎ (1 ≤ (segment_sent p t).window))
+abbrev pub FirstWindow : ℕ → Side → PathState Carried → Type 0
+FirstWindow least s p = stage (end_at s p).tcp.state ≤ 1 → IfSome (first_sends p.agenda p) (λ (t : ToSend). t.from ≡ peer s → ((segment_sent p t).rst ≡ true) ⊎ (least ≤ (segment_sent p t).window))
 
-all_later : (s : Side) (p q : PathState Carried) → AllFar p q → (fs : List (Flight Carried)) → Every (CopyOffers s p) fs → Every (CopyOffers s q) fs
-all_later s p q far fs h = record {
+all_later : (least : ℕ) (s : Side) (p q : PathState Carried) → AllFar p q → (fs : List (Flight Carried)) → Every (CopyOffers least s p) fs → Every (CopyOffers least s q) fs
+all_later least s p q far fs h = record {
   each = λ i f there to. ⊎_elim (λ rst. inl rst) (λ rest. inr (⊎_elim (λ some. inl some) (λ met. inr (let up = (far.at s).subflow.state in omega (arith, met, up))) rest)) (h.each i f there to);
 }
 
@@ -224,23 +224,23 @@ from_peer : (u s : Side) → peer u ≡ s → u ≡ peer s
 from_peer A s is = ap peer is
 from_peer B s is = ap peer is
 
-module _ (start : Start) (s : Side) where
+module _ (start : Start) (s : Side) (least : ℕ) where
   -- what is known of the path at a moment
   record Known (p : PathState Carried) : Type 0 where
     link : LinkIsMild start.lines p
-    first_window : IsAlive p → FirstWindow s p
+    first_window : IsAlive p → FirstWindow least s p
 
-  sent_offers : (p q : PathState Carried) → Known p → IsAlive p → AllFar p q → OfSent (CopyOffers s q) (first_sends p.agenda p) p
+  sent_offers : (p q : PathState Carried) → Known p → IsAlive p → AllFar p q → OfSent (CopyOffers least s q) (first_sends p.agenda p) p
   sent_offers p q k alive far = ⊎_elim
       (λ low. early (first_sends p.agenda p) (k.first_window alive (omega (arith, low))))
       (λ high. late (first_sends p.agenda p) (let up = (far.at s).subflow.state in omega (arith, high, up)))
       (cases_lt (stage (end_at s p).tcp.state) 2)
     where
-      late : (o : Option ToSend) → 2 ≤ stage (end_at s q).tcp.state → OfSent (CopyOffers s q) o p
+      late : (o : Option ToSend) → 2 ≤ stage (end_at s q).tcp.state → OfSent (CopyOffers least s q) o p
       late None two = tt
       late (Some t) two = λ f to carried own. inr (inr two)
 
-      early : (o : Option ToSend) → IfSome o (λ (t : ToSend). t.from ≡ peer s → ((segment_sent p t).rst ≡ true) ⊎ (1 ≤ (segment_sent p t).window)) → OfSent (CopyOffers s q) o p
+      early : (o : Option ToSend) → IfSome o (λ (t : ToSend). t.from ≡ peer s → ((segment_sent p t).rst ≡ true) ⊎ (least ≤ (segment_sent p t).window)) → OfSent (CopyOffers least s q) o p
       early None some = tt
       early (Some t) some = λ f to carried own.
           let is = ap (λ (c : Carried). c.segment) carried in
@@ -248,20 +248,20 @@ module _ (start : Start) (s : Side) where
 
   -- as long as no end is dead
   record AreOffered (p : PathState Carried) : Type 0 where
-    copies : IsAlive p → Every (CopyOffers s p) p.link.under_way
+    copies : IsAlive p → Every (CopyOffers least s p) p.link.under_way
 
   takes_offered : (r : Reply) (p : PathState Carried) → Known p → AreOffered p → AreOffered (takes values r p)
   takes_offered r p k h = record {
     copies = λ alive.
         let q : PathState Carried = takes values r p in let was = alive_before p q (takes_far r p) alive in
-        takes_all (CopyOffers s q) r p k.link.strips k.link.alters (sent_offers p q k was (takes_far r p)) (all_later s p q (takes_far r p) p.link.under_way (h.copies was));
+        takes_all (CopyOffers least s q) r p k.link.strips k.link.alters (sent_offers p q k was (takes_far r p)) (all_later least s p q (takes_far r p) p.link.under_way (h.copies was));
   }
 
   next_offered : (p : PathState Carried) → AreOffered p → AreOffered (next_round p)
   next_offered p h = record {
     copies = λ alive.
         let q : PathState Carried = next_round p in
-        next_all (CopyOffers s q) p (all_later s p q (next_far p) p.link.under_way (h.copies (alive_before p q (next_far p) alive)));
+        next_all (CopyOffers least s q) p (all_later least s p q (next_far p) p.link.under_way (h.copies (alive_before p q (next_far p) alive)));
   }
 
 -- ---- the peer's SYN comes
@@ -277,21 +277,21 @@ abbrev told_by : Side → AskDuty
 told_by A = ask_duties.SynAnswered A
 told_by B = ask_duties.SynHeard B
 
--- the side is told the window next, which isn't shut
-record IsToldNext (s : Side) (p : PathState Carried) : Type 0 where
+-- the side is told the window next, which is so great
+record IsToldNext (least : ℕ) (s : Side) (p : PathState Carried) : Type 0 where
   others : List Duty
   first : p.agenda ≡ duties.Ask (told_by s) ∷ others
-  window : 1 ≤ (end_at s p).tcp.congestion.told.window
+  window : least ≤ (end_at s p).tcp.congestion.told.window
 
-told_next : (s : Side) (now : ℕ) (h : HeardSegment) (p : PathState Carried) (m : Meaning) → brings_syn s m ≡ true → is_joined p.profile ≡ false → judged_in (is_joined p.profile) s h (end_at s p) ≡ judged.As m → 1 ≤ h.window
-    → IsToldNext s (settles_down (told_at now s h p))
-told_next s now h p m syn first is some = subst (λ v. IsToldNext s (settles_down (heard_as v))) (sym is)
-    (subst (λ b. IsToldNext s (settles_down (goes_on s (after_judged p.profile s now h (judged.As m) (end_at s p)) (template_of b s (items_of (is_joined p.profile) s h) (judged.As m)) p))) (sym first) (by s m syn))
+told_next : (least : ℕ) (s : Side) (now : ℕ) (h : HeardSegment) (p : PathState Carried) (m : Meaning) → brings_syn s m ≡ true → is_joined p.profile ≡ false → judged_in (is_joined p.profile) s h (end_at s p) ≡ judged.As m → least ≤ h.window
+    → IsToldNext least s (settles_down (told_at now s h p))
+told_next least s now h p m syn first is some = subst (λ v. IsToldNext least s (settles_down (heard_as v))) (sym is)
+    (subst (λ b. IsToldNext least s (settles_down (goes_on s (after_judged p.profile s now h (judged.As m) (end_at s p)) (template_of b s (items_of (is_joined p.profile) s h) (judged.As m)) p))) (sym first) (by s m syn))
   where
     heard_as : Judged → PathState Carried
     heard_as v = goes_on s (after_judged p.profile s now h v (end_at s p)) (template_of (is_joined p.profile) s (items_of (is_joined p.profile) s h) v) p
 
-    by : (s : Side) (m : Meaning) → brings_syn s m ≡ true → IsToldNext s (settles_down (goes_on s (after_judged p.profile s now h (judged.As m) (end_at s p)) (template_of false s (items_of (is_joined p.profile) s h) (judged.As m)) p))
+    by : (s : Side) (m : Meaning) → brings_syn s m ≡ true → IsToldNext least s (settles_down (goes_on s (after_judged p.profile s now h (judged.As m) (end_at s p)) (template_of false s (items_of (is_joined p.profile) s h) (judged.As m)) p))
     by A (means.Accepts n) syn = record { others = _; first = refl; window = some }
     by B means.Opens syn = record { others = _; first = refl; window = some }
     by _ _ syn = absurd (true≢false (sym syn))
@@ -334,39 +334,39 @@ module _ (s : Side) (p : PathState Carried) (first : is_joined p.profile ≡ fal
       same_as x y equal = cc
 
   -- where it has the SYN
-  module _ (copies : Every (CopyOffers s p) p.link.under_way) (low : stage (end_at s p).tcp.state < 2) (syn : brings_syn s m ≡ true) where
+  module _ (least : ℕ) (small : least ≤ 65535) (copies : Every (CopyOffers least s p) p.link.under_way) (low : stage (end_at s p).tcp.state < 2) (syn : brings_syn s m ≡ true) where
     has : ((copy_of h).syn ≡ true) × ((copy_of h).rst ≡ false)
     has = with_syn s m (copy_of h) (end_at c.due.to p).tcp syn fits
 
-    window_some : 1 ≤ c.segment.window
+    window_some : least ≤ c.segment.window
     window_some = by (arriving c.due p.link) refl c.heard
       where
-        open_window : (x : PlainSegment) → x.syn ≡ true → 1 ≤ x.window → 1 ≤ (meant x).window
-        open_window x syn some = subst (λ b. 1 ≤ window_told b x.window) (sym syn) (omega (arith, some))
+        open_window : (x : PlainSegment) → x.syn ≡ true → least ≤ x.window → least ≤ (meant x).window
+        open_window x syn some = subst (λ b. least ≤ window_told b x.window) (sym syn) (omega (arith, some, small))
 
-        by : (o : Option (Flight Carried)) → arriving c.due p.link ≡ o → heard_in values c.due.to o p ≡ Some c.segment → 1 ≤ c.segment.window
+        by : (o : Option (Flight Carried)) → arriving c.due p.link ≡ o → heard_in values c.due.to o p ≡ Some c.segment → least ≤ c.segment.window
         by None there heard = cc
         by (Some f) there heard =
-            let row = find_every (CopyOffers s p) (is_due c.due) p.link.under_way f copies there in
+            let row = find_every (CopyOffers least s p) (is_due c.due) p.link.under_way f copies there in
             let parts = and_parts (f.tick == c.due.tick) (same_side f.to c.due.to && f.number == c.due.copy) row.1 in
             let to = one_side f.to c.due.to (and_parts (same_side f.to c.due.to) (f.number == c.due.copy) parts.1).0 in
             let same : meant (as_arrived f.carried) ≡ c.segment = same_Some _ c.segment heard in
             ⊎_elim
             (λ rst. absurd (both_ways f.carried.segment.rst (ap (λ (x : HeardSegment). x.rst) same ∙ has.1) rst))
             (λ rest. ⊎_elim
-            (λ some. subst (λ (x : HeardSegment). 1 ≤ x.window) same (open_window (as_arrived f.carried) (ap (λ (x : HeardSegment). x.syn) same ∙ has.0) some))
+            (λ some. subst (λ (x : HeardSegment). least ≤ x.window) same (open_window (as_arrived f.carried) (ap (λ (x : HeardSegment). x.syn) same ∙ has.0) some))
             (λ met. absurd (omega (arith, met, low)))
             rest)
             (row.0 (to ∙ to_s))
 
-    opens_next : (r : Reply) → IsToldNext s (takes values r p)
+    opens_next : (r : Reply) → IsToldNext least s (takes values r p)
     opens_next r =
         let q : PathState Carried = record (at_tick c.due.tick p) { link = after_delivery c.due p.link } in
-        subst (λ ds. IsToldNext s (settles_down (answers values ds r p))) (sym c.first)
-        (subst (λ o. IsToldNext s (settles_down (happens_if values o r p))) (sym c.next)
-        (subst (λ o. IsToldNext s (settles_down (heard_at q.clock c.due.to o q))) (sym c.heard)
-        (subst (λ u. judged_in (is_joined p.profile) u (options_heard (end_at u p) c.segment) (end_at u p) ≡ judged.As m → IsToldNext s (settles_down (heard_at q.clock u (Some c.segment) q))) (sym to_s)
-        (λ as_syn. told_next s q.clock (options_heard (end_at s p) c.segment) q m syn first as_syn window_some) is)))
+        subst (λ ds. IsToldNext least s (settles_down (answers values ds r p))) (sym c.first)
+        (subst (λ o. IsToldNext least s (settles_down (happens_if values o r p))) (sym c.next)
+        (subst (λ o. IsToldNext least s (settles_down (heard_at q.clock c.due.to o q))) (sym c.heard)
+        (subst (λ u. judged_in (is_joined p.profile) u (options_heard (end_at u p) c.segment) (end_at u p) ≡ judged.As m → IsToldNext least s (settles_down (heard_at q.clock u (Some c.segment) q))) (sym to_s)
+        (λ as_syn. told_next least s q.clock (options_heard (end_at s p) c.segment) q m syn first as_syn window_some) is)))
 
 -- ---- no window is shut
 
@@ -496,9 +496,9 @@ shut_last = record { agenda = λ ds p s. refl; chains = λ p q r x y s. y s ∙ 
 -- ---- by turns
 
 -- the window is told to the side's book
-told_now : (s : Side) (six : SixBooks) (p : PathState Carried) → 1 ≤ (end_at s p).tcp.congestion.told.window → 1 ≤ (book_of s (after_ask (ask_for values (duties.Ask (told_by s)) p) six)).edge
-told_now A six p some = let known = told_edge p.a.tcp.congestion.told.window six.send_a in omega (arith, some, known)
-told_now B six p some = let known = told_edge p.b.tcp.congestion.told.window six.send_b in omega (arith, some, known)
+told_now : (least : ℕ) (s : Side) (six : SixBooks) (p : PathState Carried) → least ≤ (end_at s p).tcp.congestion.told.window → least ≤ (book_of s (after_ask (ask_for values (duties.Ask (told_by s)) p) six)).edge
+told_now least A six p some = let known = told_edge p.a.tcp.congestion.told.window six.send_a in omega (arith, some, known)
+told_now least B six p some = let known = told_edge p.b.tcp.congestion.told.window six.send_b in omega (arith, some, known)
 
 same_or_peer : (u s : Side) → (u ≡ s) ⊎ (u ≡ peer s)
 same_or_peer A A = inl refl
@@ -506,11 +506,11 @@ same_or_peer B B = inl refl
 same_or_peer A B = inr refl
 same_or_peer B A = inr refl
 
-module _ (start : Start) (s : Side) where
+module _ (start : Start) (s : Side) (least : ℕ) (small : least ≤ 65535) (some : 1 ≤ least) where
   -- with these books
   pub record IsUnshut (six : SixBooks) (p : PathState Carried) : Type 0 where
     -- once the end has its peer's SYN its book knows a window, or is told one next
-    told : 2 ≤ stage (end_at s p).tcp.state → IsToldNext s p ⊎ (1 ≤ (book_of s six).edge)
+    told : 2 ≤ stage (end_at s p).tcp.state → IsToldNext least s p ⊎ (least ≤ (book_of s six).edge)
     pub open_still : (end_at s p).tcp.send.nxt ≤ 1 → (end_at s p).sending.shut ≡ false
 
   -- what is known with these books before the turn
@@ -520,13 +520,13 @@ module _ (start : Start) (s : Side) where
     first : is_joined p.profile ≡ false
     states : GoByTheHandshake p
     stood : FirstStands p.agenda p
-    copies : IsAlive p → Every (CopyOffers s p) p.link.under_way
+    copies : IsAlive p → Every (CopyOffers least s p) p.link.under_way
     taken : (end_at s p).tcp.send.nxt ≤ 1 → taken_len (path_of p) (book_of s six).marks ≡ 0
 
   abbrev GoesOn : SixBooks → SixBooks → List Note → PathState Carried → PathState Carried → Type 0
   GoesOn six after steps p q = Before six p → IsAlive q → (IsAlive p → IsUnshut six p) → IsUnshut after q
 
-  edge_on : (ask : Ask) (six : SixBooks) → 1 ≤ (book_of s six).edge → 1 ≤ (book_of s (after_ask ask six)).edge
+  edge_on : (ask : Ask) (six : SixBooks) → least ≤ (book_of s six).edge → least ≤ (book_of s (after_ask ask six)).edge
   edge_on ask six low = let up = (side_up ask six s).send.edge in omega (arith, low, up)
 
   others_on : (six : SixBooks) (ask : Ask) (steps : List Note) (p : PathState Carried) → GoesOn six (after_ask ask six) steps p p
@@ -543,20 +543,20 @@ module _ (start : Start) (s : Side) where
     was = alive_before p q (takes_far (reply_of six ask) p) alive
 
     -- the window of the SYN is told now
-    now_told : IsToldNext s p → 1 ≤ (book_of s (after_ask ask six)).edge
+    now_told : IsToldNext least s p → least ≤ (book_of s (after_ask ask six)).edge
     now_told next =
         let is : ask_for values (duties.Ask (told_by s)) p ≡ ask = same_Some _ ask (ap (λ ds. asks_first values ds p) (sym next.first) ∙ asks) in
-        subst (λ x. 1 ≤ (book_of s (after_ask x six)).edge) is (told_now s six p next.window)
+        subst (λ x. least ≤ (book_of s (after_ask x six)).edge) is (told_now least s six p next.window)
 
-    opened : stage (end_at s p).tcp.state < 2 → OpensBy values 2 s p → IsToldNext s q
+    opened : stage (end_at s p).tcp.state < 2 → OpensBy values 2 s p → IsToldNext least s q
     opened low (opens_by.copy c to m is far) =
         let x : Copy = copy_of (options_heard (end_at c.due.to p) c.segment) in
         let syn = opens_so s m x p k.states (subst (λ u. MeansIs x (end_at u p).tcp m) to (fits s p k.first c to m is)) low far in
-        opens_next s p k.first c to m is (k.copies was) low syn (reply_of six ask)
+        opens_next s p k.first c to m is least small (k.copies was) low syn (reply_of six ask)
     opened low (opens_by.joins tick next) = absurd (never_waits start p k.given k.met (next_happens p (happenings.Joins tick) next))
     opened low (opens_by.duty d others is joins) = absurd (never_joins start p k.given k.met d others is joins)
 
-    told_then : 2 ≤ stage (end_at s q).tcp.state → IsToldNext s q ⊎ (1 ≤ (book_of s (after_ask ask six)).edge)
+    told_then : 2 ≤ stage (end_at s q).tcp.state → IsToldNext least s q ⊎ (least ≤ (book_of s (after_ask ask six)).edge)
     told_then met = ⊎_elim
         (λ low. inl (⊎_elim (λ dead. absurd (both_ways (is_dead (end_at s q).tcp.state) (alive.living s) dead)) (opened low) (takes_open 2 (omega arith) (omega arith) values (reply_of six ask) p s low met)))
         (λ had. ⊎_elim (λ next. inr (now_told next)) (λ low. inr (edge_on ask six low)) (h.told had))
@@ -566,10 +566,10 @@ module _ (start : Start) (s : Side) where
     edge_there : (ds : List Duty) → p.agenda ≡ duties.Step (step_duties.Data s) ∷ ds → first_unsent (end_at s p) ≡ None → 1 ≤ (book_of s six).edge
     edge_there ds is none = ⊎_elim
         (λ next. absurd (never next))
-        (λ low. low)
+        (λ low. let one = some in omega (arith, low, one))
         (h.told (may_stage (end_at s p).tcp.state (and_parts (may_finish (end_at s p).tcp.state) _ (subst (λ o. data_stands p.profile s (end_at s p) o ≡ true) none (subst (λ es. FirstStands es p) is k.stood))).0))
       where
-        never : IsToldNext s p → ⊥
+        never : IsToldNext least s p → ⊥
         never next = let both = sym is ∙ next.first in cc
 
         may_stage : (x : State) → may_finish x ≡ true → 2 ≤ stage x
@@ -627,10 +627,10 @@ module _ (start : Start) (s : Side) where
 -- ---- by the lanes
 
 -- the only path is path 0
-record HasNumber (p : PathState Carried) : Type 0 where
-  path : path_of p ≡ 0
+pub record HasNumber (p : PathState Carried) : Type 0 where
+  pub path : path_of p ≡ 0
 
-each_numbered : (start : Start) (turns : List Turn) → HasRoom start → OfFirst HasNumber (reached values start turns)
+pub each_numbered : (start : Start) (turns : List Turn) → HasRoom start → OfFirst HasNumber (reached values start turns)
 each_numbered start turns size =
     let can = anyhow start size in
     let r = each_run_shows start can turns (free_run can.links (anyhow_free start size) turns (opened_world start)) in
@@ -645,8 +645,8 @@ each_numbered start turns size =
 -- ---- the world
 
 -- the peer's book takes bytes up to a place, and knows of fewer of the side's before the end has its peer's SYN
-module _ (start : Start) (plan : PathPlan) (one : start.paths ≡ plan ∷ []) (mild : IsMildStart start) (s : Side) (at : ℕ) (room : at ≤ start.buffer)
-    (fewer : (turns : List Turn) (p : PathState Carried) → IsPathAt 0 (reached values start turns) p → IsAlive p → stage (end_at s p).tcp.state ≤ 1 → next_wanted (arrived_at (peer s) (reached values start turns)) < at) where
+module _ (start : Start) (plan : PathPlan) (one : start.paths ≡ plan ∷ []) (mild : IsMildStart start) (s : Side) (at least : ℕ) (small : least ≤ 65535) (some : 1 ≤ least) (room : at ≤ start.buffer)
+    (fewer : (turns : List Turn) (p : PathState Carried) → IsPathAt 0 (reached values start turns) p → IsAlive p → stage (end_at s p).tcp.state ≤ 1 → next_wanted (arrived_at (peer s) (reached values start turns)) + least ≤ at) where
   abbrev books_at : List Turn → SixBooks
   books_at turns = books_in (reached values start turns).books
 
@@ -679,44 +679,44 @@ module _ (start : Start) (plan : PathPlan) (one : start.paths ≡ plan ∷ []) (
     given_here : Given start p
     given_here = subst (Of (Given start)) here.is ((given start mild turns).each here.crew here.there)
 
-    window_said : IsAlive p → next_wanted (arrived_at (peer s) w) < at → (o : Option ToSend) → AllTold p o → IfSome o (λ (t : ToSend). t.from ≡ peer s → Offers at (end_at (peer s) p))
+    window_said : IsAlive p → next_wanted (arrived_at (peer s) w) + least ≤ at → (o : Option ToSend) → AllTold p o → IfSome o (λ (t : ToSend). t.from ≡ peer s → Offers at (end_at (peer s) p))
         → IfSome o (λ (t : ToSend). is_dead (end_at t.from p).tcp.state ≡ false → (segment_sent p t).rst ≡ false → (end_at t.from p).receiving.next ≡ next_wanted (arrived_at t.from w))
-        → IfSome o (λ (t : ToSend). t.from ≡ peer s → ((segment_sent p t).rst ≡ true) ⊎ (1 ≤ (segment_sent p t).window))
+        → IfSome o (λ (t : ToSend). t.from ≡ peer s → ((segment_sent p t).rst ≡ true) ⊎ (least ≤ (segment_sent p t).window))
     window_said alive few None told offers knows = tt
     window_said alive few (Some t) told offers knows = λ own. by own (segment_sent p t).rst refl
       where
-        by : t.from ≡ peer s → (b : Bool) → (segment_sent p t).rst ≡ b → (b ≡ true) ⊎ (1 ≤ (segment_sent p t).window)
+        by : t.from ≡ peer s → (b : Bool) → (segment_sent p t).rst ≡ b → (b ≡ true) ⊎ (least ≤ (segment_sent p t).window)
         by own true is = inl refl
         by own false is = inr
             (let next = subst (λ u. is_dead (end_at u p).tcp.state ≡ false → (segment_sent p t).rst ≡ false → (end_at u p).receiving.next ≡ next_wanted (arrived_at u w)) own knows (alive.living (peer s)) is in
             let window = subst (λ u. (segment_sent p t).window ≡ (end_at u p).receiving.window) own told in
-            let some = offers own in omega (arith, next, window, some, few))
+            let offer = offers own in omega (arith, next, window, offer, few))
 
-    first_window : IsAlive p → FirstWindow s p
+    first_window : IsAlive p → FirstWindow least s p
     first_window alive low = window_said alive (fewer turns p here alive low) (first_sends p.agenda p) (first_told p)
         ((what_is_taken_is_offered values).sends (books_at turns) (peer s) at p (takes_at turns p here))
         (subst (Of (KnowsWhatCame (books_at turns))) here.is ((each_data_ack_is_up_to_date values start turns plan one).each 2 here.crew here.there)).sends
 
-    known_at : Known start s p
+    known_at : Known start s least p
     known_at = record { link = subst (Of (LinkIsMild start.lines)) here.is ((links_are_mild values start turns mild).each 2 here.crew here.there); first_window = first_window }
 
-  known : (turns : List Turn) → OfFirst (Known start s) (reached values start turns)
+  known : (turns : List Turn) → OfFirst (Known start s least) (reached values start turns)
   known turns = record { each = λ c there. by c there c.member refl }
     where
-      by : (c : ActorCrew Carried) → slice_get (reached values start turns).crew 2 ≡ Some c → (m : Actor Carried) → c.member ≡ m → Of (Known start s) m
+      by : (c : ActorCrew Carried) → slice_get (reached values start turns).crew 2 ≡ Some c → (m : Actor Carried) → c.member ≡ m → Of (Known start s least) m
       by c there (App a) is = tt
       by c there (Path p) is = known_at turns p (record { crew = c; there = there; is = is })
 
-  opened_offered : OfFirst (AreOffered start s) (opened_world start)
+  opened_offered : OfFirst (AreOffered start s least) (opened_world start)
   opened_offered = record {
-    each = λ c there. (opened_lifted (λ c. Of (AreOffered start s) c.member) start tt tt (λ number plan at_place. record { copies = λ alive. none_begins (CopyOffers s (begins_turn (waiting_path (path_begins start number plan) start.lines))) start number plan })).each 2 c there;
+    each = λ c there. (opened_lifted (λ c. Of (AreOffered start s least) c.member) start tt tt (λ number plan at_place. record { copies = λ alive. none_begins (CopyOffers least s (begins_turn (waiting_path (path_begins start number plan) start.lines))) start number plan })).each 2 c there;
   }
 
-  offered_at : (turns : List Turn) (p : PathState Carried) → IsPathAt 0 (reached values start turns) p → AreOffered start s p
-  offered_at turns p here = subst (Of (AreOffered start s)) here.is
-      ((each_first_moment values start (Known start s) (AreOffered start s) known opened_offered (λ r p k h. takes_offered start s r p k h) (λ p k h. next_offered start s p h) turns).each here.crew here.there)
+  offered_at : (turns : List Turn) (p : PathState Carried) → IsPathAt 0 (reached values start turns) p → AreOffered start s least p
+  offered_at turns p here = subst (Of (AreOffered start s least)) here.is
+      ((each_first_moment values start (Known start s least) (AreOffered start s least) known opened_offered (λ r p k h. takes_offered start s least r p k h) (λ p k h. next_offered start s least p h) turns).each here.crew here.there)
 
-  before_at : (turns : List Turn) (p : PathState Carried) → IsPathAt 0 (reached values start turns) p → Before start s (books_at turns) p
+  before_at : (turns : List Turn) (p : PathState Carried) → IsPathAt 0 (reached values start turns) p → Before start s least small some (books_at turns) p
   before_at turns p here = record {
     given = given_here turns p here;
     met = subst (Of PathMet) here.is ((each_met start mild turns).each here.crew here.there);
@@ -730,12 +730,12 @@ module _ (start : Start) (plan : PathPlan) (one : start.paths ≡ plan ∷ []) (
 
   -- as long as no end is dead
   abbrev Unshut : SixBooks → PathState Carried → Type 0
-  Unshut six p = IsAlive p → IsUnshut start s six p
+  Unshut six p = IsAlive p → IsUnshut start s least small some six p
 
-  abbrev goes_so : EachPathBetween values (GoesOn start s)
-  goes_so = paths_between values (GoesOn start s) (others_on start s) (takes_on start s) (next_on start s)
+  abbrev goes_so : EachPathBetween values (GoesOn start s least small some)
+  goes_so = paths_between values (GoesOn start s least small some) (others_on start s least small some) (takes_on start s least small some) (next_on start s least small some)
 
-  opened_unshut : OfBooked values start (GoesOn start s) goes_so Unshut (opened_world start)
+  opened_unshut : OfBooked values start (GoesOn start s least small some) goes_so Unshut (opened_world start)
   opened_unshut = record {
     each = λ c there. (opened_lifted (λ c. Of (Unshut (books_in (opened_world {C = Carried} start).books)) c.member) start tt tt (λ number plan at_place alive.
         (let p : PathState Carried = waiting_path (path_begins start number plan) start.lines in record {
@@ -758,4 +758,10 @@ module _ (start : Start) (plan : PathPlan) (one : start.paths ≡ plan ∷ []) (
 
   pub unshut_at : (turns : List Turn) (p : PathState Carried) → IsPathAt 0 (reached values start turns) p → IsAlive p → (end_at s p).tcp.send.nxt ≤ 1 → (end_at s p).sending.shut ≡ false
   unshut_at turns p here alive = ((subst (Of (Unshut (books_at turns))) here.is
-      ((each_booked values start (GoesOn start s) goes_so Unshut opened_unshut (λ turns turn steps p q here there on h alive. on (before_at turns p here) alive h) turns).each here.crew here.there)) alive).open_still
+      ((each_booked values start (GoesOn start s least small some) goes_so Unshut opened_unshut (λ turns turn steps p q here there on h alive. on (before_at turns p here) alive h) turns).each here.crew here.there)) alive).open_still
+
+  -- where the turn is over the side may send so far, once its end has its peer's SYN
+  pub edge_at : (turns : List Turn) (p : PathState Carried) → IsPathAt 0 (reached values start turns) p → IsAlive p → 2 ≤ stage (end_at s p).tcp.state → p.agenda ≡ [] → least ≤ (written_by s (reached values start turns)).edge
+  edge_at turns p here alive met over = ⊎_elim (λ next. absurd (let both = sym over ∙ next.first in cc)) (λ low. low)
+      (((subst (Of (Unshut (books_at turns))) here.is
+      ((each_booked values start (GoesOn start s least small some) goes_so Unshut opened_unshut (λ turns turn steps p q here there on h alive. on (before_at turns p here) alive h) turns).each here.crew here.there)) alive).told met)

@@ -26,6 +26,7 @@ pub mod DataAcksAsked
 pub mod DataAcksCome
 pub mod DataAcksExchanged
 pub mod DataAcksHeard
+pub mod Counts
 pub mod Courses
 pub mod DataAcksNow
 pub mod DataAcksOwed
@@ -39,6 +40,10 @@ pub mod Deaths
 pub mod ExpirySegments
 pub mod AnsweredExpiries
 pub mod FewLossesDeliver
+pub mod FinDebts
+pub mod FinWaits
+pub mod FinsHeard
+pub mod FinsMended
 pub mod HarmlessDeaths
 pub mod HeardBelow
 pub mod HeardSaid
@@ -161,7 +166,14 @@ pub mod FinsComing
 pub mod FinsSent
 pub mod FinRounds
 pub mod OneDebt
+pub mod OneDebtAfter
+pub mod PaidEnds
 pub mod WindowsComing
+pub mod WindowsAssured
+pub mod FilesFit
+pub mod AnswersAssure
+pub mod AsksOwed
+pub mod ToldEdges
 pub mod WindowRounds
 pub mod Unharmed
 pub mod Unmended
@@ -215,6 +227,8 @@ pub mod PositionCounts
 pub mod SentInOrder
 pub mod Unroomy
 pub mod Pushed
+pub mod FullGrants
+pub mod FlightsGo
 pub mod RoundSteps
 pub mod SegmentRounds
 pub mod ReadSegments
@@ -259,3 +273,11 @@ pub mod SynsSoon
 pub mod FirstPiecesSoon
 pub mod AnswersSoon
 pub mod KeyedFirst
+pub mod ByCopies
+pub mod OldRecords
+pub mod PassedWhole
+pub mod Uncut
+pub mod WholePieces
+pub mod Opened
+pub mod SignPieces
+pub mod EarlyRecords

@@ -36,7 +36,8 @@ use Rattle.whole_paths.specs.Expiries.{GoesAgain, IsSaidAt, IsSegmentOf, IsToSen
 use Rattle.whole_paths.specs.Finish.{is_harmed}
 use Rattle.whole_paths.specs.InTime.{ComesFrom}
 use Rattle.whole_paths.specs.Kept.{IsSameRecord}
-use Rattle.whole_paths.specs.Mending.{CopiesAreNumbered, ComesBy, IsOpenTurn, IsRecordOf, IsSentSoon, IsWell, WhatIsSentComesSoon}
+use Rattle.whole_paths.specs.Copies.{CopiesAreNumbered}
+use Rattle.whole_paths.specs.Mending.{ComesBy, IsOpenTurn, IsRecordOf, IsSentSoon, IsWell, WhatIsSentComesSoon}
 use Rattle.whole_paths.specs.Mending.{IsThereBy as there_by}
 use Rattle.whole_paths.specs.Mending.{IsWell as is_well}
 use Rattle.whole_paths.specs.Mends.{MendsByExpiry, MendsSoon, WhatRunsOutIsMended}

@@ -92,20 +92,20 @@ use Rattle.whole_paths.proofs.Turns.{turn_by, turn_each}
 use Rattle.whole_paths.proofs.Unpassed.{Idle, is_edge, opened_holds, own_holds, passed_holds}
 use Rattle.whole_paths.proofs.Waiting.{gone_stays, path_far}
 
-abbrev OfPaths : (PathState Carried → Type 0) → Actor Carried → Type 0
+abbrev pub OfPaths : (PathState Carried → Type 0) → Actor Carried → Type 0
 OfPaths P = HoldsOfKind (λ app. Unit {0}) P
 
 -- ---- what is known of a path 0 of a mild connection, with these duties
 
-record Facts (ds : List Duty) (p : PathState Carried) : Type 0 where
-  ready : (t : Side) → Ready t ds p.profile (end_at t p)
-  harsh : list_any is_harsh ds ≡ false
-  whole : (t : Side) → IsToReset t ds → ⊥
-  finite : (t : Side) → IsSome (end_at t p).modes.peer_infinite → ⊥
-  says : BareSaysNothing values (with_agenda ds p)
+pub record Facts (ds : List Duty) (p : PathState Carried) : Type 0 where
+  pub ready : (t : Side) → Ready t ds p.profile (end_at t p)
+  pub harsh : list_any is_harsh ds ≡ false
+  pub whole : (t : Side) → IsToReset t ds → ⊥
+  pub finite : (t : Side) → IsSome (end_at t p).modes.peer_infinite → ⊥
+  pub says : BareSaysNothing values (with_agenda ds p)
 
 -- nothing is held as an event comes, and nothing is to be passed
-events_idle : (t : Side) (c : Profile) (ds : List Duty) (e : PathEnd) → (IsSome e.modes.peer_infinite → ⊥) → (IsToReset t (duties.Step step_duties.Events ∷ ds) → ⊥) → Treats t c (duties.Step step_duties.Events ∷ ds) e
+pub events_idle : (t : Side) (c : Profile) (ds : List Duty) (e : PathEnd) → (IsSome e.modes.peer_infinite → ⊥) → (IsToReset t (duties.Step step_duties.Events ∷ ds) → ⊥) → Treats t c (duties.Step step_duties.Events ∷ ds) e
     → (is_gone e ≡ true) ⊎ Idle e
 events_idle t c ds e finite whole (treat.over dead) = inl dead
 events_idle t c ds e finite whole (treat.rests idle none) = inr idle
@@ -164,7 +164,7 @@ module _ (t : Side) (ds : List Duty) (r : Reply) (p : PathState Carried) where
   duty_next d facts first h = answered_treats values t d ds r p refl (answered_follows values d ds r p) (facts.ready t) (mild_at d facts) first h
 
 -- on a path
-abbrev AllSettled : PathState Carried → Type 0
+abbrev pub AllSettled : PathState Carried → Type 0
 AllSettled p = (t : Side) → Settled t p
 
 same_profile : (d : Duty) (ds : List Duty) (r : Reply) (p : PathState Carried) → (answered values d r (with_agenda (d ∷ ds) p)).profile ≡ p.profile
@@ -463,7 +463,7 @@ begins_rises p t =
 
 -- ---- the world
 
-abbrev Known : PathState Carried → Type 0
+abbrev pub Known : PathState Carried → Type 0
 Known p = Facts p.agenda p
 
 nil_so : (ds : List Duty) → is_nil ds ≡ true → ds ≡ []
@@ -498,7 +498,7 @@ abbrev AtTwo : WorldState Carried → Type 0
 AtTwo w = (c : ActorCrew Carried) → slice_get w.crew 2 ≡ Some c → OfPaths AllSettled c.member
 
 module _ (start : Start) (mild : IsMildStart start) where
-  facts_at : (turns : List Turn) (c : ActorCrew Carried) → slice_get (reached values start turns).crew 2 ≡ Some c → OfPaths Known c.member
+  pub facts_at : (turns : List Turn) (c : ActorCrew Carried) → slice_get (reached values start turns).crew 2 ≡ Some c → OfPaths Known c.member
   facts_at turns c there = facts_so start c.member ((each_is_ready values start turns).each 2 c there) ((mapping_is_kept start turns mild).each 2 c there) (each_first start turns mild.plain.size c there)
       ((never_breaks start turns mild).each 2 c there) ((each_maps start turns mild).each 2 c there)
 
@@ -531,7 +531,7 @@ module _ (start : Start) (mild : IsMildStart start) where
       first number plan A = treat.rests refl tt
       first number plan B = treat.rests refl tt
 
-  settled_at : (turns : List Turn) → AtTwo (reached values start turns)
+  pub settled_at : (turns : List Turn) → AtTwo (reached values start turns)
   settled_at turns = run_on [] turns opened_on
 
 -- ---- a turn

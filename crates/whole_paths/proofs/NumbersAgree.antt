@@ -1,5 +1,5 @@
--- Data ACKs acknowledge as many bytes as SND.UNA tells positions, and with checksums each record is passed whole: so the numbers of a direction agree.
-use Rattle.std.proofs.Common.{◌≡◌, sym, subst, ◌⊎◌, inl, inr, ⊎_elim, suc, ◌<◌, ◌≤◌, arith, false, true≢false, List, []}
+-- Data ACKs acknowledge as many bytes as SND.UNA tells positions, and each record is passed whole: so the numbers of a direction agree.
+use Rattle.std.proofs.Common.{◌≡◌, refl, sym, subst, ◌⊎◌, inl, inr, ⊎_elim, suc, ◌<◌, ◌≤◌, arith, Bool, true, false, true≢false, List, []}
 use Rattle.sides.specs.declared.side.Side.{Side}
 use Rattle.subflow_send.specs.Records.{Record}
 use Rattle.subflow_tcp.specs.States.{is_dead}
@@ -15,7 +15,7 @@ use Rattle.world_laws.specs.Worlds.{Turn}
 use Rattle.whole_paths.specs.AsFar.{stage}
 use Rattle.whole_paths.specs.CutRecords.{NoneIsCut}
 use Rattle.whole_paths.specs.Delivery.{IsAllThere}
-use Rattle.whole_paths.specs.DirectionWaits.{ArePassedWhole, CheckedNumbersAgree, NumbersAgree, NumbersAgreeSo}
+use Rattle.whole_paths.specs.DirectionWaits.{ArePassedWhole, NumbersAgree, NumbersAlwaysAgree, RecordsArePassedWhole}
 use Rattle.whole_paths.specs.Kept.{IsSameRecord}
 use Rattle.whole_paths.specs.Mending.{IsRecordOf}
 use Rattle.whole_paths.specs.OnePathScripts.{BeginsWithOnePath}
@@ -26,6 +26,7 @@ use Rattle.whole_paths.proofs.CutRecords.{checked_records_are_passed_whole}
 use Rattle.whole_paths.proofs.DataLeft.{EndsAreBegun, each_is_begun}
 use Rattle.whole_paths.proofs.Flying.{same_record}
 use Rattle.whole_paths.proofs.HeardBelow.{heard_lies_below}
+use Rattle.whole_paths.proofs.PassedWhole.{unchecked_records_are_passed_whole}
 use Rattle.whole_paths.proofs.SegmentRounds.{if_may, of_path, unfinished}
 
 living_low : (state : EndPhase) → is_dead state ≡ false → stage state ≤ 6
@@ -54,11 +55,19 @@ module _ (start : Start) (plan : PathPlan) (s : Side) (one : BeginsWithOnePath s
 has_same : (r : Record) (e : PathEnd) → IsRecordOf e r → HasRecord r e
 has_same r e h = record { at = h.at; item = h.item; there = h.there; holds = subst (IsSameRecord r) (sym h.holds) (same_record r) }
 
-pub numbers_agree_so : NumbersAgreeSo
+-- where records are passed whole
+pub numbers_agree_so : (start : Start) (plan : PathPlan) (s : Side) → BeginsWithOnePath start plan → ArePassedWhole start s → NumbersAgree start s
 numbers_agree_so start plan s one whole = agree start plan s one whole
 
-pub checked_numbers_agree : CheckedNumbersAgree
-checked_numbers_agree start plan s one checked = agree start plan s one (λ turns h r has kind. whole turns h r has kind)
+pub records_are_passed_whole : RecordsArePassedWhole
+records_are_passed_whole start plan s one = by start.checksums refl
   where
-    whole : ArePassedWhole start s
-    whole turns h r has kind = (subst (HoldsOfKind (λ app. Unit {0}) NoneIsCut) h.here.is (checked_records_are_passed_whole start turns one.mild checked h.here.crew h.here.there)) s r (has_same r (end_at s h.path) has) kind
+    by : (b : Bool) → start.checksums ≡ b → ArePassedWhole start s
+    by true checked turns h r has kind = (subst (HoldsOfKind (λ app. Unit {0}) NoneIsCut) h.here.is (checked_records_are_passed_whole start turns one.mild checked h.here.crew h.here.there)) s r (has_same r (end_at s h.path) has) kind
+    by false unchecked turns h r has kind = unchecked_records_are_passed_whole start turns one.mild unchecked h.path h.here h.is_open.living s r has kind
+
+pub numbers_always_agree : NumbersAlwaysAgree
+numbers_always_agree start plan s one = agree start plan s one (records_are_passed_whole start plan s one)
+
+pub checked_numbers_agree : (start : Start) (plan : PathPlan) (s : Side) → BeginsWithOnePath start plan → start.checksums ≡ true → NumbersAgree start s
+checked_numbers_agree start plan s one checked = numbers_always_agree start plan s one

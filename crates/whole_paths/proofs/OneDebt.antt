@@ -63,7 +63,7 @@ module _ (start : Start) (plan : PathPlan) (most : ℕ) (one : BeginsWithOnePath
   owes_then turns turn debts before after h = owes_next turns turn debts (begun start turns turn (record { mild = one.mild; before = before; after = after })) h
 
   pub one_debt_is_known : OneDebtIsKnown start plan most Holds
-  one_debt_is_known opens turns now = known_always start plan most one (OwesOne start Holds) owes_next
+  one_debt_is_known opens turns now = known_always start plan most one (harmed_so_far values start) (OwesOne start Holds) owes_next
       (λ u h. record { debts = 0; owes = record { path = h.now.path; here = h.now.here; owing = inl (opens u h) }; few = omega arith }) turns (begun_now start turns one.mild now)
 
   pub one_debt_goes_on : OneDebtGoesOn start plan most Holds

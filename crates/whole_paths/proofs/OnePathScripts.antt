@@ -28,9 +28,9 @@ use Rattle.world_laws.specs.StampedBooks.{answer_to}
 use Rattle.world_laws.specs.Worlds.{WorldState, Turn, AreLawful, after_turn, world_run}
 use Rattle.world_laws.proofs.Worlds.Opened.{opened_actors}
 use Rattle.world_laws.proofs.Writes.Steps.{begins_lasts}
-use Rattle.whole_paths.specs.Finish.{harmed, rounds_in}
+use Rattle.whole_paths.specs.Finish.{rounds_in}
 use Rattle.whole_paths.specs.Harms.{longest_way}
-use Rattle.whole_paths.specs.OnePathScripts.{AnEndDiedEarly, EndsAsItBegins, MildScriptsBeginWithOnePath, OnlyWaysStay, WaysStay, rounds_within, way_by, way_there_and_back}
+use Rattle.whole_paths.specs.OnePathScripts.{Allowance, AnEndDiedEarly, BriefPathsEndBy, Count, EndsAsItBegins, EndsAsItBeginsBy, EndsBy, EndsWithin, MildScriptsBeginWithOnePath, OnlyWaysStay, WaysStay, harms_alone, rounds_within, way_by, way_there_and_back}
 use Rattle.whole_paths.proofs.Copies.{LinkStays, links_last}
 use Rattle.whole_paths.proofs.Flying.{takes_frames}
 use Rattle.whole_paths.proofs.Mild.{mild_scripts_start_mildly}
@@ -136,9 +136,9 @@ lawful_rest (t ∷ ts) us w lawful = lawful_rest ts us (after_turn values t w) l
 pub rounds_so : (n rounds : ℕ) → n / 100 + 4 ≤ rounds → n + 300 < 100 * rounds
 rounds_so n rounds many = let less = lt-div-mul-add {a = n} {b = 100} (omega arith) in omega (arith, less, many)
 
-pub ends_as_it_begins : EndsAsItBegins values
-ends_as_it_begins bound ends script path file_a file_b before more mild also lawful first many =
-    subst Enough same enough also.few (subst (λ ts. AreLawful values ts (opened_world start)) (sym same) lawful) many
+ends_by : (Also : Start → PathPlan → Type 0) (count : Count) (bound : Allowance) → EndsBy Also count bound → BriefPathsEndBy values Also count (rounds_within bound)
+ends_by Also count bound ends script path file_a file_b before more mild also brief lawful first many =
+    subst Enough same enough brief.few (subst (λ ts. AreLawful values ts (opened_world start)) (sym same) lawful) many
   where
     start : Start
     start = start_of script file_a file_b
@@ -151,11 +151,25 @@ ends_as_it_begins bound ends script path file_a file_b before more mild also law
 
     Enough : List Turn → Type 0
     Enough ts = length ts < 2 ^ 64 - 1 → AreLawful values (begun ++ more) (opened_world start)
-        → rounds_within bound script path file_a file_b (harmed values 0 ts (opened_world start)) ≤ rounds_in more
+        → rounds_within bound script path file_a file_b (count start ts) ≤ rounds_in more
         → (outcome_of (reached values start ts).crew ≡ Delivered) ⊎ AnEndDiedEarly values start ts
 
     enough : Enough (begun ++ more)
     enough few going many =
-        let harms = harmed values 0 (begun ++ more) (opened_world start) in
-        ends start (plan_of script 0 path) begun more harms (mild_scripts_begin_with_one_path script path file_a file_b mild)
-        (lawful_rest begun more (opened_world start) going) few first (le_refl harms) (rounds_so (bound start harms) (rounds_in more) many)
+        let counted = count start (begun ++ more) in
+        ends start (plan_of script 0 path) begun more counted (mild_scripts_begin_with_one_path script path file_a file_b mild) also
+        (lawful_rest begun more (opened_world start) going) few first (le_refl counted) (rounds_so (bound start counted) (rounds_in more) many)
+
+pub ends_as_it_begins_by : EndsAsItBeginsBy values
+ends_as_it_begins_by Also count counted bound same ends script path file_a file_b before more mild also brief lawful first many =
+    ends_by Also count bound ends script path file_a file_b before more mild also brief lawful first
+    (subst (λ n. rounds_within bound script path file_a file_b n ≤ rounds_in more)
+    (same (start_of script file_a file_b) (mild_scripts_begin_with_one_path script path file_a file_b mild).mild (before ++ Turn.Round ∷ more)) many)
+
+-- where nothing else is asked of them
+pub ends_always : (bound : Allowance) → EndsWithin bound → EndsBy (λ start plan. Unit {0}) (harms_alone values) bound
+ends_always bound ends start plan before more most begins also = ends start plan before more most begins
+
+pub ends_as_it_begins : EndsAsItBegins values
+ends_as_it_begins bound ends script path file_a file_b before more mild =
+    ends_by (λ start plan. Unit {0}) (harms_alone values) bound (ends_always bound ends) script path file_a file_b before more mild tt

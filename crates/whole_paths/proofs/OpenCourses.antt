@@ -41,11 +41,11 @@ use Rattle.world_laws.proofs.Writes.Steps.{begins_lasts, settled_lasts}
 use Rattle.whole_paths.specs.Exchanges.{IsFaithful}
 use Rattle.whole_paths.specs.Finish.{IsPathAt, IsWhole}
 use Rattle.whole_paths.specs.Mild.{IsMildStart, LinkIsMild}
-use Rattle.whole_paths.specs.OpenCourses.{IsOpenAfter, IsOpenNow, OpenExchangesEnd, OpenPaidExchangesEnd}
+use Rattle.whole_paths.specs.OpenCourses.{IsOpenAfter, IsOpenNow, OpenExchangesEnd}
 use Rattle.whole_paths.specs.Straying.{IsOpen, IsOpenBetween}
 use Rattle.whole_paths.proofs.Copies.{LinkStays, LinkStep, link_step, links_last}
 use Rattle.whole_paths.proofs.Copies.LinkStep.{stays, hands, delivers, is_cut}
-use Rattle.whole_paths.proofs.Courses.{exchanges_end, paid_exchanges_end}
+use Rattle.whole_paths.proofs.Courses.{exchanges_end}
 use Rattle.whole_paths.proofs.GoesOn.{goes_on_so}
 use Rattle.whole_paths.proofs.Mild.{links_are_mild}
 use Rattle.whole_paths.proofs.NewsBounds.{news_is_bounded}
@@ -250,7 +250,7 @@ module _ (start : Start) (mild : IsMildStart start) (before : List Turn) (whole 
 
 module _ (start : Start) (mild : IsMildStart start) (before more : List Turn) (whole : IsWhole 0 (reached values start before))
     (last : IsWhole 0 (reached values start (before ++ more))) (few : (s : Side) → segments_sent s last.path.link < 2 ^ 64 - 1) where
-  holds_along : (ts us : List Turn) → ts ++ us ≡ more → IsOpenAfter start (before ++ ts)
+  pub holds_along : (ts us : List Turn) → ts ++ us ≡ more → IsOpenAfter start (before ++ ts)
   holds_along ts us is =
       subst IsOpenNow (sym (run_append values before ts (opened_world start)))
       (holds_now start mild before whole ts us
@@ -263,10 +263,6 @@ module _ (start : Start) (mild : IsMildStart start) (before more : List Turn) (w
 pub open_exchanges_end : OpenExchangesEnd
 open_exchanges_end start most within Over Waits mild x before more lawful whole last few low enough =
     exchanges_end values start (IsOpenAfter start) most within Over Waits x (λ turns. news_is_bounded start turns mild.plain mild.fit) before more lawful (holds_along start mild before more whole last few) low enough
-
-pub open_paid_exchanges_end : OpenPaidExchangesEnd
-open_paid_exchanges_end start most most_paid Over Pays Waits mild x before more none lawful whole last few low enough =
-    paid_exchanges_end values start (IsOpenAfter start) most most_paid Over Pays Waits x before more none lawful (holds_along start mild before more whole last few) low enough
 
 pub lawful_parts : (ts us : List Turn) (w : WorldState Carried) → AreLawful values (ts ++ us) w → AreLawful values ts w × AreLawful values us (world_run values ts w)
 lawful_parts [] us w lawful = (tt, lawful)

@@ -17,7 +17,9 @@ use Rattle.world_laws.specs.Openings.{PathPlan, Start}
 use Rattle.world_laws.specs.RoundDone.{reached}
 use Rattle.world_laws.specs.Worlds.{Turn, WorldState}
 use Rattle.whole_paths.specs.AsFar.{stage}
-use Rattle.whole_paths.specs.Debts.{OwesAtMost, OwesOn}
+use Rattle.whole_paths.specs.Counts.{CountsAsMuch}
+use Rattle.whole_paths.specs.Courses.{harmed_so_far}
+use Rattle.whole_paths.specs.Debts.{FewAreOwedBy, OwesAtMostBy, OwesOnBy}
 use Rattle.whole_paths.specs.Directions.{OwesAlong}
 use Rattle.whole_paths.specs.Finish.{IsPathAt}
 use Rattle.whole_paths.specs.Mild.{IsMildStart, LinkIsMild}
@@ -26,6 +28,7 @@ use Rattle.whole_paths.specs.OpenCourses.{IsNow}
 use Rattle.whole_paths.specs.Mending.{IsBegunTurn}
 use Rattle.whole_paths.specs.OpenFirst.{FewAsItOpensAreFew, HasJustOpened}
 use Rattle.whole_paths.specs.Straying.{IsOpenFrom}
+use Rattle.whole_paths.proofs.Counts.{owes_so}
 use Rattle.whole_paths.proofs.Directions.{owes_next}
 use Rattle.whole_paths.proofs.Mild.{links_are_mild}
 use Rattle.whole_paths.proofs.OpenCourses.{IsFirstPath, each_first}
@@ -110,11 +113,11 @@ module _ (start : Start) (mild : IsMildStart start) (turns : List Turn) where
 -- ---- along the turns
 
 -- debts of any kind that go on from when B's end may send a DSS are few, where they are as the path opens
-module _ (start : Start) (plan : PathPlan) (most : ℕ) (one : BeginsWithOnePath start plan) (Owes : ℕ → List Turn → Type 0)
-    (goes_on : (turns : List Turn) (turn : Turn) (debts : ℕ) → IsBegunTurn start turns turn → Owes debts turns → OwesOn start plan most Owes debts turns (turns ++ turn ∷ []))
-    (opens : (turns : List Turn) → HasJustOpened start turns → OwesAtMost start plan most Owes turns) where
+module _ (start : Start) (plan : PathPlan) (most : ℕ) (one : BeginsWithOnePath start plan) (count : List Turn → ℕ) (Owes : ℕ → List Turn → Type 0)
+    (goes_on : (turns : List Turn) (turn : Turn) (debts : ℕ) → IsBegunTurn start turns turn → Owes debts turns → OwesOnBy start plan most count Owes debts turns (turns ++ turn ∷ []))
+    (opens : (turns : List Turn) → HasJustOpened start turns → OwesAtMostBy start plan most count Owes turns) where
   abbrev Known : List Turn → Type 0
-  Known turns = IsNow (IsOpenFrom B) (reached values start turns) → OwesAtMost start plan most Owes turns
+  Known turns = IsNow (IsOpenFrom B) (reached values start turns) → OwesAtMostBy start plan most count Owes turns
 
   known_first : Known []
   known_first now = opens [] (record { now = now; unopened = λ before turn is. absurd (empty before turn is) })
@@ -135,7 +138,7 @@ module _ (start : Start) (plan : PathPlan) (most : ℕ) (one : BeginsWithOnePath
       same_start (a ∷ c ∷ xs) [] x y is = cc
       same_start (a ∷ xs) (b ∷ ys) x y is = (let first : a ≡ b = cc in let rest : xs ++ x ∷ [] ≡ ys ++ y ∷ [] = cc in rw (first, same_start xs ys x y rest) refl)
 
-      going_on : IsNow (IsOpenFrom B) (reached values start turns) → OwesAtMost start plan most Owes (turns ++ turn ∷ [])
+      going_on : IsNow (IsOpenFrom B) (reached values start turns) → OwesAtMostBy start plan most count Owes (turns ++ turn ∷ [])
       going_on was = let k = known was in let o = goes_on turns turn k.debts (record { mild = one.mild; before = was; after = now }) k.owes in record { debts = o.now; owes = o.owes; few = (let few = k.few in let more = o.few in omega (arith, few, more)) }
 
   known_on : (done more : List Turn) → Known done → Known (done ++ more)
@@ -146,5 +149,12 @@ module _ (start : Start) (plan : PathPlan) (most : ℕ) (one : BeginsWithOnePath
   known_always turns = known_on [] turns known_first
 
 pub few_as_it_opens_are_few : FewAsItOpensAreFew
-few_as_it_opens_are_few start plan most s one opens turns now = known_always start plan most one (OwesAlong start s)
+few_as_it_opens_are_few start plan most s one opens turns now = known_always start plan most one (harmed_so_far values start) (OwesAlong start s)
     (λ turns turn debts begun owes. owes_next start plan most s one turns turn debts begun owes) opens turns (begun_now start turns one.mild now)
+
+-- along a direction by any count
+pub few_along : (start : Start) (plan : PathPlan) (most : ℕ) (s : Side) → BeginsWithOnePath start plan → (count : List Turn → ℕ) → CountsAsMuch start (harmed_so_far values start) count
+    → ((turns : List Turn) → HasJustOpened start turns → OwesAtMostBy start plan most count (OwesAlong start s) turns) → FewAreOwedBy start plan most count (OwesAlong start s)
+few_along start plan most s one count harms opens turns now = known_always start plan most one count (OwesAlong start s)
+    (λ ts turn debts begun owes. owes_so start plan most (harmed_so_far values start) count (OwesAlong start s) debts ts (ts ++ turn ∷ []) (harms.rises ts turn begun) (owes_next start plan most s one ts turn debts begun owes))
+    opens turns (begun_now start turns one.mild now)

@@ -1,74 +1,73 @@
--- While no end of path 0 is dead it opens: each wait of the opening ends in time, or something is counted.
-use Rattle.std.proofs.Common.{◌≡◌, refl, sym, subst, ap, ◌∙◌, ◌⊎◌, ⊎_elim, inl, inr, ℕ, zero, suc, ◌+◌, ◌*◌, ◌<◌, ◌≤◌, arith, Bool, true, false, true≢false, is_some, List, [], ◌∷◌, ◌++◌}
-use Rattle.std.proofs.lemmas.Bool.{both_ways}
-use Rattle.std.proofs.lemmas.Option.{same_Some}
+-- While no end of path 0 is dead it opens: each wait of the opening ends in time, or the path is a step further, or a segment was harmed.
+use Rattle.std.proofs.Common.{◌≡◌, refl, sym, subst, ap, ◌∙◌, ◌⊎◌, ⊎_elim, inl, inr, ℕ, ◌+◌, ◌*◌, ◌<◌, ◌≤◌, arith, Bool, true, false, true≢false, Option, None, Some, is_some, List, [], ◌∷◌, ◌++◌, length}
+use Rattle.std.specs.List.{slice_get}
+use Rattle.std.proofs.lemmas.Bool.{both_ways, cases_lt}
 use Rattle.std.proofs.lemmas.List.{append-nil}
 use Rattle.sides.specs.declared.side.Side.{Side}
 use Rattle.sides.specs.declared.side.Side.TheVariants.{A, B}
+use Rattle.send_book.specs.State.{acked_len}
+use Rattle.reassembly_book.specs.State.{received}
 use Rattle.subflow_send.specs.Records.{Record}
-use Rattle.subflow_tcp.specs.States.{is_closed_to_segments, is_dead, may_finish}
+use Rattle.subflow_tcp.specs.States.{is_closed_to_segments, is_dead}
 use Rattle.subflow_tcp.specs.declared.handshake.State.{State}
 use Rattle.subflow_tcp.specs.declared.handshake.State.TheVariants as phase
+use Rattle.path_core.specs.MpJoin.{is_joined}
 use Rattle.path_core.specs.Standing.{is_connected}
 use Rattle.path_core.specs.State.{PathState, end_at}
 use Rattle.path_core.specs.Values.{Carried, values}
-use Rattle.world_laws.specs.Actors.{ActorCrew, is_over}
-use Rattle.world_laws.specs.Members.{HoldsOfKind}
+use Rattle.world_laws.specs.declared.member.Member.TheVariants.{App, Path}
+use Rattle.world_laws.specs.Actors.{Actor, ActorCrew, is_over}
+use Rattle.world_laws.specs.Members.{HoldsOfKind, of_kind}
 use Rattle.world_laws.specs.Openings.{PathPlan, Start, opened_world}
+use Rattle.world_laws.specs.Promises.{arrived_at, written_by}
 use Rattle.world_laws.specs.RoundDone.{reached}
 use Rattle.world_laws.specs.RoundNumbers.{BeginsRound}
-use Rattle.world_laws.specs.Worlds.{Turn, WorldState, after_turn, world_run}
+use Rattle.world_laws.specs.Worlds.{Turn, WorldState, after_turn, all_over, world_run}
 use Rattle.world_laws.proofs.Rounds.Lifting.{all_over_each}
 use Rattle.world_laws.proofs.Weaving.WholeRounds.{run_append}
-use Rattle.whole_paths.specs.AsFar.{IsActorAsFar, IsPathAsFar, stage}
-use Rattle.whole_paths.specs.Came.{HasCome}
-use Rattle.whole_paths.specs.Courses.{Exchanges, counted, round_end}
-use Rattle.whole_paths.specs.Delivery.{HasFinished, IsAllThere}
+use Rattle.world_laws.proofs.Promises.Made.{keep_their_word}
+use Rattle.whole_paths.specs.AsFar.{IsPathAsFar, stage}
+use Rattle.whole_paths.specs.Clear.{IsPastIfClear}
+use Rattle.whole_paths.specs.Courses.{course_of, harmed_so_far, round_end}
+use Rattle.whole_paths.specs.Delivery.{IsAllThere}
 use Rattle.whole_paths.specs.Finish.{IsPathAt, IsWhole}
-use Rattle.whole_paths.specs.GoingOn.{IsAboutToGoOn, IsEndOpen, IsEndOpenHere, IsWaiting, going_side}
-use Rattle.whole_paths.specs.GoingOn.IsAboutToGoOn.{this_round}
+use Rattle.whole_paths.specs.GoingOn.{IsEndOpen}
+use Rattle.whole_paths.specs.Mild.{HasKeys, treats_answer}
 use Rattle.whole_paths.specs.News.{one_if}
-use Rattle.whole_paths.specs.Harms.{longest_way}
-use Rattle.whole_paths.specs.Mild.{HasKeys, IsMildStart, treats_answer}
-use Rattle.whole_paths.specs.News.{Counts as counts}
+use Rattle.whole_paths.specs.OnePathScripts.{BeginsWithOnePath}
 use Rattle.whole_paths.specs.OpenCourses.{IsNow}
-use Rattle.whole_paths.specs.OpeningCourses.{IsFromB, IsOpenOrDone, IsOpeningStill}
-use Rattle.whole_paths.specs.OpeningCourses.IsOpeningStill.{opening, sign, piece, turn}
+use Rattle.whole_paths.specs.Opened.{OpensOn, opened_or_harmed, steps_in, steps_open}
+use Rattle.whole_paths.specs.OpeningCourses.{AwaitsAStep, HasBegun, IsFromB, IsInRound, IsOpenOrDone, IsOpeningStill}
+use Rattle.whole_paths.specs.OpeningCourses.IsOpeningStill.{opening, sign, writes, sends}
 use Rattle.whole_paths.specs.OpeningWaits.{AHasFinished, AliveOpens, AliveSteps, AwaitsOpening, IsAlive, IsAliveAfter, IsOpening, IsOpeningAwaited, OpeningIsAwaited}
 use Rattle.whole_paths.specs.OpeningWaits.{IsOpening as opens}
-use Rattle.whole_paths.specs.Overruns.{StaysWithin}
+use Rattle.whole_paths.specs.PaidCourses.{PaidExchanges}
+use Rattle.whole_paths.specs.PaidRounds.{AWaitBegins, AWaitGoesOn}
+use Rattle.whole_paths.specs.PositionCounts.{CountsBytes}
 use Rattle.whole_paths.specs.Reasons.{IsOutstanding}
-use Rattle.whole_paths.specs.SenderWaits.{OpensFrom, SenderIsAwaited, StepsFrom}
-use Rattle.whole_paths.specs.SignWaits.{FirstSignIsAwaited}
+use Rattle.whole_paths.specs.SignPieces.{WantsASign}
+use Rattle.whole_paths.specs.SignWaits.{FirstSignIsAwaited, IsToShow}
 use Rattle.whole_paths.specs.SignWaits.{IsToShow as shows}
 use Rattle.whole_paths.specs.Straying.{IsOpenFrom}
-use Rattle.whole_paths.specs.Syns.{IsToOpen}
-use Rattle.whole_paths.specs.Syns.{IsToOpen as to_open}
-use Rattle.whole_paths.specs.WholeCourses.{WaysAreShort}
-use Rattle.whole_paths.proofs.Came.{what_is_acknowledged_came}
-use Rattle.whole_paths.proofs.Delivery.{what_is_there_stays}
 use Rattle.whole_paths.proofs.ClearFirst.{b_is_clear_first}
-use Rattle.whole_paths.proofs.Courses.{round_next, round_step}
+use Rattle.whole_paths.proofs.Clearing.{clear_ends_are_past}
+use Rattle.whole_paths.proofs.Courses.{harmed_append, round_next, round_step}
+use Rattle.whole_paths.proofs.Delivery.{what_is_there_stays}
 use Rattle.whole_paths.proofs.FirstSigns.{asks_for_its_end}
 use Rattle.whole_paths.proofs.FirstWindows.{b_is_idle_before}
-use Rattle.whole_paths.proofs.KeysCome.{the_first_piece_waits}
+use Rattle.whole_paths.proofs.Flying.{same_record}
 use Rattle.whole_paths.proofs.GoesOn.{goes_on_so}
-use Rattle.whole_paths.proofs.GoingOn.{ends_go_on, open_behind, step_side, steps_let_it_go_on}
-use Rattle.whole_paths.proofs.Clearing.{clear_ends_are_past}
-use Rattle.whole_paths.proofs.EndsUntold.{a_is_told_no_end_before}
-use Rattle.path_core.specs.MpJoin.{is_joined}
+use Rattle.whole_paths.proofs.GoingOn.{has_written, one_more, prefix_up, waits_for_something}
 use Rattle.whole_paths.proofs.Handshaking.{living_ends_open_or_are_past}
-use Rattle.whole_paths.proofs.SendsEnds.{who_is_done_is_clear}
-use Rattle.whole_paths.specs.Clear.{IsPastIfClear}
 use Rattle.whole_paths.proofs.InTime.{nil_so}
 use Rattle.whole_paths.proofs.Keyed.{keys_are_known}
+use Rattle.whole_paths.proofs.KeysCome.{the_first_piece_waits}
 use Rattle.whole_paths.proofs.OpenCourses.{IsFirstPath, each_first}
-use Rattle.whole_paths.proofs.OpeningWaits.{openings_are_awaited}
-use Rattle.whole_paths.proofs.Overruns.{no_end_overruns}
-use Rattle.whole_paths.proofs.RoundBegins.{no_round_counts}
-use Rattle.whole_paths.proofs.WholeCourses.{no_rounds}
-use Rattle.whole_paths.proofs.RecordWaits.{counts_so, path_is, with_both}
-use Rattle.whole_paths.proofs.SenderWaits.{senders_are_awaited}
+use Rattle.whole_paths.proofs.Opened.{b_missing, edge_first, far, few_steps, first_of_b, never_falls, no_round_opens, one_most, opens_so, steps_is, there}
+use Rattle.whole_paths.proofs.OpeningWaits.{openings_are_awaited, to_open_low}
+use Rattle.whole_paths.proofs.PositionCounts.{positions_count_bytes}
+use Rattle.whole_paths.proofs.RecordWaits.{path_is}
+use Rattle.whole_paths.proofs.SendsEnds.{who_is_done_is_clear}
 use Rattle.whole_paths.proofs.SignWaits.{first_signs_are_awaited}
 
 -- ---- states
@@ -91,28 +90,27 @@ both_past : (p q : PathState Carried) → IsPathAsFar p q → ((s : Side) → 3 
 both_past p q far past A = let low = past A in let up = far.a.subflow.state in omega (arith, low, up)
 both_past p q far past B = let low = past B in let up = far.b.subflow.state in omega (arith, low, up)
 
-module _ (start : Start) (plan : PathPlan) (most way within : ℕ) (one : start.paths ≡ plan ∷ []) (mild : IsMildStart start) (some : 1 ≤ start.buffer)
-    (short : WaysAreShort start way) (long : 60000 + way ≤ within) where
+module _ (start : Start) (plan : PathPlan) (most : ℕ) (begins : BeginsWithOnePath start plan) where
   abbrev at : List Turn → WorldState Carried
   at turns = reached values start turns
 
   abbrev count : List Turn → ℕ
-  count turns = counted values start turns
+  count turns = opened_or_harmed start turns
 
   abbrev Over : List Turn → Type 0
   Over turns = IsOpenOrDone (at turns)
 
-  abbrev Awaits : ℕ → ℕ → List Turn → Type 0
-  Awaits n x turns = IsOpeningStill start within n x turns
+  abbrev Awaits : ℕ → List Turn → Type 0
+  Awaits x turns = IsOpeningStill start x turns
 
   openings : OpeningIsAwaited start most
-  openings = openings_are_awaited start most mild
+  openings = openings_are_awaited start plan most begins
 
   firsts : FirstSignIsAwaited start most
-  firsts = first_signs_are_awaited start most mild
+  firsts = first_signs_are_awaited start plan most begins
 
-  senders : SenderIsAwaited start most B
-  senders = senders_are_awaited start most B mild
+  some : 1 ≤ start.buffer
+  some = let least = begins.buffer in omega (arith, least)
 
   -- ---- a turn
 
@@ -123,11 +121,14 @@ module _ (start : Start) (plan : PathPlan) (most way within : ℕ) (one : start.
     then_now : IsNow IsAlive (after_turn values t (at v))
     then_now = subst (λ (y : WorldState Carried). IsNow IsAlive y) same after
 
-    there : IsPathAt 0 (at (v ++ t ∷ [])) then_now.path
-    there = subst (λ (y : WorldState Carried). IsPathAt 0 y then_now.path) (sym same) then_now.here
+    then_there : IsPathAt 0 (at (v ++ t ∷ [])) then_now.path
+    then_there = there start plan begins v t before then_now
 
-    far : IsPathAsFar before.path then_now.path
-    far = with_both start mild v t before then_now IsActorAsFar (let found = (goes_on_so values (at v) (t ∷ [])).crew 2 before.here.crew before.here.there in (found.0, found.1, found.2.member))
+    far_now : IsPathAsFar before.path then_now.path
+    far_now = far start plan begins v t before then_now
+
+    up_now : count v ≤ count (v ++ t ∷ [])
+    up_now = never_falls start plan begins v t before then_now
 
     -- a path that is whole stays so
     whole_on : IsWhole 0 (at v) → IsWhole 0 (at (v ++ t ∷ []))
@@ -137,9 +138,9 @@ module _ (start : Start) (plan : PathPlan) (most way within : ℕ) (one : start.
         let clear : (s : Side) → (end_at s before.path).modes.clear ≡ true = λ s. subst (λ (p : PathState Carried). (end_at s p).modes.clear ≡ true) p_is (whole.clear s) in
         record {
           path = then_now.path;
-          here = there;
-          connected = λ s. connected_past (end_at s then_now.path).tcp.state (both_past before.path then_now.path far past s) (then_now.is_open.living s);
-          clear = elim [ A ↦ far.a.clear (clear A) | B ↦ far.b.clear (clear B) ];
+          here = then_there;
+          connected = λ s. connected_past (end_at s then_now.path).tcp.state (both_past before.path then_now.path far_now past s) (then_now.is_open.living s);
+          clear = elim [ A ↦ far_now.a.clear (clear A) | B ↦ far_now.b.clear (clear B) ];
         }
       where
         connected_far : (x : State) → is_connected x ≡ true → 3 ≤ stage x
@@ -152,52 +153,42 @@ module _ (start : Start) (plan : PathPlan) (most way within : ℕ) (one : start.
 
     pub over_on : Over v → Over (v ++ t ∷ [])
     over_on (inl whole) = inl (whole_on whole)
-    over_on (inr all) = inr (record { of = λ s. what_is_there_stays start v (t ∷ []) mild s (all.of s) })
+    over_on (inr all) = inr (record { of = λ s. what_is_there_stays start v (t ∷ []) begins.mild s (all.of s) })
 
-    -- and one that is open from B on
-    from_then : IsOpenFrom B before.path → IsOpenFrom B then_now.path
-    from_then h = record {
-      first = then_now.faithful.joined;
-      past = both_past before.path then_now.path far h.past;
-      living = then_now.is_open.living;
-      clear = far.b.clear h.clear;
-      sure = far.b.clear h.sure;
-      keyed = far.a.keyed h.keyed;
-    }
-
-    from_before : IsFromB start v → IsOpenFrom B before.path
-    from_before h = subst (IsOpenFrom B) (path_is (at v) h.path before.path h.here before.here) h.from
-
-    unclear_before : IsFromB start v → before.path.a.modes.clear ≡ false
-    unclear_before h = subst (λ (p : PathState Carried). p.a.modes.clear ≡ false) (path_is (at v) h.path before.path h.here before.here) h.unclear
-
-    -- or A may send a DSS, which counts
-    pub from_on : IsFromB start v → (count v < count (v ++ t ∷ [])) ⊎ IsFromB start (v ++ t ∷ [])
+    -- and one that is open from B on, or A may send a DSS
+    from_on : IsFromB start v → (count v < count (v ++ t ∷ [])) ⊎ IsFromB start (v ++ t ∷ [])
     from_on h = by then_now.path.a.modes.clear refl
       where
+        from_before : IsOpenFrom B before.path
+        from_before = subst (IsOpenFrom B) (path_is (at v) h.path before.path h.here before.here) h.from
+
+        unclear_before : before.path.a.modes.clear ≡ false
+        unclear_before = subst (λ (p : PathState Carried). p.a.modes.clear ≡ false) (path_is (at v) h.path before.path h.here before.here) h.unclear
+
         by : (b : Bool) → then_now.path.a.modes.clear ≡ b → (count v < count (v ++ t ∷ [])) ⊎ IsFromB start (v ++ t ∷ [])
-        by true is = inl (counts_so start mild v t before then_now (counts.clears A (unclear_before h) is))
-        by false is = inr (record { path = then_now.path; here = there; from = from_then (from_before h); unclear = is })
+        by true is = inl (opens_so start plan begins v t before then_now (let past = from_before.past A in omega (arith, past)) (OpensOn.clears A unclear_before is))
+        by false is = inr (record {
+          path = then_now.path;
+          here = then_there;
+          from = record {
+            first = then_now.faithful.joined;
+            past = both_past before.path then_now.path far_now from_before.past;
+            living = then_now.is_open.living;
+            clear = far_now.b.clear from_before.clear;
+            sure = far_now.b.clear from_before.sure;
+            keyed = far_now.a.keyed from_before.keyed;
+          };
+          unclear = is;
+        })
 
-    now_before : IsFromB start v → IsNow (IsOpenFrom B) (at v)
-    now_before h = record { path = before.path; here = before.here; is_open = from_before h; faithful = before.faithful; few = before.few }
+  steps_from : (v u : List Turn) → AliveSteps start most v u → IsFromB start v → (count v < count u) ⊎ IsFromB start u
+  steps_from v u step h = subst (λ t. (count v < count t) ⊎ IsFromB start t) (sym step.is) (from_on v (Turn.Step step.actor) step.before (subst (IsAliveAfter start most) step.is step.after) h)
 
-    now_after : IsFromB start v → IsNow (IsOpenFrom B) (at (v ++ t ∷ []))
-    now_after h = record { path = then_now.path; here = there; is_open = from_then (from_before h); faithful = then_now.faithful; few = then_now.few }
+  opens_from : (v u : List Turn) → AliveOpens start most v u → IsFromB start v → (count v < count u) ⊎ IsFromB start u
+  opens_from v u step h = subst (λ t. (count v < count t) ⊎ IsFromB start t) (sym step.is) (from_on v Turn.Round step.before (subst (IsAliveAfter start most) step.is step.after) h)
 
-  steps_from : (v u : List Turn) → AliveSteps start most v u → IsFromB start v → StepsFrom start most B v u × ((count v < count u) ⊎ IsFromB start u)
-  steps_from v u step h =
-      let after = subst (IsAliveAfter start most) step.is step.after in (
-        record { actor = step.actor; is = step.is; few = step.few; before = now_before v (Turn.Step step.actor) step.before after h; after = subst (λ t. IsNow (IsOpenFrom B) (at t)) (sym step.is) (now_after v (Turn.Step step.actor) step.before after h) },
-        subst (λ t. (count v < count t) ⊎ IsFromB start t) (sym step.is) (from_on v (Turn.Step step.actor) step.before after h),
-      )
-
-  opens_from : (v u : List Turn) → AliveOpens start most v u → IsFromB start v → OpensFrom start most B v u × ((count v < count u) ⊎ IsFromB start u)
-  opens_from v u step h =
-      let after = subst (IsAliveAfter start most) step.is step.after in (
-        record { over = step.over; is = step.is; few = step.few; before = now_before v Turn.Round step.before after h; after = subst (λ t. IsNow (IsOpenFrom B) (at t)) (sym step.is) (now_after v Turn.Round step.before after h) },
-        subst (λ t. (count v < count t) ⊎ IsFromB start t) (sym step.is) (from_on v Turn.Round step.before after h),
-      )
+  up_later : (v u : List Turn) (t : Turn) → u ≡ v ++ t ∷ [] → IsAliveAfter start most v → IsAliveAfter start most u → count v ≤ count u
+  up_later v u t is before after = subst (λ ts. count v ≤ count ts) (sym is) (up_now v t before (subst (IsAliveAfter start most) is after))
 
   over_later : (v u : List Turn) (t : Turn) → u ≡ v ++ t ∷ [] → IsAliveAfter start most v → IsAliveAfter start most u → Over v → Over u
   over_later v u t is before after over = subst Over (sym is) (over_on v t before (subst (IsAliveAfter start most) is after) over)
@@ -207,13 +198,10 @@ module _ (start : Start) (plan : PathPlan) (most way within : ℕ) (one : start.
   never_done : (v : List Turn) → IsAliveAfter start most v → AHasFinished start v → (p : PathState Carried) → IsPathAt 0 (at v) p → stage p.b.tcp.state ≤ 2 → ⊥
   never_done v now done p here low =
       let first : is_joined done.path.profile ≡ false = subst (λ (q : PathState Carried). is_joined q.profile ≡ false) (path_is (at v) now.path done.path now.here done.here) now.faithful.joined in
-      let past = subst (HoldsOfKind (λ app. Unit {0}) IsPastIfClear) done.here.is (clear_ends_are_past values start v 2 done.here.crew done.here.there) first B (b_is_clear_first start plan v one mild done.path done.here (who_is_done_is_clear start v mild done.path done.here done.finished)) in
+      let past = subst (HoldsOfKind (λ app. Unit {0}) IsPastIfClear) done.here.is (clear_ends_are_past values start v 2 done.here.crew done.here.there) first B
+      (b_is_clear_first start plan v begins.one begins.mild done.path done.here (who_is_done_is_clear start v begins.mild done.path done.here done.finished)) in
       let high : 3 ≤ stage p.b.tcp.state = subst (λ (q : PathState Carried). 3 ≤ stage q.b.tcp.state) (path_is (at v) done.path p done.here here) past in
       omega (arith, high, low)
-
-  to_open_low : (s : Side) (p : PathState Carried) → IsToOpen s p → stage p.b.tcp.state ≤ 2
-  to_open_low s p (to_open.asks own sent listens) = subst (λ x. stage x ≤ 2) (sym listens) (omega arith)
-  to_open_low s p (to_open.answers own sent half) = subst (λ x. stage x ≤ 2) (sym half) (omega arith)
 
   opening_low : (p : PathState Carried) → IsOpening p → stage p.b.tcp.state ≤ 2
   opening_low p (opens.syn s h) = to_open_low s p h
@@ -241,192 +229,221 @@ module _ (start : Start) (plan : PathPlan) (most way within : ℕ) (one : start.
     silent : p.agenda ≡ []
     silent = nil_so p.agenda (subst (λ m. is_over m ≡ true) here.is (all_over_each (at v).crew 2 here.crew step.over here.there))
 
-    same_count : count u ≡ count v
-    same_count = ap (counted values start) step.is ∙ no_round_counts start v step.over
-
-    near : longest_way A p.link + longest_way B p.link ≤ way
-    near = short v p here
-
     first : IsFirstPath start p
-    first = subst (HoldsOfKind (λ app. Unit {0}) (IsFirstPath start)) here.is (each_first start v mild.plain.size here.crew here.there)
-
-    came : HasCome p
-    came = subst (HoldsOfKind (λ app. Unit {0}) HasCome) here.is ((what_is_acknowledged_came start v).each 2 here.crew here.there)
-
-    within_window : StaysWithin p
-    within_window = subst (HoldsOfKind (λ app. Unit {0}) StaysWithin) here.is (no_end_overruns start v mild here.crew here.there)
+    first = subst (HoldsOfKind (λ app. Unit {0}) (IsFirstPath start)) here.is (each_first start v begins.mild.plain.size here.crew here.there)
 
     keyed : 2 ≤ stage p.a.tcp.state → is_some p.a.modes.peer_key ≡ true
     keyed high = ⊎_elim (λ has. has) (λ treats. absurd (true≢false (sym treats ∙ ap treats_answer silent)))
-        (((subst (HoldsOfKind (λ app. Unit {0}) HasKeys) here.is ((keys_are_known start v mild).each 2 here.crew here.there)) first.first).a high (alive.living A))
+        (((subst (HoldsOfKind (λ app. Unit {0}) HasKeys) here.is ((keys_are_known start v begins.mild).each 2 here.crew here.there)) first.first).a high (alive.living A))
 
     next_end : round_end values start u ≡ round_end values start v + 100
     next_end = subst (λ t. round_end values start t ≡ round_end values start v + 100) (sym step.is) (round_next values start v step.over)
 
+    next_is : at u ≡ world_run values (Turn.Round ∷ []) (at v)
+    next_is = ap at step.is ∙ run_append values v (Turn.Round ∷ []) (opened_world start)
+
+    next_round : IsInRound start u u
+    next_round = record { order = []; is = sym (append-nil u); begin = BeginsRound.Next v step.over next_is }
+
+    -- a first sign is waited for
+    shows_so : IsToShow p → (x : ℕ) → round_end values start v + 60800 ≤ x → Awaits x u
+    shows_so to_show x late = sign (round_end values start v + 60800) late (firsts.begins v u step (record { path = p; here = here; shows = to_show }))
+
     -- ---- where A may send no DSS, though B may
 
     module _ (past : (s : Side) → 3 ≤ stage (end_at s p).tcp.state) (unclear : p.a.modes.clear ≡ false) (clear : p.b.modes.clear ≡ true) where
-      from_b : IsOpenFrom B p
-      from_b = record { first = first.first; past = past; living = alive.living; clear = clear; sure = clear; keyed = keyed (let high = past A in omega (arith, high)) }
-
       is_from : IsFromB start v
-      is_from = record { path = p; here = here; from = from_b; unclear = unclear }
+      is_from = record {
+        path = p;
+        here = here;
+        from = record { first = first.first; past = past; living = alive.living; clear = clear; sure = clear; keyed = keyed (let high = past A in omega (arith, high)) };
+        unclear = unclear;
+      }
 
       then_from : IsFromB start u
-      then_from = ⊎_elim (λ rises. absurd (omega (arith, rises, same_count))) (λ h. h) (opens_from v u step is_from).1
+      then_from = ⊎_elim (λ rises. absurd (no_round_opens start plan begins most v u step rises)) (λ h. h) (opens_from v u step is_from)
 
-      -- A sent no FIN
-      a_unfinished : p.a.tcp.send.finished ≡ false
-      a_unfinished = by (may_finish p.a.tcp.state) refl
+      wants : WantsASign p
+      wants = record { unclear = unclear; high = (let high = past A in omega (arith, high)); clear = clear; met = (let high = past B in omega (arith, high)); edge = edge_first start plan begins v p here alive A unclear }
+
+      -- none of B's bytes are acknowledged
+      unacked : acked_len (written_by B (at v)).marks ≡ 0
+      unacked =
+          let acked : acked_len (written_by B (at v)).marks ≤ received (arrived_at A (at v)) = (keep_their_word start v begins.mild.plain).ba.acked in
+          let came = (subst (HoldsOfKind (λ app. Unit {0}) (λ (q : PathState Carried). (s : Side) → CountsBytes (at v) q s)) here.is ((positions_count_bytes start v plan begins.one begins.mild).each 2 here.crew here.there) B).came in
+          let edge = wants.edge in omega (arith, acked, came, edge)
+
+      opened_end : IsEndOpen B p
+      opened_end = record { past = past B; living = alive.living B; clear = clear }
+
+      asks : p.b.tcp.send.records ≡ [] → (p.b.sending.granted ≡ []) × (p.b.sending.shut ≡ false) → IsOutstanding p.b → IsToShow p
+      asks none idle (IsOutstanding.on_subflow r others is) = absurd (let wrong : [] ≡ r ∷ others = sym none ∙ is in cc)
+      asks none idle (IsOutstanding.on_stream g others is) = absurd (let wrong : [] ≡ g ∷ others = sym idle.0 ∙ is in cc)
+      asks none idle (IsOutstanding.shut is) = absurd (both_ways p.b.sending.shut idle.1 is)
+      asks none idle (IsOutstanding.third is) = absurd (both_ways p.b.modes.owes_third ((asks_for_its_end start v begins.mild p here).0 first.first) is)
+      asks none idle (IsOutstanding.fast_close is) = absurd (both_ways p.b.notices.fast_closed (asks_for_its_end start v begins.mild p here).1 is)
+      asks none idle (IsOutstanding.data_fin identity infinite sent unacknowledged) =
+          shows.end (open_past p.b.tcp.state (past B) (alive.living B)) none unclear wants.high (record { clear = clear; sent = sent; unacked = unacknowledged })
+
+      shows_by : IsOutstanding p.b → IsToShow p
+      shows_by out = by p.b.tcp.send.records refl
         where
-          by : (b : Bool) → may_finish p.a.tcp.state ≡ b → p.a.tcp.send.finished ≡ false
-          by true may = first.may A may
-          by false behind = absurd (both_ways p.a.modes.clear unclear (who_is_done_is_clear start v mild p here (HasFinished.sent_fin (open_behind p.a.tcp.state (past A) (alive.living A) behind) (alive.living A))))
+          by : (rs : List Record) → p.b.tcp.send.records ≡ rs → IsToShow p
+          by [] none = asks none (b_is_idle_before start plan v begins.one begins.mild some p here alive silent unclear clear none) out
+          by (r ∷ others) is =
+              let piece = first_of_b start plan begins v p here alive unclear (past B) r (record { first = r; others = others; records = is; same = same_record r }) in
+              shows.sign wants r others is piece.0 piece.1
 
-      room : p.a.tcp.send.nxt ≤ p.b.tcp.recv.edge + 1048576
-      room = let few = within_window A in let none = ap one_if a_unfinished in let low = came.una A (alive.living A) in omega (arith, few, none, low)
+      -- B's end has something outstanding at the end of the round
+      b_shows : (since : List Turn) → IsInRound start since v → HasBegun (at since) → IsToShow p
+      b_shows since r had = shows_by (waits_for_something start plan begins.one begins.mild some since r.order r.begin (subst (λ ts. all_over (at ts).crew ≡ true) r.is step.over)
+          here.crew (subst (λ ts. slice_get (at ts).crew 2 ≡ Some here.crew) r.is here.there) p here.is B opened_end
+          (subst (λ ts. IsAllThere B (at ts) → ⊥) r.is (b_missing start plan begins v p here alive unclear))
+          (⊎_elim (λ closed. inl closed) (λ one. inr (subst (λ ts. acked_len (written_by B (at ts)).marks < length (written_by B (at since)).written) r.is (let none = unacked in omega (arith, none, one)))) had)).1
 
-      -- none of B's stream is all there
-      missing : IsAllThere B (at u) → ⊥
-      missing all =
-          let now = then_from in
-          let none = a_is_told_no_end_before start plan u one mild now.path now.here now.unclear in let some = all.known in cc
-
-      begun : at u ≡ world_run values (Turn.Round ∷ []) (at v)
-      begun = ap at step.is ∙ run_append values v (Turn.Round ∷ []) (opened_world start)
-
-      turn_begins : Awaits (count u) (round_end values start v + (within + 300)) u
-      turn_begins = turn 2 then_from (this_round B u [] refl (sym (append-nil u)) refl (BeginsRound.Next v step.over begun) missing) refl (let next = next_end in omega (arith, next))
-
-      -- B waits for something
-      module _ (n x : ℕ) (late : round_end values start v + within ≤ x) (may : may_finish p.b.tcp.state ≡ true) (out : IsOutstanding p.b) where
-        abbrev Next : Type 0
-        Next = (n < count u) ⊎ Awaits n x u
-
-        has_record : (r : Record) (others : List Record) → p.b.tcp.send.records ≡ r ∷ others → Next
-        has_record r others is = inr (piece (round_end values start v + (60000 + way)) (omega (arith, late, long)) then_from
-            (senders.begins way v u (opens_from v u step is_from).0
-            (record { path = p; here = here; side = B; first = r; others = others; records = is; unfinished = first.may B may; near = (let low = near in omega (arith, low)) }) refl room))
-
-        asks : p.b.tcp.send.records ≡ [] → (p.b.sending.granted ≡ []) × (p.b.sending.shut ≡ false) → IsOutstanding p.b → Next
-        asks none idle (IsOutstanding.on_subflow r others is) = absurd (let wrong : [] ≡ r ∷ others = sym none ∙ is in cc)
-        asks none idle (IsOutstanding.on_stream g others is) = absurd (let wrong : [] ≡ g ∷ others = sym idle.0 ∙ is in cc)
-        asks none idle (IsOutstanding.shut is) = absurd (both_ways p.b.sending.shut idle.1 is)
-        asks none idle (IsOutstanding.third is) = absurd (both_ways p.b.modes.owes_third ((asks_for_its_end start v mild p here).0 first.first) is)
-        asks none idle (IsOutstanding.fast_close is) = absurd (both_ways p.b.notices.fast_closed (asks_for_its_end start v mild p here).1 is)
-        asks none idle (IsOutstanding.data_fin identity infinite sent unacked) = inr (sign (round_end values start v + (60000 + way)) (omega (arith, late, long))
-            (firsts.begins way v u step (record {
-              path = p;
-              here = here;
-              shows = shows.end (open_past p.b.tcp.state (past B) (alive.living B)) none unclear (let high = past A in omega (arith, high)) (record { clear = clear; sent = sent; unacked = unacked });
-              near = near;
-            })))
-
-        b_waits : Next
-        b_waits = by p.b.tcp.send.records refl
-          where
-            by : (rs : List Record) → p.b.tcp.send.records ≡ rs → Next
-            by [] none = asks none (b_is_idle_before start plan v one mild some p here alive silent unclear clear none) out
-            by (r ∷ others) is = has_record r others is
+      -- B's application wrote, or closed its stream
+      b_begun : (since : List Turn) → IsInRound start since v → HasBegun (at u)
+      b_begun since r =
+          let now : HasBegun (at v) = subst (λ ts. HasBegun (at ts)) (sym r.is) (has_written start plan begins.one begins.mild some since r.order r.begin (subst (λ ts. all_over (at ts).crew ≡ true) r.is step.over) B) in
+          let far = (goes_on_so values (at v) (Turn.Round ∷ [])).sides B in
+          subst HasBegun (sym next_is) (⊎_elim (λ closed. inl (far.send.closed closed))
+          (λ one. inr (let more = prefix_up (written_by B (at v)).written (written_by B (world_run values (Turn.Round ∷ []) (at v))).written far.send.written in omega (arith, one, more))) now)
 
     -- ---- which wait begins
 
-    if_clear : ((s : Side) → 3 ≤ stage (end_at s p).tcp.state) → Over u ⊎ Awaits (count u) (round_end values start v + (within + 300)) u
+    -- one does, and a step is left to be made
+    abbrev Begins : Type 0
+    Begins = Over u ⊎ ((steps_open p ≤ 4) × Awaits (round_end values start v + 61000) u)
+
+    low_of : (s : Side) → (end_at s p).modes.clear ≡ false → steps_open p ≤ 4
+    low_of A unclear = let a = ap one_if unclear in let b = one_most p.b.modes.clear in omega (arith, a, b)
+    low_of B unclear = let a = ap one_if unclear in let b = one_most p.a.modes.clear in omega (arith, a, b)
+
+    if_clear : ((s : Side) → 3 ≤ stage (end_at s p).tcp.state) → Begins
     if_clear past = by p.a.modes.clear refl p.b.modes.clear refl
       where
-        by : (a : Bool) → p.a.modes.clear ≡ a → (b : Bool) → p.b.modes.clear ≡ b → Over u ⊎ Awaits (count u) (round_end values start v + (within + 300)) u
+        by : (a : Bool) → p.a.modes.clear ≡ a → (b : Bool) → p.b.modes.clear ≡ b → Begins
         by true clear b is = inl (over_later v u Turn.Round step.is step.before step.after (inl (record {
           path = p;
           here = here;
           connected = λ s. connected_past (end_at s p).tcp.state (past s) (alive.living s);
-          clear = elim [ A ↦ clear | B ↦ b_is_clear_first start plan v one mild p here clear ];
+          clear = elim [ A ↦ clear | B ↦ b_is_clear_first start plan v begins.one begins.mild p here clear ];
         })))
-        by false unclear true clear = inr (turn_begins past unclear clear)
+        by false unclear true clear = inr (low_of A unclear, writes u (then_from past unclear clear) next_round (let next = next_end in omega (arith, next)))
         by false unclear false unsure =
-            let h = the_first_piece_waits start plan v one mild p here alive silent past unsure in
-            inr (sign (round_end values start v + (60000 + way)) (omega (arith, long)) (firsts.begins way v u step (record {
-              path = p;
-              here = here;
-              shows = shows.piece h.first h.others h.records h.kind h.position (let high = past A in omega (arith, high)) unclear unsure (let high = past B in omega (arith, high)) h.edge;
-              near = near;
-            })))
+            let h = the_first_piece_waits start plan v begins.one begins.mild p here alive silent past unsure in
+            inr (
+              low_of A unclear,
+              shows_so (shows.piece h.first h.others h.records h.kind h.position (let high = past A in omega (arith, high)) unclear unsure (let high = past B in omega (arith, high)) h.edge)
+                  (round_end values start v + 61000) (omega arith),
+            )
 
-    begins_so : Over u ⊎ Awaits (count u) (round_end values start v + (within + 300)) u
+    begins_so : Begins
     begins_so = ⊎_elim
-        (λ still. inr (opening (round_end values start v + (60000 + way)) (omega (arith, long)) (⊎_elim
-        (λ done. absurd (never_done v step.before done p here (opening_low p still)))
-        (λ waits. waits)
-        (openings.begins way v u step (record { path = p; here = here; opening = still; near = near })))))
+        (λ still. inr (
+          few_so (opening_low p still),
+          opening (round_end values start v + 60800) (omega arith) (⊎_elim
+              (λ done. absurd (never_done v step.before done p here (opening_low p still)))
+              (λ waits. waits)
+              (openings.begins v u step (record { path = p; here = here; opening = still }))),
+        ))
         (λ past. if_clear past)
-        (living_ends_open_or_are_past start v mild p here alive)
+        (living_ends_open_or_are_past start v begins.mild p here alive)
+      where
+        few_so : stage p.b.tcp.state ≤ 2 → steps_open p ≤ 4
+        few_so low = let a = one_most p.a.modes.clear in let b = one_most p.b.modes.clear in omega (arith, low, a, b)
 
     -- ---- as the next round begins
 
-    more_counted : count v ≤ count u
-    more_counted = omega (arith, same_count)
+    module _ (h : IsFromB start v) where
+      from_here : IsOpenFrom B p
+      from_here = subst (IsOpenFrom B) (path_is (at v) h.path p h.here here) h.from
 
-    open_end : IsFromB start v → (s : Side) → s ≡ B → IsEndOpenHere s (at v)
-    open_end h s own c there = subst (HoldsOfKind (λ app. Unit {0}) (IsEndOpen s)) (sym (ap (λ (x : ActorCrew Carried). x.member) (same_Some c h.here.crew (sym there ∙ h.here.there)) ∙ h.here.is))
-        (subst (λ t. IsEndOpen t h.path) (sym own) (record { past = h.from.past B; living = h.from.living B; clear = h.from.clear }))
+      unclear_here : p.a.modes.clear ≡ false
+      unclear_here = subst (λ (q : PathState Carried). q.a.modes.clear ≡ false) (path_is (at v) h.path p h.here here) h.unclear
 
-    turn_next : (n x rounds : ℕ) → n ≤ count v → IsFromB start v → (h : IsAboutToGoOn start n rounds v) → going_side h ≡ B → round_end values start v + 100 * rounds + within ≤ x → (n < count u) ⊎ Awaits n x u
-    turn_next n x zero low from h own soon = absurd (no_rounds start n v h)
-    turn_next n x (suc rounds) low from h own soon = ⊎_elim
-        (λ rises. inl (omega (arith, rises, more_counted)))
-        (λ rest. ⊎_elim
-        (λ waits. waiting waits.0 (waits.1 ∙ own))
-        (λ on. ⊎_elim
-        (λ rises. inl (omega (arith, low, rises)))
-        (λ still. inr (subst (λ t. IsFromB start t → Awaits n x t) (sym step.is)
-        (λ still. turn rounds still on.0 (on.1 ∙ own) (let next = round_next values start v step.over in omega (arith, next, soon))) still))
-        (opens_from v u step from).1)
-        rest)
-        (ends_go_on start plan n rounds v one mild some step.over h (open_end from (going_side h) own))
-      where
-        same_path : from.path ≡ p
-        same_path = path_is (at v) from.path p from.here here
-
-        waiting : (w : IsWaiting (at v)) → w.side ≡ B → (n < count u) ⊎ Awaits n x u
-        waiting w side =
-            let at_p : w.path ≡ p = path_is (at v) w.path p (record { crew = w.crew; there = w.there; is = w.is }) here in
-            let from_p : IsOpenFrom B p = subst (IsOpenFrom B) same_path from.from in
-            b_waits from_p.past (subst (λ (q : PathState Carried). q.a.modes.clear ≡ false) same_path from.unclear) from_p.clear n x (omega (arith, soon))
-            (subst (λ (q : PathState Carried). may_finish q.b.tcp.state ≡ true) at_p (subst (λ s. may_finish (end_at s w.path).tcp.state ≡ true) side w.may))
-            (subst (λ (q : PathState Carried). IsOutstanding q.b) at_p (subst (λ s. IsOutstanding (end_at s w.path)) side w.outstanding))
-
-    next_so : (n x : ℕ) → n ≤ count v → Awaits n x v → (n < count u) ⊎ Awaits n x u
-    next_so n x low (opening by soon h) = ⊎_elim (λ rises. inl (omega (arith, low, rises)))
+    next_so : (x : ℕ) → Awaits x v → (count v < count u) ⊎ Awaits x u
+    next_so x (opening by soon h) = ⊎_elim (λ rises. inl rises)
         (λ rest. ⊎_elim (λ done. absurd (not_done v by step.before h done)) (λ still. inr (opening by soon still)) rest) (openings.next by v u step h)
-    next_so n x low (sign by soon h) = ⊎_elim (λ rises. inl (omega (arith, low, rises))) (λ still. inr (sign by soon still)) (firsts.next by v u step h)
-    next_so n x low (piece by soon from h) = ⊎_elim (λ rises. inl (omega (arith, low, rises)))
-        (λ still. ⊎_elim (λ rises. inl (omega (arith, low, rises))) (λ later. inr (piece by soon later still)) (opens_from v u step from).1) (senders.next by v u (opens_from v u step from).0 h)
-    next_so n x low (turn rounds from h own soon) = turn_next n x rounds low from h own soon
+    next_so x (sign by soon h) = ⊎_elim (λ rises. inl rises) (λ still. inr (sign by soon still)) (firsts.next by v u step h)
+    next_so x (writes since from r soon) =
+        let o = from_here from in let un = unclear_here from in
+        inr (sends u (then_from o.past un o.clear) next_round (b_begun o.past un o.clear since r) (let next = next_end in omega (arith, next, soon)))
+    next_so x (sends since from r had soon) = let o = from_here from in let un = unclear_here from in inr (shows_so (b_shows o.past un o.clear since r had) x soon)
 
-    due_so : (n x : ℕ) → n ≤ count v → Awaits n x v → x < round_end values start v → n < count u
-    due_so n x low (opening by soon h) late = ⊎_elim (λ rises. omega (arith, low, rises)) (λ done. absurd (not_done v by step.before h done)) (openings.due by v u step h (omega (arith, soon, late)))
-    due_so n x low (sign by soon h) late = absurd (firsts.due by v u step h (omega (arith, soon, late)))
-    due_so n x low (piece by soon from h) late = let rises = senders.due by v u (opens_from v u step from).0 h (omega (arith, soon, late)) in omega (arith, low, rises)
-    due_so n x low (turn rounds from h own soon) late = absurd (omega (arith, soon, late))
+    due_so : (x : ℕ) → Awaits x v → x < round_end values start v → count v < count u
+    due_so x (opening by soon h) late = ⊎_elim (λ rises. rises) (λ done. absurd (not_done v by step.before h done)) (openings.due by v u step h (omega (arith, soon, late)))
+    due_so x (sign by soon h) late = absurd (firsts.due by v u step h (omega (arith, soon, late)))
+    due_so x (writes since from r soon) late = absurd (omega (arith, soon, late))
+    due_so x (sends since from r had soon) late = absurd (omega (arith, soon, late))
 
   -- within a round
-  on_so : (n x : ℕ) (v u : List Turn) → AliveSteps start most v u → n ≤ count v → Awaits n x v → (n < count u) ⊎ Awaits n x u
-  on_so n x v u step low (opening by soon h) = ⊎_elim (λ rises. inl (omega (arith, low, rises)))
-      (λ rest. ⊎_elim (λ done. absurd (not_done v by step.before h done)) (λ still. inr (opening by soon still)) rest) (openings.on by v u step h)
-  on_so n x v u step low (sign by soon h) = ⊎_elim (λ rises. inl (omega (arith, low, rises))) (λ still. inr (sign by soon still)) (firsts.on by v u step h)
-  on_so n x v u step low (piece by soon from h) = ⊎_elim (λ rises. inl (omega (arith, low, rises)))
-      (λ still. ⊎_elim (λ rises. inl (omega (arith, low, rises))) (λ later. inr (piece by soon later still)) (steps_from v u step from).1) (senders.on by v u (steps_from v u step from).0 h)
-  on_so n x v u step low (turn rounds from h own soon) = ⊎_elim
-      (λ rises. inl (omega (arith, low, rises)))
-      (λ still. inr (subst (λ t. IsFromB start t → Awaits n x t) (sym step.is)
-      (λ still. turn rounds still (steps_let_it_go_on start n rounds v step.actor h) (step_side start n rounds v step.actor h ∙ own) (let same = round_step values start v step.actor in omega (arith, same, soon))) still))
-      (steps_from v u step from).1
+  more_steps : (v u : List Turn) (step : AliveSteps start most v u) (since : List Turn) → IsInRound start since v → IsInRound start since u
+  more_steps v u step since r = record { order = r.order ++ step.actor ∷ []; is = step.is ∙ one_more start since v r.order step.actor r.is; begin = r.begin }
 
-  pub exchanges : Exchanges values start (IsAliveAfter start most) most (within + 300) Over Awaits
+  same_end : (v u : List Turn) (step : AliveSteps start most v u) → round_end values start u ≡ round_end values start v
+  same_end v u step = ap (round_end values start) step.is ∙ round_step values start v step.actor
+
+  on_so : (x : ℕ) (v u : List Turn) → AliveSteps start most v u → Awaits x v → (count v < count u) ⊎ Awaits x u
+  on_so x v u step (opening by soon h) = ⊎_elim (λ rises. inl rises)
+      (λ rest. ⊎_elim (λ done. absurd (not_done v by step.before h done)) (λ still. inr (opening by soon still)) rest) (openings.on by v u step h)
+  on_so x v u step (sign by soon h) = ⊎_elim (λ rises. inl rises) (λ still. inr (sign by soon still)) (firsts.on by v u step h)
+  on_so x v u step (writes since from r soon) = ⊎_elim (λ rises. inl rises)
+      (λ still. inr (writes since still (more_steps v u step since r) (let same = same_end v u step in omega (arith, same, soon)))) (steps_from v u step from)
+  on_so x v u step (sends since from r had soon) = ⊎_elim (λ rises. inl rises)
+      (λ still. inr (sends since still (more_steps v u step since r) had (let same = same_end v u step in omega (arith, same, soon)))) (steps_from v u step from)
+
+  -- ---- what is paid
+
+  abbrev most_paid : ℕ
+  most_paid = 61100 * (5 + most)
+
+  abbrev Pays : ℕ → List Turn → Type 0
+  Pays n turns = n ≤ 61100 * count turns
+
+  abbrev Waits : ℕ → ℕ → List Turn → Type 0
+  Waits n x turns = AwaitsAStep start most n x turns
+
+  goes_on : (n x : ℕ) (v u : List Turn) → count v ≤ count u → Waits n x v → (count v < count u) ⊎ Awaits x u → Pays n u ⊎ AWaitGoesOn (course_of values start (IsAliveAfter start most) most Over Waits) most_paid n x u
+  goes_on n x v u up h next = ⊎_elim
+      (λ rises. inl (let enough = h.enough in omega (arith, enough, rises)))
+      (λ still. inr (record {
+        put_off = 0;
+        payable = let low = h.payable in omega (arith, low);
+        waits = subst (λ m. Waits m (x + 0) u) (omega arith) (subst (λ y. Waits n y u) (omega arith) (record { enough = (let enough = h.enough in omega (arith, enough, up)); payable = h.payable; still = still }));
+      }))
+      next
+
+  few_in : (o : Option (ActorCrew Carried)) → steps_in o ≤ 5
+  few_in None = omega arith
+  few_in (Some c) = by c.member
+    where
+      by : (m : Actor Carried) → of_kind (λ app. 0) steps_open m ≤ 5
+      by (App a) = omega arith
+      by (Path p) = few_steps p
+
+  begins_paid : (n : ℕ) (v u : List Turn) → AliveOpens start most v u → Pays n u → Over u ⊎ AWaitBegins (course_of values start (IsAliveAfter start most) most Over Waits) most_paid n v u
+  begins_paid n v u step pays = ⊎_elim (λ over. inl over)
+      (λ waits. inr (
+      let few : count u ≤ 4 + most = few_now waits.0 in
+      record { within = 61000; payable = omega (arith, pays, few); waits = record { enough = omega (arith, pays); payable = omega (arith, pays, few); still = waits.1 } }))
+      (begins_so v u step)
+    where
+      few_now : steps_open step.before.path ≤ 4 → count u ≤ 4 + most
+      few_now low =
+          let same = steps_is (at v) step.before.path step.before.here in let harms = step.few in
+          let fewer : harmed_so_far values start v ≤ harmed_so_far values start u = subst (λ ts. harmed_so_far values start v ≤ harmed_so_far values start ts) (sym step.is) (harmed_append values 0 v (Turn.Round ∷ []) (opened_world start)) in
+          ⊎_elim (λ rises. absurd (no_round_opens start plan begins most v u step rises)) (λ most_so. omega (arith, low, same, harms, fewer, most_so)) (cases_lt (count v) (count u))
+
+  pub exchanges : PaidExchanges values start (IsAliveAfter start most) most most_paid Over Pays Waits
   exchanges = record {
     over_on = λ v u step over. over_later v u (Turn.Step step.actor) step.is step.before step.after over;
     over_next = λ v u step over. over_later v u Turn.Round step.is step.before step.after over;
-    waits_on = on_so;
-    waits_next = λ n x v u step low h. next_so v u step n x low h;
-    due = λ n x v u step low h late. due_so v u step n x low h late;
-    begins = begins_so;
+    pays_on = λ n v u step pays. (let up = up_later v u (Turn.Step step.actor) step.is step.before step.after in omega (arith, pays, up));
+    pays_next = λ n v u step pays. (let up = up_later v u Turn.Round step.is step.before step.after in omega (arith, pays, up));
+    few = λ n v harms pays. (let steps = few_in (slice_get (at v).crew 2) in omega (arith, pays, harms, steps));
+    waits_on = λ n x v u step h. goes_on n x v u (up_later v u (Turn.Step step.actor) step.is step.before step.after) h (on_so x v u step h.still);
+    waits_next = λ n x v u step h. goes_on n x v u (up_later v u Turn.Round step.is step.before step.after) h (next_so v u step x h.still);
+    due = λ n x v u step h late. (let rises = due_so v u step x h.still late in let enough = h.enough in omega (arith, rises, enough));
+    begins = begins_paid;
   }

@@ -21,21 +21,21 @@ use Rattle.world_laws.specs.RoundDone.{reached}
 use Rattle.world_laws.specs.Worlds.{Turn, WorldState, AreLawful, world_run}
 use Rattle.world_laws.proofs.Weaving.WholeRounds.{run_append}
 use Rattle.whole_paths.specs.AsFar.{IsActorAsFar, IsPathAsFar, stage}
-use Rattle.whole_paths.specs.Finish.{AnEndDied, IsPathAt, OneBriefPathEnds, harmed, rounds_in}
+use Rattle.whole_paths.specs.Finish.{AnEndDied, IsPathAt, IsWhole, OneBriefPathEnds, harmed, rounds_in}
 use Rattle.whole_paths.specs.Mild.{IsMildStart, LinkIsMild}
-use Rattle.whole_paths.specs.OnePathScripts.{AnEndDiedEarly, for_all_news, way_there_and_back}
+use Rattle.whole_paths.specs.OnePathScripts.{Allowance, AnEndDiedEarly, BeginsWithOnePath, EndsWithin, for_all_news}
 use Rattle.whole_paths.specs.OnlyPaths.{news_within}
-use Rattle.whole_paths.specs.OpeningCourses.{for_twice, opening_patience, DeliversWithin, IsOpenOrDone, IsOpeningStill, OpensWithin}
+use Rattle.whole_paths.specs.Opened.{opened_or_harmed}
+use Rattle.whole_paths.specs.OpeningCourses.{opening_allowance, opening_patience, with_opening, AwaitsAStep, DeliversWithin, IsOpenOrDone, OpensWithin}
 use Rattle.whole_paths.specs.OpeningWaits.{IsAliveAfter}
 use Rattle.whole_paths.specs.SentByTurns.{SentAtMost}
-use Rattle.whole_paths.proofs.Courses.{exchanges_end, harmed_append}
+use Rattle.whole_paths.proofs.Courses.{harmed_append, paid_exchanges_end}
 use Rattle.whole_paths.proofs.Delivery.{what_is_there_is_delivered}
 use Rattle.whole_paths.proofs.GoesOn.{goes_on_so}
 use Rattle.whole_paths.proofs.GoingOn.{path_at}
 use Rattle.whole_paths.proofs.Mild.{links_are_mild}
-use Rattle.whole_paths.proofs.NewsBounds.{news_is_bounded}
 use Rattle.whole_paths.proofs.OnePathScripts.{mild_scripts_begin_with_one_path, rounds_so}
-use Rattle.whole_paths.proofs.OnlyPaths.{only_paths_end, ways_short}
+use Rattle.whole_paths.proofs.OnlyPaths.{only_paths_end}
 use Rattle.whole_paths.proofs.OpenCourses.{IsFirstPath, each_first, lawful_parts}
 use Rattle.whole_paths.proofs.OpeningCourses.{exchanges}
 use Rattle.whole_paths.proofs.OverOctets.{as_far, ended}
@@ -54,12 +54,12 @@ dead_up x y dead up = by y (let high = dead_stage x dead in omega (arith, high, 
     by _ high = absurd (omega (arith, high))
 
 -- the path of a later moment
-record LaterPath (w v : WorldState Carried) (p : PathState Carried) : Type 0 where
-  path : PathState Carried
-  here : IsPathAt 0 v path
-  far : IsPathAsFar p path
+pub record LaterPath (w v : WorldState Carried) (p : PathState Carried) : Type 0 where
+  pub path : PathState Carried
+  pub here : IsPathAt 0 v path
+  pub far : IsPathAsFar p path
 
-later_path : (w : WorldState Carried) (more : List Turn) (p : PathState Carried) → IsPathAt 0 w p → LaterPath w (world_run values more w) p
+pub later_path : (w : WorldState Carried) (more : List Turn) (p : PathState Carried) → IsPathAt 0 w p → LaterPath w (world_run values more w) p
 later_path w more p here =
     let found = (goes_on_so values w more).crew 2 here.crew here.there in
     by found.0 found.1 found.0.member refl (subst (λ m. IsActorAsFar m found.0.member) here.is found.2.member)
@@ -143,64 +143,63 @@ module _ (start : Start) (plan : PathPlan) (one : start.paths ≡ plan ∷ []) (
 
 -- ---- it opens
 
-abbrev WaitsOf : Start → ℕ → ℕ → List Turn → Type 0
-WaitsOf start n x turns = IsOpeningStill start (60000 + way_there_and_back start.paths start.lines) n x turns
-
-pub opens_within : OpensWithin (for_all_news news_within)
+pub opens_within : OpensWithin opening_allowance
 opens_within start plan turns most begins lawful few low enough = ⊎_elim
-    (λ alive. inl (exchanges_end values start (IsAliveAfter start most) most (news_within start) (λ ts. IsOpenOrDone (reached values start ts)) (WaitsOf start)
-    (exchanges start plan most way (60000 + way) begins.one begins.mild (let least = begins.buffer in omega (arith, least)) (ways_short start plan begins) (le_refl (60000 + way)))
-    (λ ts. news_is_bounded start ts begins.mild.plain begins.mild.fit) [] turns lawful alive low enough))
+    (λ alive. inl (paid_exchanges_end values start (IsAliveAfter start most) most (61100 * (5 + most)) (λ ts. IsOpenOrDone (reached values start ts)) (λ n ts. n ≤ 61100 * opened_or_harmed start ts) (λ n x ts. AwaitsAStep start most n x ts)
+    (exchanges start plan most begins) [] turns (omega arith) lawful alive low enough))
     (λ died. inr died)
     (alive_or_died start plan begins.one begins.mild turns few)
-  where
-    way : ℕ
-    way = way_there_and_back start.paths start.lines
 
 -- ---- and delivers
 
-pub delivers_within : DeliversWithin (for_all_news news_within)
-delivers_within start plan turns most begins lawful few low enough =
-    subst Ends (sym parts.is) (by parts.first parts.rest (subst (λ ts. AreLawful values ts (opened_world start)) parts.is lawful) (subst (λ ts. length ts < 2 ^ 64 - 1) parts.is few)
-    (subst (λ ts. harmed values 0 ts (opened_world start) ≤ most) parts.is low) parts.last (let all = parts.all in omega (arith, enough, all, last_few)))
-  where
-    bound : ℕ
-    bound = for_all_news news_within start most
+-- after turns of which some open it, where those that are left deliver both files
+module _ (start : Start) (plan : PathPlan) (begins : BeginsWithOnePath start plan) (turns : List Turn) (lawful : AreLawful values turns (opened_world start)) (opened rest : ℕ)
+    (opens : (first more : List Turn) → first ++ more ≡ turns → AreLawful values first (opened_world start) → opened < 100 * rounds_in first → IsOpenOrDone (reached values start first) ⊎ AnEndDied 0 (reached values start first))
+    (ends : (first more : List Turn) → first ++ more ≡ turns → AreLawful values more (reached values start first) → IsWhole 0 (reached values start first) → rest + 300 < 100 * rounds_in more
+    → (outcome_of (reached values start (first ++ more)).crew ≡ Delivered) ⊎ AnEndDiedEarly values start (first ++ more))
+    (enough : opened + rest + 400 < 100 * rounds_in turns) where
+  abbrev last : ℕ
+  last = rest / 100 + 4
 
-    last : ℕ
-    last = bound / 100 + 4
+  last_few : 100 * last ≤ rest + 400
+  last_few = omega (arith, div-mul-le_self rest 100)
 
-    last_few : 100 * last ≤ bound + 400
-    last_few = omega (arith, div-mul-le_self bound 100)
+  last_enough : rest + 300 < 100 * last
+  last_enough = let high = lt-div-mul-add {a = rest} {b = 100} (omega arith) in omega (arith, high)
 
-    last_enough : bound + 300 < 100 * last
-    last_enough = let high = lt-div-mul-add {a = bound} {b = 100} (omega arith) in omega (arith, high)
+  abbrev Ends : List Turn → Type 0
+  Ends ts = (outcome_of (reached values start ts).crew ≡ Delivered) ⊎ AnEndDied 0 (reached values start ts)
 
-    Ends : List Turn → Type 0
-    Ends ts = (outcome_of (reached values start ts).crew ≡ Delivered) ⊎ AnEndDied 0 (reached values start ts)
+  parts : LastRounds last turns
+  parts = last_rounds last turns (omega (arith, enough, last_few))
 
-    parts : LastRounds last turns
-    parts = last_rounds last turns (omega (arith, enough, last_few))
+  at_last : (ts us : List Turn) → AnEndDied 0 (reached values start ts) → AnEndDied 0 (reached values start (ts ++ us))
+  at_last ts us died = subst (AnEndDied 0) (sym (run_append values ts us (opened_world start))) (died_stays (reached values start ts) us died)
 
-    by : (first rest : List Turn) → AreLawful values (first ++ rest) (opened_world start) → length (first ++ rest) < 2 ^ 64 - 1 → harmed values 0 (first ++ rest) (opened_world start) ≤ most
-        → rounds_in rest ≡ last → bound < 100 * rounds_in first → Ends (first ++ rest)
-    by first rest going short fewer rounds many = ⊎_elim opened (λ died. inr (at_last first rest died))
-        (opens_within start plan first most begins parts_lawful.0 (let sum = length-append first rest in omega (arith, short, sum))
-        (let harms = harmed_append values 0 first rest (opened_world start) in omega (arith, harms, fewer)) many)
-      where
-        parts_lawful : AreLawful values first (opened_world start) × AreLawful values rest (reached values start first)
-        parts_lawful = lawful_parts first rest (opened_world start) going
+  by : (first more : List Turn) → first ++ more ≡ turns → AreLawful values first (opened_world start) × AreLawful values more (reached values start first) → rounds_in more ≡ last → opened < 100 * rounds_in first → Ends (first ++ more)
+  by first more is going rounds many = ⊎_elim opened_so (λ died. inr (at_last first more died)) (opens first more is going.0 many)
+    where
+      early : AnEndDiedEarly values start (first ++ more) → Ends (first ++ more)
+      early h = inr (subst (λ ts. AnEndDied 0 (reached values start ts)) (sym h.is) (at_last h.first h.rest h.died))
 
-        at_last : (ts us : List Turn) → AnEndDied 0 (reached values start ts) → AnEndDied 0 (reached values start (ts ++ us))
-        at_last ts us died = subst (AnEndDied 0) (sym (run_append values ts us (opened_world start))) (died_stays (reached values start ts) us died)
+      opened_so : IsOpenOrDone (reached values start first) → Ends (first ++ more)
+      opened_so (inl whole) = ⊎_elim (λ delivered. inl delivered) early (ends first more is going.1 whole (let enough_now = last_enough in omega (arith, enough_now, rounds)))
+      opened_so (inr all) = inl (what_is_there_is_delivered start plan first more begins.one begins.mild all going.1 (omega (arith, rounds)))
 
-        early : AnEndDiedEarly values start (first ++ rest) → Ends (first ++ rest)
-        early h = inr (subst (λ ts. AnEndDied 0 (reached values start ts)) (sym h.is) (at_last h.first h.rest h.died))
+  pub delivers_from : Ends turns
+  delivers_from = subst Ends (sym parts.is) (by parts.first parts.rest (sym parts.is) (lawful_parts parts.first parts.rest (opened_world start) (subst (λ ts. AreLawful values ts (opened_world start)) parts.is lawful)) parts.last
+      (let all = parts.all in omega (arith, enough, all, last_few)))
 
-        opened : IsOpenOrDone (reached values start first) → Ends (first ++ rest)
-        opened (inl whole) = ⊎_elim (λ delivered. inl delivered) early
-            (only_paths_end start plan first rest most begins parts_lawful.1 short whole fewer (let enough_now = last_enough in omega (arith, enough_now, rounds)))
-        opened (inr all) = inl (what_is_there_is_delivered start plan first rest begins.one begins.mild all parts_lawful.1 (let some = rounds in omega (arith, some)))
+pub delivers_within : (rest : Allowance) → EndsWithin rest → DeliversWithin opening_allowance rest
+delivers_within rest ends start plan turns most begins lawful few low enough = delivers_from start plan begins turns lawful (opening_allowance start most) (rest start most)
+    (λ first more is going many. opens_within start plan first most begins going
+    (let sum = length-append first more in let all = ap length is in omega (arith, few, sum, all))
+    (let harms = harmed_append values 0 first more (opened_world start) in let all = ap (λ ts. harmed values 0 ts (opened_world start)) is in omega (arith, harms, all, low)) many)
+    (λ first more is going whole many. ends start plan first more most begins going (let all = ap length is in omega (arith, few, all)) whole (let all = ap (λ ts. harmed values 0 ts (opened_world start)) is in omega (arith, all, low)) many)
+    enough
+
+pub all_news_deliver : DeliversWithin opening_allowance (for_all_news news_within)
+all_news_deliver = delivers_within (for_all_news news_within) only_paths_end
 
 -- ---- by scripts
 
@@ -208,8 +207,8 @@ pub one_path_ends : OneBriefPathEnds values opening_patience
 one_path_ends script path file_a file_b turns mild brief lawful many =
     let start : Start = start_of script file_a file_b in
     let harms = harmed values 0 turns (opened_world start) in
-    let enough = rounds_so (for_twice (for_all_news news_within) start harms) (rounds_in turns) many in
-    delivers_within start (plan_of script 0 path) turns harms (mild_scripts_begin_with_one_path script path file_a file_b mild) lawful brief.few (le_refl harms) (omega (arith, enough))
+    let enough = rounds_so (with_opening (for_all_news news_within) start harms) (rounds_in turns) many in
+    all_news_deliver start (plan_of script 0 path) turns harms (mild_scripts_begin_with_one_path script path file_a file_b mild) lawful brief.few (le_refl harms) (omega (arith, enough))
 
 pub one_path_ends_in_octets : OneBriefPathEnds octets opening_patience
 one_path_ends_in_octets script path file_a file_b turns mild brief lawful many =

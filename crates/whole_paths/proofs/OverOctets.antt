@@ -41,10 +41,11 @@ use Rattle.world_laws.proofs.Promises.OverOctets.{same_notes_of}
 use Rattle.world_laws.proofs.Worlds.Carrying.{run_same}
 use Rattle.whole_paths.specs.Delivery.{AllIsThere}
 use Rattle.whole_paths.specs.Finish.{AnEndDied, FewLossesEndNoneWhere, FewLossesFinishWhere, IsBrief, IsMild, IsPathAt, IsWhole, Patience, WholePathsDeliverWhere, harmed, harms_between, harms_of, is_harmed, rounds_in}
+use Rattle.whole_paths.specs.Mild.{IsMildStart}
 use Rattle.whole_paths.specs.News.{news, path_news, side_news}
-use Rattle.whole_paths.specs.OnePathScripts.{AnEndDiedEarly, EndsAsItBegins, rounds_within}
+use Rattle.whole_paths.specs.OnePathScripts.{AnEndDiedEarly, EndsAsItBegins, EndsAsItBeginsBy, harms_alone}
 use Rattle.whole_paths.specs.OverOctets.{FewLossesFinishAsOverValues, IsAsFarAsOverValues, OctetsAreAsFarAsValues, OnePathEndsAsOverValues, BriefPathsDeliverAsOverValues, WholePathsDeliverAsOverValues}
-use Rattle.whole_paths.proofs.OnePathScripts.{ends_as_it_begins, mild_scripts_begin_with_one_path}
+use Rattle.whole_paths.proofs.OnePathScripts.{ends_always, ends_as_it_begins_by, mild_scripts_begin_with_one_path}
 
 -- ---- lawful turns
 
@@ -68,7 +69,7 @@ lawful_turn (Turn.Step actor) w = (λ is. sym (same_going actor w) ∙ is, λ is
 lawful_turn Turn.Round w = (λ is. sym (same_all_over w.crew) ∙ is, λ is. same_all_over w.crew ∙ is)
 
 -- one turn, shown
-shown_turn : (turn : Turn) (turns : List Turn) (w : WorldState Carried) → AreFresh (turn ∷ turns) w → after_turn octets turn (shown_world w) ≡ shown_world (after_turn values turn w)
+pub shown_turn : (turn : Turn) (turns : List Turn) (w : WorldState Carried) → AreFresh (turn ∷ turns) w → after_turn octets turn (shown_world w) ≡ shown_world (after_turn values turn w)
 shown_turn turn turns w fresh = run_same (turn ∷ []) w (fresh.0, tt)
 
 lawful_shown : (turns : List Turn) (w : WorldState Carried) → AreFresh turns w → AreLawful octets turns (shown_world w) ↔ AreLawful values turns w
@@ -318,10 +319,17 @@ module _ (script : Script) (path : PathLine) (file_a file_b : List ℕ) (turns :
   ended_on (inl delivered) = inl ((as_far script path file_a file_b mild turns).outcome ∙ delivered)
   ended_on (inr early) = inr (early_on early)
 
-pub ends_as_it_begins_in_octets : EndsAsItBegins octets
-ends_as_it_begins_in_octets bound ends script path file_a file_b before more mild also lawful first many =
+pub ends_as_it_begins_by_in_octets : EndsAsItBeginsBy octets
+ends_as_it_begins_by_in_octets Also count counted bound same ends script path file_a file_b before more mild also brief lawful first many =
     let whole = as_far script path file_a file_b mild (before ++ Turn.Round ∷ more) in
     let begun = as_far script path file_a file_b mild (before ++ Turn.Round ∷ []) in
     ended_on script path file_a file_b (before ++ Turn.Round ∷ more) mild
-    (ends_as_it_begins bound ends script path file_a file_b before more mild also (whole.lawful.0 lawful) ((begun.whole 0).0 first)
-    (subst (λ n. rounds_within bound script path file_a file_b n ≤ rounds_in more) (whole.harms 0) many))
+    (ends_as_it_begins_by Also count counted bound same ends script path file_a file_b before more mild also brief (whole.lawful.0 lawful) ((begun.whole 0).0 first) many)
+
+-- as many segments are harmed over octets
+pub harms_as_over_values : (start : Start) → IsMildStart start → (turns : List Turn) → harms_alone octets start turns ≡ harms_alone values start turns
+harms_as_over_values start mild turns = (octets_are_as_far_as_values start turns mild.plain.size mild.fit).harms 0
+
+pub ends_as_it_begins_in_octets : EndsAsItBegins octets
+ends_as_it_begins_in_octets bound ends script path file_a file_b before more mild =
+    ends_as_it_begins_by_in_octets (λ start plan. Unit {0}) (harms_alone values) (harms_alone octets) bound harms_as_over_values (ends_always bound ends) script path file_a file_b before more mild tt

@@ -65,9 +65,9 @@ use Rattle.whole_paths.specs.AgendaSteps.{is_gone}
 use Rattle.whole_paths.specs.Answered.{CopiesAreAnswered, HasAnswered, IsDone}
 use Rattle.whole_paths.specs.Answered.{IsDone as idle_by}
 use Rattle.whole_paths.specs.AsFar.{stage}
-use Rattle.whole_paths.specs.Copies.{IsUnderWay, GoesOnItsWay, CopiesGoOn}
+use Rattle.whole_paths.specs.Copies.{IsUnderWay, GoesOnItsWay, CopiesGoOn, CopiesAreNumbered, LinksAreNumbered}
 use Rattle.whole_paths.specs.Copies.{GoesOnItsWay as copy}
-use Rattle.whole_paths.specs.Harms.{harms_left, as_it_arrives, longest_way, IsOnTime}
+use Rattle.whole_paths.specs.Mending.{IsSentSoon}
 use Rattle.whole_paths.specs.Owed.{Covers, IsAnswer, IsAnswered, IsAnsweredSo, AnswerComesSo, AnswerGoesOn, AnswersGoOn, IsToRefuse, WhatIsOwedComes}
 use Rattle.whole_paths.specs.Owed.IsAnswered.{owes, flies}
 use Rattle.whole_paths.specs.Owed.{AnswerGoesOn as goes}
@@ -77,12 +77,12 @@ use Rattle.whole_paths.proofs.Agendas.{own_end}
 use Rattle.whole_paths.proofs.Copies.{copies_leave}
 use Rattle.whole_paths.proofs.Duties.{passed_steps, answered_steps}
 use Rattle.whole_paths.proofs.Flying.{Frames, FramesStay, frames_stay}
-use Rattle.whole_paths.proofs.Links.{each_uses_a_line_or_comes}
 use Rattle.whole_paths.proofs.Moving.{item_tcp}
 use Rattle.whole_paths.proofs.InTime.{is_event}
 use Rattle.whole_paths.proofs.Pieces.{own_only}
 use Rattle.whole_paths.proofs.Saying.{AllSpeak, Speaks, ToSend, duty_speaks, each_segment_says_what_came, resets_by}
 use Rattle.whole_paths.proofs.Saying.{Speaks as spoken}
+use Rattle.whole_paths.proofs.SentSoon.{segments_come_soon}
 use Rattle.whole_paths.proofs.Settling.{sides}
 use Rattle.whole_paths.proofs.Turns.{turn_each}
 use Rattle.whole_paths.proofs.Waiting.{Far, same_far, far_then, gone_stays, path_far}
@@ -310,7 +310,7 @@ module _ {C : Type 0} where
 
   -- ---- one turn of a path
 
-  module _ (k : Codec C) (s : Side) (position by_then : ℕ) (p q : PathState C) (turned : Turned p q) (frames : Frames p q) (Was : PlainSegment → Type 0)
+  module _ (k : Codec C) (s : Side) (position by_then : ℕ) (p q : PathState C) (turned : Turned p q) (frames : Frames p q) (numbered : CopiesAreNumbered p) (Was : PlainSegment → Type 0)
       (was : (t : ToSend) → first_sends p.agenda p ≡ Some t → t.from ≡ s → (end_at s p).tcp.due.ack ≡ true → (segment_sent p t).rst ≡ false → Was (segment_sent p t)) where
     abbrev Next : Type 0
     Next = (go : AnswerGoesOn k s position by_then p q) × AnswerComesSo Was go
@@ -318,39 +318,26 @@ module _ {C : Type 0} where
     same_on : q ≡ p → (h : IsAnswered k s position by_then p) → IsAnsweredSo Was h → Next
     same_on same h so = let there = subst (λ v. (w : IsAnswered k s position by_then v) × IsAnsweredSo Was w) (sym same) (h, so) in (goes.on there.0, there.1)
 
-    flown : (x : PlainSegment) → Covers position x → Was x → q.link ≡ handed k s x p → p.clock + longest_way s p.link ≤ by_then → segments_sent s p.link < 2 ^ 64 - 1 → Next
-    flown x covers so taken low few = ⊎_elim
-        (λ less. (goes.harmed (subst (λ (l : LinkState C). harms_left l < harms_left p.link) (sym taken) less), tt))
-        (λ comes. ⊎_elim (λ lost. (goes.lost x covers taken lost, tt)) by comes.1)
-        (each_uses_a_line_or_comes (k.strips p.profile.spelling) (k.alters p.profile.spelling) s (k.makes p.profile.spelling s x) size p.clock p.link few)
+    flown : (x : PlainSegment) → Covers position x → Was x → q.link ≡ handed k s x p → p.clock + 400 ≤ by_then → segments_sent s p.link < 2 ^ 64 - 1 → Next
+    flown x covers so taken low few = ⊎_elim (λ harmed. (goes.harmed harmed, tt)) by (segments_come_soon k p q numbered s x few taken)
       where
-        size : ℕ
-        size = length (made p.profile.spelling s x)
-
-        after : LinkState C
-        after = handed k s x p
-
-        by : Has (IsOnTime s size p.clock (as_it_arrives (k.strips p.profile.spelling) (k.alters p.profile.spelling) s (k.makes p.profile.spelling s x) p.clock p.link) p.link) after.under_way → Next
-        by has = (
-          goes.on (flies has.item (let in_time = has.holds.in_time in omega (arith, in_time, low))
-              (subst (λ (l : LinkState C). Has (λ g. g ≡ has.item) l.under_way) (sym taken) (record { at = has.at; item = has.item; there = has.there; holds = refl }))
-              (record {
-                to = has.holds.to;
-                segment = x;
-                covers = covers;
-                stripped = is_stripped s (next_number s p.link) p.clock p.link.lines;
-                altered = is_altered s (next_number s p.link) p.link.lines;
-                whole = λ strips. (subst StripsNothing frames.lines strips).strips s (next_number s p.link) p.clock;
-                plain = λ alters. (subst AltersNothing frames.lines alters).alters s (next_number s p.link);
-                carried = subst (λ (c : Profile). has.item.carried
-                    ≡ changed (k.strips c.spelling s) (k.alters c.spelling s) (is_stripped s (next_number s p.link) p.clock p.link.lines) (is_altered s (next_number s p.link) p.link.lines)
-                    (k.makes c.spelling s x)) (sym frames.profile) has.holds.carried;
-              })),
+        by : IsSentSoon k s x p q → Next
+        by c = (
+          goes.on (flies c.copy (let soon = c.soon in omega (arith, soon, low)) c.there (record {
+            to = c.to;
+            segment = x;
+            covers = covers;
+            stripped = c.stripped;
+            altered = c.altered;
+            whole = λ strips. c.whole (subst StripsNothing frames.lines strips);
+            plain = λ alters. c.plain (subst AltersNothing frames.lines alters);
+            carried = subst (λ (y : Profile). c.copy.carried ≡ changed (k.strips y.spelling s) (k.alters y.spelling s) c.stripped c.altered (k.makes y.spelling s x)) (sym frames.profile) c.carried;
+          })),
           so,
         )
 
     -- the segment that it sends says what came
-    says_so : (x : PlainSegment) → Speaks (end_at s p) x → (x.rst ≡ false → Was x) → q.link ≡ handed k s x p → p.clock + longest_way s p.link ≤ by_then → 2 ≤ stage (end_at s p).tcp.state
+    says_so : (x : PlainSegment) → Speaks (end_at s p) x → (x.rst ≡ false → Was x) → q.link ≡ handed k s x p → p.clock + 400 ≤ by_then → 2 ≤ stage (end_at s p).tcp.state
         → position ≤ (end_at s p).tcp.recv.edge → segments_sent s p.link < 2 ^ 64 - 1 → Next
     says_so x (spoken.acks is rst) so taken low high came few = flown x (record { up_to = (end_at s p).tcp.recv.edge; acknowledged = is; enough = came; rst = rst }) (so rst) taken low few
     says_so x (spoken.syns state none) so taken low high came few = absurd (past_opening (end_at s p).tcp.state high state)
@@ -364,12 +351,12 @@ module _ {C : Type 0} where
         by true may = (goes.resets (refusing d s others p.agenda on may side first), tt)
         by false none = then_goes (subst (λ u. Speaks (end_at u p) (segment_sent p t)) own (subst (λ (o : Option ToSend). AllSpeak o p) (sym (ap (λ ds. first_sends ds p) first) ∙ sends) (duty_speaks d p none)))
 
-    owes_goes : StillOwed s p q → HandsOver k p q → HasAnswered p → p.clock + longest_way s p.link ≤ by_then → 2 ≤ stage (end_at s p).tcp.state → position ≤ (end_at s p).tcp.recv.edge
+    owes_goes : StillOwed s p q → HandsOver k p q → HasAnswered p → p.clock + 400 ≤ by_then → 2 ≤ stage (end_at s p).tcp.state → position ≤ (end_at s p).tcp.recv.edge
         → (end_at s p).tcp.due.ack ≡ true → segments_sent s p.link < 2 ^ 64 - 1 → Next
     owes_goes (keeps d others first other h) hands answered low high came due few =
-        let clock = frames.stands d others first other in let way = frames.way s in
+        let clock = frames.stands d others first other in
         let up = (turned.far s).subflow.state in let edge = (turned.far s).subflow.received in
-        (goes.on (owes (omega (arith, clock, way, low)) (omega (arith, high, up)) (omega (arith, came, edge)) (h due)), tt)
+        (goes.on (owes (omega (arith, clock, low)) (omega (arith, high, up)) (omega (arith, came, edge)) (h due)), tt)
     owes_goes (has_died gone) hands answered low high came due few = (goes.gone gone, tt)
     owes_goes (is_sent d others first on side t sends own) hands answered low high came due few = ⊎_elim
         (λ same. same_on same (owes low high came due) tt)
@@ -433,11 +420,12 @@ module _ {C : Type 0} where
   AnswersComeSo Was k (App a) (App b) = Unit {0}
   AnswersComeSo Was k _ _ = ⊥
 
-  answers_come : (Was : PlainSegment → Type 0) (k : Codec C) (m n : Actor C) → TurnedTo m n → FramesStay m n → PathsHandOver k m n → CopiesGoOn m n → HoldsOfKind (λ app. Unit {0}) HasAnswered m → AnswersComeSo Was k m n
-  answers_come Was k (App a) (App b) turned frames hands copies answered = tt
-  answers_come Was k (Path p) (Path q) turned frames hands copies answered = λ s position by_then few was h so. goes_by k s position by_then p q turned frames Was was hands copies answered few h so
-  answers_come Was k (App a) (Path q) turned frames hands copies answered = absurd turned
-  answers_come Was k (Path p) (App b) turned frames hands copies answered = absurd turned
+  answers_come : (Was : PlainSegment → Type 0) (k : Codec C) (m n : Actor C) → TurnedTo m n → FramesStay m n → PathsHandOver k m n → CopiesGoOn m n → HoldsOfKind (λ app. Unit {0}) HasAnswered m
+      → HoldsOfKind (λ app. Unit {0}) (λ (p : PathState C). CopiesAreNumbered p) m → AnswersComeSo Was k m n
+  answers_come Was k (App a) (App b) turned frames hands copies answered numbered = tt
+  answers_come Was k (Path p) (Path q) turned frames hands copies answered numbered = λ s position by_then few was h so. goes_by k s position by_then p q turned frames numbered Was was hands copies answered few h so
+  answers_come Was k (App a) (Path q) turned frames hands copies answered numbered = absurd turned
+  answers_come Was k (Path p) (App b) turned frames hands copies answered numbered = absurd turned
 
   -- whatever the segments are
   any_answer : {s : Side} {position n : ℕ} {p : PathState C} (k : Codec C) (h : IsAnswered k s position n p) → IsAnsweredSo (λ x. Unit {0}) h
@@ -455,9 +443,9 @@ module _ {C : Type 0} where
   turned_to k w turn = turn_each k (λ x y. TurnedTo x.member y.member) (λ x. member_stays x.member) (λ ask books x. member_turned k (answer_to books ask) x.member)
       (λ stamp x over. member_begins x.member over) turn w
 
-  pub answers_come_so : (Was : PlainSegment → Type 0) (k : Codec C) (w : WorldState C) → CopiesAreAnswered w → (turn : Turn) (actor : ℕ) (c : ActorCrew C) → slice_get w.crew actor ≡ Some c
+  pub answers_come_so : (Was : PlainSegment → Type 0) (k : Codec C) (w : WorldState C) → CopiesAreAnswered w → LinksAreNumbered w → (turn : Turn) (actor : ℕ) (c : ActorCrew C) → slice_get w.crew actor ≡ Some c
       → (d : ActorCrew C) × (slice_get (after_turn k turn w).crew actor ≡ Some d) × AnswersComeSo Was k c.member d.member
-  answers_come_so Was k w answered turn actor c there =
+  answers_come_so Was k w answered numbered turn actor c there =
       let turned = turned_to k w turn actor c there in
       let d : ActorCrew C = turned.0 in
       let frames = frames_stay k w turn actor c there in
@@ -469,8 +457,9 @@ module _ {C : Type 0} where
             (subst (λ (x : ActorCrew C). FramesStay c.member x.member) (same_Some frames.0 d (sym frames.1 ∙ turned.1)) frames.2)
             (subst (λ (x : ActorCrew C). PathsHandOver k c.member x.member) (same_Some hands.0 d (sym hands.1 ∙ turned.1)) hands.2)
             (subst (λ (x : ActorCrew C). CopiesGoOn c.member x.member) (same_Some copies.0 d (sym copies.1 ∙ turned.1)) copies.2)
-            (answered.each actor c there),
+            (answered.each actor c there)
+            (numbered.each actor c there),
       )
 
   pub what_is_owed_comes : (k : Codec C) → WhatIsOwedComes k
-  what_is_owed_comes k w answered turn actor c there = let go = answers_come_so (λ x. Unit {0}) k w answered turn actor c there in (go.0, go.1, whatever_goes k c.member go.0.member go.2)
+  what_is_owed_comes k w answered numbered turn actor c there = let go = answers_come_so (λ x. Unit {0}) k w answered numbered turn actor c there in (go.0, go.1, whatever_goes k c.member go.0.member go.2)

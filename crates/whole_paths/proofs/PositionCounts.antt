@@ -1,5 +1,5 @@
 -- Positions of the only path count bytes, by the lanes: as nobody joins, each byte of the path's record stands at its own place.
-use Rattle.std.proofs.Common.{◌≡◌, refl, sym, subst, ap, ◌∙◌, ◌⊎◌, inl, inr, ℕ, zero, suc, ◌+◌, ◌<◌, ◌≤◌, arith, Bool, true, false, not, cond, Option, Some, IfSome, List, [], ◌∷◌, length}
+use Rattle.std.proofs.Common.{◌≡◌, refl, sym, subst, ap, ◌∙◌, ◌⊎◌, inl, inr, ℕ, zero, suc, ◌+◌, ◌<◌, ◌≤◌, arith, Bool, true, false, true≢false, not, cond, Option, Some, IfSome, List, [], ◌∷◌, length}
 use Rattle.std.specs.List.{slice_get}
 use Rattle.std.proofs.lemmas.Option.{same_Some, slice_get_within}
 use Rattle.sides.specs.declared.side.Side.{Side}
@@ -12,7 +12,7 @@ use Rattle.subflow_recv.specs.Receiving.{Receiving}
 use Rattle.stream_lanes.specs.Duo.{Duo, after_events}
 use Rattle.stream_lanes.specs.Holding.{Holds, LaneHolds}
 use Rattle.stream_lanes.specs.Lane.{Lane}
-use Rattle.stream_lanes.specs.Marks.{AreNew}
+use Rattle.stream_lanes.specs.Marks.{AreNew, spent}
 use Rattle.stream_lanes.specs.View.{View}
 use Rattle.stream_lanes.proofs.Duos.{any_held}
 use Rattle.stream_lanes.proofs.MarkLists.{untouched_unspent}
@@ -57,6 +57,19 @@ taken_most (suc n) (m ∷ marks) new = by (is_free_for 0 m) (taken_most n marks 
     by true rest = omega arith
     by false rest = omega (arith, rest)
 
+-- bytes that are spent are taken
+pub spent_taken : (n : ℕ) (marks : List ByteMark) → ((place : ℕ) → place < n → spent 0 (slice_get marks place) ≡ true) → n ≤ taken_len 0 marks
+spent_taken zero marks all = omega arith
+spent_taken (suc n) [] all = absurd (true≢false (sym (all 0 (omega arith))))
+spent_taken (suc n) (m ∷ marks) all =
+    let rest = spent_taken n marks (λ place low. all (suc place) (omega (arith, low))) in
+    subst (λ b. suc n ≤ cond (not b) (1 + taken_len 0 marks) 0) (sym (by m (all 0 (omega arith)))) (omega (arith, rest))
+  where
+    by : (m : ByteMark) → spent 0 (Some m) ≡ true → is_free_for 0 m ≡ false
+    by Acked is = refl
+    by (Held holder among) is = refl
+    by (Free among) is = ap not is
+
 -- an item before a list's end
 item_at : {X : Type 0} (xs : List X) (n : ℕ) → n < length xs → (x : X) × (slice_get xs n ≡ Some x)
 item_at [] n low = absurd (omega (arith, low))
@@ -64,6 +77,16 @@ item_at (x ∷ xs) zero low = (x, refl)
 item_at (x ∷ xs) (suc n) low = item_at xs n (omega (arith, low))
 
 -- ---- a lane
+
+-- behind all that the lane took each byte is free
+free_behind : (v : View) (lane : Lane) → LaneHolds v 0 lane → v.alone ≡ true → (place : ℕ) (mark : ByteMark) → taken_len 0 v.marks ≤ place → slice_get v.marks place ≡ Some mark → is_free_for 0 mark ≡ true
+free_behind v lane holds alone place mark behind there =
+    let taken = spent_taken (length lane.sent) v.marks each_spent in is_free mark ((holds.alone alone).untouched refl place mark (omega (arith, taken, behind)) there)
+  where
+    each_spent : (n : ℕ) → n < length lane.sent → spent 0 (slice_get v.marks n) ≡ true
+    each_spent n low =
+        let found = item_at lane.sent n low in
+        subst (λ m. spent 0 (slice_get v.marks m) ≡ true) ((holds.alone alone).identity.each n n found.0 (omega arith) found.1) (holds.record_of.cells.each n found.0 found.1).spent
 
 module _ (v : View) (lane : Lane) (holds : LaneHolds v 0 lane) (alone : v.alone ≡ true) (finished : Bool) (nxt heard : ℕ) (granted : List GrantedPiece)
     (shows : SentShows finished nxt heard granted lane.sent lane.fins lane.pair) where
@@ -145,6 +168,8 @@ module _ (start : Start) (plan : PathPlan) (one : start.paths ≡ plan ∷ []) (
             most = sent_most _ x.ab lane (ap not none) _ _ _ _ sent;
             came = came_before _ x.ab lane (ap not none) _ _ _ _ sent p.b.tcp.recv p.b.tcp.fin_at x.shows.b.receiver.fin x.shows.b.receiver.edge (omega (arith, low, within));
             exact = came_exactly _ x.ab lane (ap not none) _ _ _ _ sent p.b.tcp.recv p.b.tcp.fin_at x.shows.b.receiver.fin x.shows.b.receiver.edge (omega (arith, low, within));
+            marked = holds.ab.send.whole;
+            free = free_behind _ x.ab lane (ap not none);
           }
       by x B =
           let lane = holds.ba.lanes.each 0 0 x.ba (omega arith) x.ba_there in
@@ -157,6 +182,8 @@ module _ (start : Start) (plan : PathPlan) (one : start.paths ≡ plan ∷ []) (
             most = sent_most _ x.ba lane (ap not none) _ _ _ _ sent;
             came = came_before _ x.ba lane (ap not none) _ _ _ _ sent p.a.tcp.recv p.a.tcp.fin_at x.shows.a.receiver.fin x.shows.a.receiver.edge (omega (arith, low, within));
             exact = came_exactly _ x.ba lane (ap not none) _ _ _ _ sent p.a.tcp.recv p.a.tcp.fin_at x.shows.a.receiver.fin x.shows.a.receiver.edge (omega (arith, low, within));
+            marked = holds.ba.send.whole;
+            free = free_behind _ x.ba lane (ap not none);
           }
 
   counts : PositionsCountBytes w

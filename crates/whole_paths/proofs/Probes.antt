@@ -50,7 +50,7 @@ use Rattle.whole_paths.proofs.WindowsHeard.{each_window_counts}
 -- ---- what the peer says
 
 -- the octets tell a window in steps of 32
-in_steps : (at next window : ℕ) → at + 31 ≤ next + window → at ≤ next + 32 * (window / 32)
+pub in_steps : (at next window : ℕ) → at + 31 ≤ next + window → at ≤ next + 32 * (window / 32)
 in_steps at next window low = (let near : window ≤ 32 * (window / 32) + 31 = omega arith in omega (arith, low, near))
 
 -- what goes from an end while it owes an acknowledgement

@@ -44,7 +44,7 @@ use Rattle.whole_paths.proofs.OnePath.{Spends, reached_at, what_was_written_is_s
 use Rattle.whole_paths.proofs.OnlyBooks.{AreSpent}
 use Rattle.whole_paths.proofs.OpenPieces.{EndsAgreeWith, ends_agree}
 use Rattle.whole_paths.proofs.OpenCourses.{IsFirstPath, each_first}
-use Rattle.whole_paths.proofs.PositionCounts.{positions_count_bytes}
+use Rattle.whole_paths.proofs.PositionCounts.{positions_count_bytes, spent_taken}
 use Rattle.whole_paths.proofs.Room.{who_is_done_may_ask}
 use Rattle.whole_paths.proofs.SentInOrder.{records_are_sent_in_order}
 use Rattle.whole_paths.proofs.Standing.{never_on_standby}
@@ -54,7 +54,7 @@ use Rattle.whole_paths.proofs.Unstopped.{mild_paths_are_never_stopped}
 -- ---- lists
 
 -- where no record is to be sent all is sent
-all_sent : (nxt : ℕ) (rs : List Record) → find is_unsent rs ≡ None → sent_before nxt rs ≡ nxt
+pub all_sent : (nxt : ℕ) (rs : List Record) → find is_unsent rs ≡ None → sent_before nxt rs ≡ nxt
 all_sent nxt [] none = refl
 all_sent nxt (r ∷ rs) none = by (is_unsent r) none (all_sent nxt rs)
   where
@@ -62,46 +62,34 @@ all_sent nxt (r ∷ rs) none = by (is_unsent r) none (all_sent nxt rs)
     by true none rest = cc
     by false none rest = rest none
 
--- bytes that are spent are taken
-spent_taken : (n : ℕ) (marks : List ByteMark) → ((place : ℕ) → place < n → spent 0 (slice_get marks place) ≡ true) → n ≤ taken_len 0 marks
-spent_taken zero marks all = omega arith
-spent_taken (suc n) [] all = absurd (true≢false (sym (all 0 (omega arith))))
-spent_taken (suc n) (m ∷ marks) all =
-    let rest = spent_taken n marks (λ place low. all (suc place) (omega (arith, low))) in
-    subst (λ b. suc n ≤ cond (not b) (1 + taken_len 0 marks) 0) (sym (by m (all 0 (omega arith)))) (omega (arith, rest))
-  where
-    by : (m : ByteMark) → spent 0 (Some m) ≡ true → is_free_for 0 m ≡ false
-    by Acked is = refl
-    by (Held holder among) is = refl
-    by (Free among) is = ap not is
-
 -- ---- an end
 
 -- what is known of an open end as the turn is over
-record Known (c : Profile) (s : Side) (e : PathEnd) (taken : ℕ) : Type 0 where
+pub record Known (c : Profile) (s : Side) (e : PathEnd) (taken : ℕ) : Type 0 where
   may : may_finish e.tcp.state ≡ true
   clear : e.modes.clear ≡ true
-  small : 29 ≤ c.mss
-  window : c.mss ≤ e.tcp.congestion.reno.window
-  fits : SendFits (payload_size c) e.tcp.state e.tcp.send
-  waits : (r : Record) → first_unsent e ≡ Some r → room e.tcp < length r.piece
-  first : (r : Record) (others : List Record) → e.tcp.send.records ≡ r ∷ others → e.tcp.send.una < end_of r
+  pub small : 29 ≤ c.mss
+  pub window : c.mss ≤ e.tcp.congestion.reno.window
+  pub fits : SendFits (payload_size c) e.tcp.state e.tcp.send
+  pub waits : (r : Record) → first_unsent e ≡ Some r → room e.tcp < length r.piece
+  pub first : (r : Record) (others : List Record) → e.tcp.send.records ≡ r ∷ others → e.tcp.send.una < end_of r
   order : SendsInOrder e.tcp.send
   next : e.tcp.send.nxt < 2 ^ 61
   edge : e.tcp.recv.edge < 2 ^ 61
   took : taken < e.tcp.send.nxt
 
-module _ (c : Profile) (s : Side) (e : PathEnd) (taken : ℕ) (h : Known c s e taken) (was : Sending) where
+module _ (c : Profile) (s : Side) (e : PathEnd) (taken : ℕ) (h : Known c s e taken) where
   -- no more is under way than was sent from SND.UNA on
-  under_way : flight e.tcp.send ≤ sent_up_to e.tcp.send - e.tcp.send.una
+  pub under_way : flight e.tcp.send ≤ sent_up_to e.tcp.send - e.tcp.send.una
   under_way = by e.tcp.send.records refl
     where
       by : (rs : List Record) → e.tcp.send.records ≡ rs → flight e.tcp.send ≤ sent_up_to e.tcp.send - e.tcp.send.una
       by [] is = (let none : flight e.tcp.send ≡ 0 = ap (λ (rs : List Record). sum_by (octets_under_way e.tcp.send.una) rs) is in omega (arith, none))
       by (r ∷ others) is = h.order.under_way r others is (h.first r others is)
 
+module _ (c : Profile) (s : Side) (e : PathEnd) (taken : ℕ) (h : Known c s e taken) (was : Sending) where
   too_little : room e.tcp < payload_size c → IsPushed c e was
-  too_little less = IsPushed.full (let small = h.small in let window = h.window in omega (arith, less, small, window, under_way))
+  too_little less = IsPushed.full (let small = h.small in let window = h.window in let flown = under_way c s e taken h in omega (arith, less, small, window, flown))
 
   asks : payload_size c ≤ room e.tcp → may_ask c s e ≡ true
   asks enough =
@@ -124,6 +112,36 @@ module _ (c : Profile) (s : Side) (e : PathEnd) (taken : ℕ) (h : Known c s e t
           (λ enough. IsPushed.all (let low = takes (asks enough) in let all = all_sent e.tcp.send.nxt e.tcp.send.records is in let took = h.took in omega (arith, low, all, took)))
           (cases_lt (room e.tcp) (payload_size c))
 
+-- ---- a moment of path 0
+
+module _ (start : Start) (plan : PathPlan) (turns : List Turn) (one : start.paths ≡ plan ∷ []) (mild : IsMildStart start) (c : ActorCrew Carried)
+    (found : slice_get (world_run values turns (opened_world start)).crew 2 ≡ Some c) (p : PathState Carried) (is : c.member ≡ Path p) where
+  of : (P : PathState Carried → Type 0) → HoldsOfKind (λ app. Unit {0}) P c.member → P p
+  of P h = subst (HoldsOfKind (λ app. Unit {0}) P) is h
+
+  counts : (s : Side) → CountsBytes (world_run values turns (opened_world start)) p s
+  counts = of (λ q. (s : Side) → CountsBytes (world_run values turns (opened_world start)) q s) ((positions_count_bytes start turns plan one mild).each 2 c found)
+
+  pub known : (s : Side) → IsOpen p → p.agenda ≡ [] → may_finish (end_at s p).tcp.state ≡ true → Known p.profile s (end_at s p) (taken_len 0 (written_by s (world_run values turns (opened_world start))).marks)
+  known s opened over may =
+      let shown : Shown p = of Shown (each_shown start turns mild.plain.size mild.fit 2 c found) in
+      let next = (shown.tells s).sender.next in
+      let edge = (shown.tells s).edge in
+      let unfinished = (of (IsFirstPath start) (each_first start turns mild.plain.size c found)).may s may in
+      record {
+        may = may;
+        clear = opened.clear s;
+        small = (of (EndsAgreeWith (world_run values turns (opened_world start))) (ends_agree start turns mild.plain.size 2 c found)).room;
+        window = (of HasWindows (who_is_done_may_ask start turns mild.plain.size mild.fit 2 c found)).least s;
+        fits = fits_at s p (subst MemberFits is ((fit_always values start turns).each 2 c found));
+        waits = of WaitsForRoom ((what_is_unsent_waits_for_room values start turns).each 2 c found) over s may;
+        first = λ r others records. (of HasDataLeft (what_is_left_is_data start turns mild.plain.size mild.fit c found) s (opened.past s) (opened.living s) (inl unfinished) r others records).left;
+        order = of (λ q. (t : Side) → SendsInOrder (end_at t q).tcp.send) ((records_are_sent_in_order values start turns).each 2 c found) s;
+        next = omega (arith, next);
+        edge = omega (arith, edge);
+        took = (counts s).taken;
+      }
+
 -- ---- the law
 
 module _ (start : Start) (plan : PathPlan) (begun : WorldState Carried) (order : List ℕ) (one : start.paths ≡ plan ∷ []) (mild : IsMildStart start) (begins : BeginsRound values start begun) where
@@ -142,32 +160,6 @@ module _ (start : Start) (plan : PathPlan) (begun : WorldState Carried) (order :
     found : slice_get (world_run values turns (opened_world start)).crew 2 ≡ Some c
     found = subst (λ (v : WorldState Carried). slice_get v.crew 2 ≡ Some c) now there
 
-    of : (P : PathState Carried → Type 0) → HoldsOfKind (λ app. Unit {0}) P c.member → P p
-    of P h = subst (HoldsOfKind (λ app. Unit {0}) P) is h
-
-    counts : (s : Side) → CountsBytes (world_run values turns (opened_world start)) p s
-    counts = of (λ q. (s : Side) → CountsBytes (world_run values turns (opened_world start)) q s) ((positions_count_bytes start turns plan one mild).each 2 c found)
-
-    known : (s : Side) → IsOpen p → p.agenda ≡ [] → may_finish (end_at s p).tcp.state ≡ true → Known p.profile s (end_at s p) (taken_len 0 (written_by s (world_run values turns (opened_world start))).marks)
-    known s opened over may =
-        let shown : Shown p = of Shown (each_shown start turns mild.plain.size mild.fit 2 c found) in
-        let next = (shown.tells s).sender.next in
-        let edge = (shown.tells s).edge in
-        let unfinished = (of (IsFirstPath start) (each_first start turns mild.plain.size c found)).may s may in
-        record {
-          may = may;
-          clear = opened.clear s;
-          small = (of (EndsAgreeWith (world_run values turns (opened_world start))) (ends_agree start turns mild.plain.size 2 c found)).room;
-          window = (of HasWindows (who_is_done_may_ask start turns mild.plain.size mild.fit 2 c found)).least s;
-          fits = fits_at s p (subst MemberFits is ((fit_always values start turns).each 2 c found));
-          waits = of WaitsForRoom ((what_is_unsent_waits_for_room values start turns).each 2 c found) over s may;
-          first = λ r others records. (of HasDataLeft (what_is_left_is_data start turns mild.plain.size mild.fit c found) s (opened.past s) (opened.living s) (inl unfinished) r others records).left;
-          order = of (λ q. (t : Side) → SendsInOrder (end_at t q).tcp.send) ((records_are_sent_in_order values start turns).each 2 c found) s;
-          next = omega (arith, next);
-          edge = omega (arith, edge);
-          took = (counts s).taken;
-        }
-
     takes : (s : Side) → p.agenda ≡ [] → may_ask p.profile s (end_at s p) ≡ true → min (length (written_by s begun).written) (written_by s begun).edge ≤ taken_len 0 (written_by s (world_run values turns (opened_world start))).marks
     takes s over asks = subst (λ (v : WorldState Carried). min (length (written_by s begun).written) (written_by s begun).edge ≤ taken_len 0 (written_by s v).marks) now
         (by (what_was_written_is_spent start plan begun order one mild.plain.size mild.fit begins c p is there over s asks))
@@ -182,7 +174,7 @@ module _ (start : Start) (plan : PathPlan) (begun : WorldState Carried) (order :
         by (Spends.stopped stop) = absurd (both_ways _ (subst (λ (v : WorldState Carried). (written_by s v).aborted ≡ false) (sym now) ((mild_paths_are_never_stopped start plan turns one mild).send s)) stop)
 
     is_pushed : IsOpen p → p.agenda ≡ [] → (s : Side) → may_finish (end_at s p).tcp.state ≡ true → IsPushed p.profile (end_at s p) (written_by s begun)
-    is_pushed opened over s may = pushed p.profile s (end_at s p) _ (known s opened over may) (written_by s begun) (takes s over)
+    is_pushed opened over s may = pushed p.profile s (end_at s p) _ (known start plan turns one mild c found p is s opened over may) (written_by s begun) (takes s over)
 
   pushes : (c : ActorCrew Carried) → slice_get w.crew 2 ≡ Some c → (m : Actor Carried) → c.member ≡ m
       → HoldsOfKind (λ app. Unit {0}) (λ (p : PathState Carried). IsOpen p → p.agenda ≡ [] → (s : Side) → may_finish (end_at s p).tcp.state ≡ true → IsPushed p.profile (end_at s p) (written_by s begun)) m

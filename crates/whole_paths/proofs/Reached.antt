@@ -256,7 +256,7 @@ first_reached s r others h is = (subst (λ rs. Line s.send.una s.send.nxt (map s
 pub first_left : (s : EndState) (r : Record) (others : List Record) → IsReached s → s.send.records ≡ r ∷ others → (s.send.una < end_of r) ⊎ (end_of r ≤ r.pos)
 first_left s r others h is = (subst (λ rs. Line s.send.una s.send.nxt (map span_of rs)) is h.lined.line).1
 
-joined_up : (rs : List Record) (from to : ℕ) → Joined from to (map span_of rs) → from ≤ to
+pub joined_up : (rs : List Record) (from to : ℕ) → Joined from to (map span_of rs) → from ≤ to
 joined_up [] from to h = omega (arith, h)
 joined_up (r ∷ rs) from to h = let at = h.0 in let rest = joined_up rs (end_of r) to h.1 in omega (arith, at, rest)
 

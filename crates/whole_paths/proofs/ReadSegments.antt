@@ -1,9 +1,15 @@
--- A segment is read: the end is told how far the peer is, the application writes, the end sends what it has room for, that comes, and is read.
-use Rattle.std.proofs.Common.{◌≡◌, inl, refl, sym, subst, ap, ⊎_elim, ℕ, ◌+◌, ◌-◌, ◌<◌, ◌≤◌, min, arith, true, Some, List, [], length}
+-- A segment is read: the end is told how far the peer is, the application writes, what is under way is acknowledged, the end sends what it was to send
+-- next, that comes, and is read.
+use Rattle.std.proofs.Common.{◌≡◌, inl, inr, refl, sym, subst, ap, ◌∙◌, ◌⊎◌, ⊎_elim, ℕ, ◌+◌, ◌-◌, ◌<◌, ◌≤◌, min, arith, true, Some, List, [], ◌∷◌, ◌++◌, length, length-append}
 use Rattle.std.specs.List.{slice_get}
+use Rattle.std.proofs.lemmas.List.{append-nil, append_assoc}
 use Rattle.sides.specs.declared.side.Side.{Side}
 use Rattle.sides.specs.Side.{peer}
 use Rattle.reassembly_book.specs.State.{received}
+use Rattle.stream_lanes.specs.Words.{Every, Has}
+use Rattle.subflow_send.specs.Records.{Record, end_of, occupied}
+use Rattle.subflow_send.specs.declared.record.RecordKind.{RecordKind}
+use Rattle.subflow_send.specs.declared.record.RecordKind.TheVariants.{Syn, Data, Fin}
 use Rattle.subflow_tcp.specs.States.{may_finish}
 use Rattle.actor_desk.specs.Words.{pick}
 use Rattle.path_core.specs.Profile.{Profile}
@@ -13,138 +19,313 @@ use Rattle.world_laws.specs.Members.{HoldsOfKind}
 use Rattle.world_laws.specs.Openings.{PathPlan, Start, path_begins}
 use Rattle.world_laws.specs.Promises.{arrived_at, written_by}
 use Rattle.world_laws.specs.RoundDone.{reached}
-use Rattle.world_laws.specs.Worlds.{Turn, WorldState}
+use Rattle.world_laws.specs.RoundNumbers.{taken_len}
+use Rattle.world_laws.specs.Worlds.{Turn, WorldState, all_over}
 use Rattle.whole_paths.specs.Delivery.{IsAllThere}
 use Rattle.whole_paths.specs.Finish.{IsPathAt}
+use Rattle.whole_paths.specs.FullGrants.{HoldsAFullPiece}
 use Rattle.whole_paths.specs.OnePathScripts.{BeginsWithOnePath}
+use Rattle.whole_paths.specs.OpenCourses.{IsOpenAfter}
 use Rattle.whole_paths.specs.Pushed.{IsPushed}
-use Rattle.whole_paths.specs.SegmentRounds.{ASegmentIsRead, IsHeard, IsRound, IsWellAfter, Rounds, read_after, written_after}
+use Rattle.whole_paths.specs.SegmentRounds.{ASegmentIsRead, IsHeard, IsRound, IsWellAfter, Rounds, StaysOpen, read_after, written_after}
 use Rattle.whole_paths.specs.SentInOrder.{sent_up_to}
 use Rattle.whole_paths.specs.Straying.{IsOpen}
+use Rattle.whole_paths.proofs.FlightsGo.{begun_goes, next_waits, sent_within, una_sent}
+use Rattle.whole_paths.proofs.FullGrants.{each_grant_is_full}
+use Rattle.whole_paths.proofs.OpenCourses.{IsFirstPath, each_first}
 use Rattle.whole_paths.proofs.PositionCounts.{only_profile}
-use Rattle.whole_paths.proofs.Pushed.{what_has_room_is_sent}
+use Rattle.whole_paths.proofs.Pushed.{Known, known, what_has_room_is_sent}
+use Rattle.whole_paths.proofs.Reached.{EndsAreReached, each_is_reached}
 use Rattle.whole_paths.proofs.RecordWaits.{path_is}
-use Rattle.whole_paths.proofs.RoundSteps.{Between, IsPathThere, begins_so, begun, between, ended, far, one_between, open_last, path_there, read, same_books, silent, then_between, there_whole, wrote}
-use Rattle.whole_paths.proofs.SegmentRounds.{bring, counts, if_may, path_far, stays_there, tell, una_up, unfinished}
+use Rattle.whole_paths.proofs.RoundSteps.{Between, IsPathThere, begins_so, begun, between, ended, far, one_between, open_first, over_after, path_there, read, same_books, silent, then_between, there_whole, wrote}
+use Rattle.whole_paths.proofs.SegmentRounds.{bring, came, counts, if_may, kept, kept_one, of_path, path_far, same_end, stays_there, tell, una_up, unfinished}
 
-module _ (start : Start) (plan : PathPlan) (x : BeginsWithOnePath start plan) (s : Side) (v a b u : List Turn)
-    (first : Rounds start 5 v a) (second : Rounds start 2 a b) (third : Rounds start 5 b u) (well_v : IsWellAfter start s v) (well_b : IsWellAfter start s b) (heard : IsHeard start plan s v a) where
+module _ (start : Start) (plan : PathPlan) (x : BeginsWithOnePath start plan) (s : Side) where
+  abbrev at : List Turn → WorldState Carried
+  at turns = reached values start turns
+
   abbrev total : ℕ
   total = length (pick s start.file_a start.file_b)
 
   abbrev payload : ℕ
   payload = plan.mss - 28
 
-  -- how much is to be read
-  abbrev goal : ℕ
-  goal = min total (read_after start s v + payload)
+  -- how many bytes may be sent
+  abbrev there_are : List Turn → ℕ
+  there_are turns = min (written_after start s turns) (written_by s (at turns)).edge
 
-  abbrev p : PathState Carried
-  p = well_v.path
+  profile : (turns : List Turn) (p : PathState Carried) → IsPathAt 0 (at turns) p → p.profile.mss ≡ plan.mss
+  profile turns p here = ap (λ (c : Profile). c.mss) (of_path start plan x turns p (λ z. z.profile ≡ (path_begins start 0 plan).profile) here (only_profile start plan turns x.one x.mild 2 here.crew here.there))
 
-  abbrev q : PathState Carried
-  q = well_b.path
+  open_at : (v u : List Turn) → Between start v u → (p : PathState Carried) → IsPathAt 0 (at u) p → IsOpen p
+  open_at v u b p here = let o = path_there start v u b in subst IsOpen (path_is (at u) o.path p o.here here) o.is_open
 
-  -- the rounds between: four by which the end is told, one in which the application writes, one in which the end sends, four in which that comes
-  abbrev heard_at : List Turn
-  heard_at = first.0
+  there_more : (v u : List Turn) → Between start v u → there_are v ≤ there_are u
+  there_more v u b =
+      let sent = ((far start v u b).sides s).send in
+      let size = ap (λ (xs : List ℕ). length xs) sent.written.whole_is ∙ length-append (written_by s (at v)).written sent.written.rest in
+      let edge = sent.edge in omega (arith, size, edge)
 
-  abbrev written_at : List Turn
-  written_at = second.0
+  -- of an end that may still send its FIN, as the turn is over
+  module _ (turns : List Turn) (p : PathState Carried) (here : IsPathAt 0 (at turns) p) (is_open : IsOpen p) (over : all_over (at turns).crew ≡ true) (may : may_finish (end_at s p).tcp.state ≡ true) where
+    is_known : Known p.profile s (end_at s p) (taken_len 0 (written_by s (at turns)).marks)
+    is_known = known start plan turns x.one x.mild here.crew here.there p here.is s is_open (silent start turns p over here) may
 
-  abbrev came_at : List Turn
-  came_at = third.0
+    is_reached : EndsAreReached p
+    is_reached = of_path start plan x turns p EndsAreReached here ((each_is_reached values start turns).each 2 here.crew here.there)
 
-  writes : IsRound start a written_at
-  writes = subst (λ t. IsRound start t written_at) (sym second.1.0.1.0) second.1.0.1.1
+    sized : Every (λ (r : Record). length r.piece ≤ occupied r.kind r.piece) (end_at s p).tcp.send.records
+    sized = record { each = λ i r there. by r i there r.kind refl }
+      where
+        first : IsFirstPath start p
+        first = of_path start plan x turns p (IsFirstPath start) here (each_first start turns x.mild.plain.size here.crew here.there)
 
-  sends : IsRound start written_at b
-  sends = second.1.1
+        by : (r : Record) (i : ℕ) → slice_get (end_at s p).tcp.send.records i ≡ Some r → (k : RecordKind) → r.kind ≡ k → length r.piece ≤ occupied r.kind r.piece
+        by r i there Data is = let same = ap (λ k. occupied k r.piece) is in omega (arith, same)
+        by r i there Fin is = absurd ((first.kinds s (first.may s may)).each i r there is)
+        by r i there Syn is = let none = ap (λ (o : List ℕ). length o) ((first.syns s).each i r there is) in omega (arith, none)
 
-  reads : IsRound start came_at u
-  reads = third.1.1
+  -- ---- what is to be sent next
 
-  to_heard : Between start v heard_at
-  to_heard = between start 3 v heard_at first.1.0
+  -- Behind this position nothing was granted yet; or a record begins there that ends past the goal, or SND.UNA is past that; or all of the stream is
+  -- there.
+  data GoesNext (from goal : ℕ) (w : WorldState Carried) (p : PathState Carried) : Type 0 where
+    ungranted : (end_at s p).tcp.send.nxt ≡ from → GoesNext from goal w p
+    stands : Has (λ (r : Record). (r.pos ≡ from) × (goal < end_of r)) (end_at s p).tcp.send.records → GoesNext from goal w p
+    acked : goal < (end_at s p).tcp.send.una → GoesNext from goal w p
+    all_there : IsAllThere s w → GoesNext from goal w p
 
-  to_came : Between start b came_at
-  to_came = between start 3 b came_at third.1.0
+  module _ (from goal : ℕ) (near : goal < from + payload) where
+    -- what is granted there ends past the goal
+    granted : (turns : List Turn) (turn : Turn) (before : IsOpenAfter start turns) (after : IsOpenAfter start (turns ++ turn ∷ [])) → goal ≤ there_are turns
+        → (end_at s before.path).tcp.send.nxt ≡ from → GoesNext from goal (at (turns ++ turn ∷ [])) after.path
+    granted turns turn before after enough is = if_may start plan x (GoesNext from goal (at (turns ++ turn ∷ [])) q) (turns ++ turn ∷ []) q after.here after.is_open s (λ all. GoesNext.all_there all) (λ may.
+        ⊎_elim (λ same. GoesNext.ungranted (same ∙ is)) full
+        (each_grant_is_full start plan turns turn x.one x.mild before.path q before.here after.here s (unfinished start plan x (turns ++ turn ∷ []) q after.here s may)))
+      where
+        q : PathState Carried
+        q = after.path
 
-  -- from where the end is told on to where it sends
-  to_sent : Between start heard_at b
-  to_sent = then_between start heard_at a b (one_between start heard_at a first.1.1) (between start 1 a b second)
+        full : HoldsAFullPiece before.path.profile (written_by s (at turns)) (end_at s before.path).tcp.send.nxt (end_at s q) → GoesNext from goal (at (turns ++ turn ∷ [])) q
+        full h =
+            let pos = h.pos in
+            let mss = profile turns before.path before.here in
+            let past : goal < end_of h.piece = ⊎_elim (λ all. omega (arith, all, near, is, mss)) (λ rest. omega (arith, rest, enough)) h.full in
+            GoesNext.stands (record { at = h.there.at; item = h.piece; there = h.there.there ∙ ap (λ r. Some r) h.there.holds; holds = (pos ∙ is, past) })
 
-  told_path : IsPathThere start heard_at
-  told_path = path_there start v heard_at to_heard
+    next_on : (turns : List Turn) (turn : Turn) (before : IsOpenAfter start turns) (after : IsOpenAfter start (turns ++ turn ∷ [])) → goal ≤ there_are turns
+        → GoesNext from goal (at turns) before.path → GoesNext from goal (at (turns ++ turn ∷ [])) after.path
+    next_on turns turn before after enough (GoesNext.ungranted is) = granted turns turn before after enough is
+    next_on turns turn before after enough (GoesNext.stands has) =
+        let waits = kept start plan x turns turn before after s in
+        ⊎_elim
+        (λ gone. GoesNext.acked (let end = gone.1 in let past = has.holds.1 in omega (arith, end, past)))
+        (λ on. GoesNext.stands (record { at = on.at; item = on.item; there = on.there; holds = (on.holds.pos ∙ has.holds.0, let end = same_end has.item on.item on.holds in let past = has.holds.1 in omega (arith, end, past)) }))
+        (kept_one _ (end_at s before.path).tcp.send.records (end_at s after.path).tcp.send.records waits.records has.at has.item has.there)
+    next_on turns turn before after enough (GoesNext.acked past) = GoesNext.acked (let up = (kept start plan x turns turn before after s).una in omega (arith, past, up))
+    next_on turns turn before after enough (GoesNext.all_there all) = GoesNext.all_there (stays_there start plan x turns (turns ++ turn ∷ []) s (record { more = turn ∷ []; is = refl; stays_open = (before, after) }) all)
 
-  came_path : IsPathThere start came_at
-  came_path = path_there start b came_at to_came
+    next_later : (turns more : List Turn) → StaysOpen start turns more → goal ≤ there_are turns → (p q : PathState Carried) → IsPathAt 0 (at turns) p → IsPathAt 0 (at (turns ++ more)) q
+        → GoesNext from goal (at turns) p → GoesNext from goal (at (turns ++ more)) q
+    next_later turns [] h enough p q here there so =
+        let same : at (turns ++ []) ≡ at turns = ap at (append-nil turns) in
+        subst (λ w. GoesNext from goal w q) (sym same) (subst (GoesNext from goal (at turns)) (path_is (at turns) p q here (subst (λ w. IsPathAt 0 w q) same there)) so)
+    next_later turns (turn ∷ more) h enough p q here there so =
+        let next = open_first start (turns ++ turn ∷ []) more h.1 in
+        let same : (turns ++ turn ∷ []) ++ more ≡ turns ++ turn ∷ more = append_assoc turns (turn ∷ []) more in
+        let up = there_more turns (turns ++ turn ∷ []) (record { more = turn ∷ []; is = refl; stays_open = (h.0, next) }) in
+        subst (λ t. GoesNext from goal (at t) q) same
+        (next_later (turns ++ turn ∷ []) more h.1 (omega (arith, enough, up)) next.path q next.here (subst (λ t. IsPathAt 0 (at t) q) (sym same) there)
+        (next_on turns turn h.0 next enough (subst (GoesNext from goal (at turns)) (path_is (at turns) p h.0.path here h.0.here) so)))
 
-  opened : IsOpen q
-  opened =
-      let o = open_last start written_at (one_between start written_at b sends).more (one_between start written_at b sends).stays_open in
-      subst IsOpen (path_is (reached values start b) o.path q (subst (λ t. IsPathAt 0 (reached values start t) o.path) (sym (one_between start written_at b sends).is) o.here) well_b.here) o.is_open
+  -- ---- a segment
 
-  abbrev Goal : Type 0
-  Goal = goal ≤ read_after start s u
+  module _ (v a b c d u : List Turn) (first : Rounds start 6 v a) (second : Rounds start 1 a b) (third : Rounds start 4 b c) (fourth : Rounds start 4 c d) (fifth : Rounds start 5 d u)
+      (well_v : IsWellAfter start s v) (well_b : IsWellAfter start s b) (well_c : IsWellAfter start s c) (well_d : IsWellAfter start s d) (heard : IsHeard start plan s v a) where
+    -- how much is to be read
+    abbrev goal : ℕ
+    goal = min total (read_after start s v + payload)
 
-  read_last : received (arrived_at (peer s) (reached values start came_at)) ≤ read_after start s u
-  read_last = read start plan x came_at u reads s
+    abbrev p : PathState Carried
+    p = well_b.path
 
-  -- where all is there it is read
-  whole : IsAllThere s (reached values start came_at) → Goal
-  whole all = let most = there_whole start came_at s all in let out = read_last in omega (arith, most, out)
+    abbrev q : PathState Carried
+    q = well_d.path
 
-  profile : q.profile.mss ≡ plan.mss
-  profile = ap (λ (c : Profile). c.mss) (subst (HoldsOfKind (λ app. Unit {0}) (λ (z : PathState Carried). z.profile ≡ (path_begins start 0 plan).profile)) well_b.here.is
-      (only_profile start plan b x.one x.mild 2 well_b.here.crew well_b.here.there))
+    -- four rounds by which the end is told, two more, and one in which the application writes
+    abbrev told_at : List Turn
+    told_at = first.1.0.0
 
-  pushed : may_finish (end_at s q).tcp.state ≡ true → IsPushed q.profile (end_at s q) (written_by s (begun start written_at b sends))
-  pushed may =
-      let there = subst (λ (w : WorldState Carried). slice_get w.crew 2 ≡ Some well_b.here.crew) (ended start written_at b sends) well_b.here.there in
-      subst (HoldsOfKind (λ app. Unit {0}) (λ (z : PathState Carried). IsOpen z → z.agenda ≡ [] → (t : Side) → may_finish (end_at t z).tcp.state ≡ true → IsPushed z.profile (end_at t z) (written_by t (begun start written_at b sends)))) well_b.here.is
-      (what_has_room_is_sent start plan (begun start written_at b sends) sends.order x.one x.mild (begins_so start written_at b sends) well_b.here.crew there)
-      opened (silent start b q sends.over well_b.here) s may
+    abbrev came_at : List Turn
+    came_at = fifth.0
 
-  same_written : length (written_by s (begun start written_at b sends)).written ≡ written_after start s written_at
-  same_written = same_books start written_at b sends (λ w. length (written_by s w).written ≡ written_after start s written_at) (λ w is. is) refl
+    writes : IsRound start a b
+    writes = subst (λ t. IsRound start t b) (sym second.1.0) second.1.1
 
-  same_edge : (written_by s (begun start written_at b sends)).edge ≡ (written_by s (reached values start written_at)).edge
-  same_edge = same_books start written_at b sends (λ w. (written_by s w).edge ≡ (written_by s (reached values start written_at)).edge) (λ w is. is) refl
+    to_told : Between start v told_at
+    to_told = between start 3 v told_at first.1.0.1.0
 
-  edge_later : (written_by s (reached values start a)).edge ≤ (written_by s (reached values start written_at)).edge
-  edge_later = ((far start a written_at (one_between start a written_at writes)).sides s).send.edge
+    told_to_b : Between start told_at b
+    told_to_b = then_between start told_at first.0 b (one_between start told_at first.0 first.1.0.1.1) (then_between start first.0 a b (one_between start first.0 a first.1.1) (one_between start a b writes))
 
-  -- so much is sent, where SND.UNA is past what was read
-  sent : (end_at (peer s) p).tcp.recv.edge ≤ (end_at s q).tcp.send.una → may_finish (end_at s q).tcp.state ≡ true → goal < sent_up_to (end_at s q).tcp.send
-  sent una may = by (pushed may)
-    where
-      past : read_after start s v < (end_at (peer s) p).tcp.recv.edge
-      past = let came = (counts start plan x v p well_v.here s).came in omega (arith, came)
+    b_to_c : Between start b c
+    b_to_c = between start 3 b c third
 
-      by : IsPushed q.profile (end_at s q) (written_by s (begun start written_at b sends)) → goal < sent_up_to (end_at s q).tcp.send
-      by (IsPushed.full more) = let wide = well_b.wide in omega (arith, more, wide, profile, una, past)
-      by (IsPushed.all more) =
-          let wrote_so = wrote start plan x a written_at writes s in
-          let acked = heard.acked in
-          let window = heard.window in
-          let buffer = x.buffer in let small = x.size in omega (arith, more, same_written, same_edge, edge_later, wrote_so, acked, window, buffer, small)
+    c_to_d : Between start c d
+    c_to_d = between start 3 c d fourth
 
-  una_later : (end_at s told_path.path).tcp.send.una ≤ (end_at s q).tcp.send.una
-  una_later = una_up start plan x s told_path.path q (path_far start plan x heard_at b told_path.path q to_sent told_path.here well_b.here)
+    b_to_d : Between start b d
+    b_to_d = then_between start b c d b_to_c c_to_d
 
-  comes : (end_at (peer s) p).tcp.recv.edge ≤ (end_at s told_path.path).tcp.send.una → Goal
-  comes una = if_may start plan x Goal b q well_b.here opened s (λ all. whole (stays_there start plan x b came_at s to_came all)) (λ may. ⊎_elim whole (λ low. ends (sent (omega (arith, una, una_later)) may) low)
-      (bring start plan x b came_at third.1.0 s q came_path.path well_b.here came_path.here well_b.records))
-    where
-      ends : goal < sent_up_to (end_at s q).tcp.send → sent_up_to (end_at s q).tcp.send ≤ (end_at (peer s) came_path.path).tcp.recv.edge → Goal
-      ends more low = if_may start plan x Goal came_at came_path.path came_path.here came_path.is_open s whole (λ may.
-          (let exact = (counts start plan x came_at came_path.path came_path.here s).exact (unfinished start plan x came_at came_path.path came_path.here s may) in
-          let out = read_last in omega (arith, exact, out, more, low)))
+    to_came : Between start d came_at
+    to_came = between start 3 d came_at fifth.1.0
 
-  is_read : Goal
-  is_read = ⊎_elim (λ all. whole (stays_there start plan x heard_at came_at s (then_between start heard_at b came_at to_sent to_came) all)) comes
-      (⊎_elim (λ told. tell start plan x v heard_at first.1.0 s p told_path.path well_v.here told_path.here told) (λ all. inl (stays_there start plan x v heard_at s to_heard all)) well_v.told)
+    told_path : IsPathThere start told_at
+    told_path = path_there start v told_at to_told
+
+    came_path : IsPathThere start came_at
+    came_path = path_there start d came_at to_came
+
+    opened_b : IsOpen p
+    opened_b = open_at told_at b told_to_b p well_b.here
+
+    opened_d : IsOpen q
+    opened_d = open_at c d c_to_d q well_d.here
+
+    abbrev Goal : Type 0
+    Goal = goal ≤ read_after start s u
+
+    read_last : received (arrived_at (peer s) (at came_at)) ≤ read_after start s u
+    read_last = read start plan x came_at u fifth.1.1 s
+
+    -- where all is there it is read
+    whole : IsAllThere s (at came_at) → Goal
+    whole all = let most = there_whole start came_at s all in let out = read_last in omega (arith, most, out)
+
+    whole_from : (t : List Turn) → Between start t came_at → IsAllThere s (at t) → Goal
+    whole_from t more all = whole (stays_there start plan x t came_at s more all)
+
+    -- what came past the goal is read
+    passed : goal < (end_at (peer s) came_path.path).tcp.recv.edge → Goal
+    passed more = if_may start plan x Goal came_at came_path.path came_path.here came_path.is_open s whole (λ may.
+        (let exact = (counts start plan x came_at came_path.path came_path.here s).exact (unfinished start plan x came_at came_path.path came_path.here s may) in
+        let out = read_last in omega (arith, exact, out, more)))
+
+    -- all of it is written, and lies before the edge
+    enough : goal ≤ there_are b
+    enough =
+        let wrote_so = wrote start plan x a b writes s in
+        let acked = heard.acked in
+        let window = heard.window in
+        let edge = ((far start a b (one_between start a b writes)).sides s).send.edge in
+        let buffer = x.buffer in let small = x.size in omega (arith, wrote_so, acked, window, edge, buffer, small)
+
+    -- where it is sent, or acknowledged
+    sent : goal < sent_up_to (end_at s q).tcp.send → Goal
+    sent more = ⊎_elim whole (λ low. passed (omega (arith, more, low))) (bring start plan x d came_at fifth.1.0 s q came_path.path well_d.here came_path.here well_d.records)
+
+    acknowledged : goal < (end_at s q).tcp.send.una → Goal
+    acknowledged more =
+        let up = una_up start plan x s q came_path.path (path_far start plan x d came_at q came_path.path to_came well_d.here came_path.here) in
+        let low = came start plan x came_at came_path.path came_path.here s (came_path.is_open.living s) in passed (omega (arith, more, up, low))
+
+    -- ---- after fifteen rounds
+
+    module _ (from : ℕ) (heard_of : from ≤ (end_at s q).tcp.send.una) (may : may_finish (end_at s q).tcp.state ≡ true) where
+      over : all_over (at d).crew ≡ true
+      over = over_after start 3 c d fourth
+
+      now : Known q.profile s (end_at s q) (taken_len 0 (written_by s (at d)).marks)
+      now = is_known d q well_d.here opened_d over may
+
+      lined : EndsAreReached q
+      lined = is_reached d q well_d.here opened_d over may
+
+      sends : IsRound start fourth.0 d
+      sends = fourth.1.1
+
+      enough_then : goal ≤ there_are fourth.0
+      enough_then = let up = there_more b fourth.0 (then_between start b c fourth.0 b_to_c (between start 2 c fourth.0 fourth.1.0)) in omega (arith, enough, up)
+
+      pushed : IsPushed q.profile (end_at s q) (written_by s (begun start fourth.0 d sends))
+      pushed =
+          let there = subst (λ (w : WorldState Carried). slice_get w.crew 2 ≡ Some well_d.here.crew) (ended start fourth.0 d sends) well_d.here.there in
+          subst (HoldsOfKind (λ app. Unit {0}) (λ (z : PathState Carried). IsOpen z → z.agenda ≡ [] → (t : Side) → may_finish (end_at t z).tcp.state ≡ true → IsPushed z.profile (end_at t z) (written_by t (begun start fourth.0 d sends)))) well_d.here.is
+          (what_has_room_is_sent start plan (begun start fourth.0 d sends) sends.order x.one x.mild (begins_so start fourth.0 d sends) well_d.here.crew there)
+          opened_d (silent start d q over well_d.here) s may
+
+      same : min (length (written_by s (begun start fourth.0 d sends)).written) (written_by s (begun start fourth.0 d sends)).edge ≡ there_are fourth.0
+      same = same_books start fourth.0 d sends (λ w. min (length (written_by s w).written) (written_by s w).edge ≡ there_are fourth.0) (λ w is. is) refl
+
+      -- nothing is under way: so all is sent that there is
+      nothing_waits : (end_at s q).tcp.send.nxt ≡ from → IsPushed q.profile (end_at s q) (written_by s (begun start fourth.0 d sends)) → Goal
+      nothing_waits none (IsPushed.full more) =
+          let within = sent_within q.profile s (end_at s q) _ now (lined s) in
+          let window = now.window in let small = now.small in absurd (omega (arith, none, heard_of, more, within, window, small))
+      nothing_waits none (IsPushed.all more) = sent (let there = same in let low = enough_then in omega (arith, more, there, low))
+
+      goes : GoesNext from goal (at d) q → Goal
+      goes (GoesNext.ungranted none) = nothing_waits none pushed
+      goes (GoesNext.stands has) =
+          let low = begun_goes q.profile s (end_at s q) _ now (lined s) has.at has.item has.there (let at = has.holds.0 in omega (arith, at, heard_of)) in
+          sent (let past = has.holds.1 in omega (arith, low, past))
+      goes (GoesNext.acked more) = acknowledged more
+      goes (GoesNext.all_there all) = whole_from d to_came all
+
+    -- ---- after seven
+
+    module _ (told : (end_at (peer s) well_v.path).tcp.recv.edge ≤ (end_at s told_path.path).tcp.send.una) (may : may_finish (end_at s p).tcp.state ≡ true) where
+      abbrev from : ℕ
+      from = sent_up_to (end_at s p).tcp.send
+
+      past : read_after start s v < (end_at s p).tcp.send.una
+      past =
+          let came_so = (counts start plan x v well_v.path well_v.here s).came in
+          let up = una_up start plan x s told_path.path p (path_far start plan x told_at b told_path.path p told_to_b told_path.here well_b.here) in omega (arith, told, came_so, up)
+
+      over_b : all_over (at b).crew ≡ true
+      over_b = writes.over
+
+      now_b : Known p.profile s (end_at s p) (taken_len 0 (written_by s (at b)).marks)
+      now_b = is_known b p well_b.here opened_b over_b may
+
+      lined_b : EndsAreReached p
+      lined_b = is_reached b p well_b.here opened_b over_b may
+
+      near : goal < from + payload
+      near = let low = una_sent p.profile s (end_at s p) _ now_b (lined_b s) in let high = past in omega (arith, low, high)
+
+      -- behind what is sent nothing was granted, or a record stands there
+      begins : GoesNext from goal (at b) p
+      begins = ⊎_elim
+          (λ none. GoesNext.ungranted none)
+          (λ has. GoesNext.stands (record { at = has.at; item = has.item; there = has.there; holds = (has.holds.0, let end = has.holds.1 in let mss = profile b p well_b.here in let low = past in omega (arith, end, mss, low)) }))
+          (next_waits p.profile s (end_at s p) _ now_b (lined_b s) (sized b p well_b.here opened_b over_b may))
+
+      then_goes : GoesNext from goal (at d) q
+      then_goes = subst (λ t. GoesNext from goal (at t) q) (sym b_to_d.is)
+          (next_later from goal near b b_to_d.more b_to_d.stays_open enough p q well_b.here (subst (λ t. IsPathAt 0 (at t) q) b_to_d.is well_d.here) begins)
+
+      is_sent : Goal
+      is_sent = ⊎_elim (whole_from c (then_between start c d came_at c_to_d to_came)) by_told (bring start plan x b c third s p well_c.path well_b.here well_c.here well_b.records)
+        where
+          heard_so : from ≤ (end_at (peer s) well_c.path).tcp.recv.edge → (end_at (peer s) well_c.path).tcp.recv.edge ≤ (end_at s q).tcp.send.una → Goal
+          heard_so low high = if_may start plan x Goal d q well_d.here opened_d s (whole_from d to_came) (λ may_still. goes from (omega (arith, low, high)) may_still then_goes)
+
+          by_told : from ≤ (end_at (peer s) well_c.path).tcp.recv.edge → Goal
+          by_told low = ⊎_elim
+              (λ soon. ⊎_elim (whole_from d to_came) (heard_so low) (tell start plan x c d fourth s well_c.path q well_c.here well_d.here soon))
+              (whole_from c (then_between start c d came_at c_to_d to_came))
+              well_c.told
+
+    is_read : Goal
+    is_read = ⊎_elim
+        (λ soon. ⊎_elim
+        (whole_from told_at (then_between start told_at b came_at told_to_b (then_between start b d came_at b_to_d to_came)))
+        (λ told. if_may start plan x Goal b p well_b.here opened_b s (whole_from b (then_between start b d came_at b_to_d to_came)) (λ may. is_sent told may))
+        (tell start plan x v told_at first.1.0.1.0 s well_v.path told_path.path well_v.here told_path.here soon))
+        (whole_from v (then_between start v told_at came_at to_told (then_between start told_at b came_at told_to_b (then_between start b d came_at b_to_d to_came))))
+        well_v.told
 
 pub a_segment_is_read : ASegmentIsRead
-a_segment_is_read start plan x s v a b u first second third well_v well_b heard = is_read start plan x s v a b u first second third well_v well_b heard
+a_segment_is_read start plan x s v a b c d u first second third fourth fifth well_v well_b well_c well_d heard = is_read start plan x s v a b c d u first second third fourth fifth well_v well_b well_c well_d heard

@@ -33,7 +33,6 @@ use Rattle.whole_paths.specs.Exchanges.{ExchangeGoesOn as goes}
 use Rattle.whole_paths.specs.Exchanges.IsExchanged.{comes, in_hand, answered, acknowledged}
 use Rattle.whole_paths.specs.Finish.{IsPathAt}
 use Rattle.whole_paths.specs.Flights.{IsFirst}
-use Rattle.whole_paths.specs.Harms.{longest_way}
 use Rattle.whole_paths.specs.Kept.{EndsKeepWhatWaits}
 use Rattle.whole_paths.specs.Mild.{IsMildStart}
 use Rattle.whole_paths.specs.News.{ActorCounts, one_if}
@@ -320,7 +319,7 @@ module _ (start : Start) (most : ℕ) (mild : IsMildStart start) (Holds : PathSt
 
     -- where an end of path 0 sent no FIN
     module _ (way : ℕ) (path : PathState Carried) (here : IsPathAt 0 ended path) (side : Side) (unsent : (end_at side path).tcp.send.finished ≡ false)
-        (short : longest_way side path.link + longest_way (peer side) path.link ≤ way) (of : Of side) where
+        (short : 400 + 400 ≤ way) (of : Of side) where
       near : TimersAreNear path
       near = subst (HoldsOfKind (λ app. Unit {0}) TimersAreNear) here.is ((timers_run_out values start v).each 2 here.crew here.there)
 
@@ -351,7 +350,7 @@ module _ (start : Start) (most : ℕ) (mild : IsMildStart start) (Holds : PathSt
       -- with the first record of a side
       side_begins : (t : Side) (r : Record) (others : List Record) → (end_at t path).tcp.send.records ≡ r ∷ others → IsData r (end_at t path)
           → ((end_at t path).tcp.send.finished ≡ false) ⊎ ((end_at (peer t) path).tcp.recv.edge < end_of r)
-          → (end_at (peer t) path).tcp.send.nxt ≤ (end_at t path).tcp.recv.edge + 1048576 → longest_way t path.link + longest_way (peer t) path.link ≤ way → Of t
+          → (end_at (peer t) path).tcp.send.nxt ≤ (end_at t path).tcp.recv.edge + 1048576 → 400 + 400 ≤ way → Of t
           → Awaits (round_end values start v + (60000 + way)) u
       side_begins t r others is data_is ahead room low of_t = ⊎_elim
           (λ rises. absurd (let same = ap (counted values start) step.is ∙ no_round_counts start v step.over in omega (arith, rises, same)))
@@ -368,7 +367,7 @@ module _ (start : Start) (most : ℕ) (mild : IsMildStart start) (Holds : PathSt
             within = data_is.within;
             ahead = ahead;
             room = room;
-            exchange = exchange_later t r (path.clock + 60000 + longest_way t path.link + longest_way (peer t) path.link) (round_end values start v + (60000 + way)) path
+            exchange = exchange_later t r (path.clock + 60000 + 400 + 400) (round_end values start v + (60000 + way)) path
                 (let clock = near.clock in omega (arith, clock, low, until)) (begun silent t (living_open (end_at t path).tcp.state (opened.past t) (opened.living t)) r others is);
           }
 
@@ -391,8 +390,7 @@ module _ (start : Start) (most : ℕ) (mild : IsMildStart start) (Holds : PathSt
           let most_sent = few other in let one = one_most (end_at other path).tcp.send.finished in
           let left = data_is.left in
           let own = few side in let none = ap one_if unsent in let came_here = came.una side (opened.living side) in
-          let way_same = ap (λ x. longest_way x path.link) (sender_of side) in let low_way = short in
-          side_begins other r others is data_is (inr (omega (arith, past, most_sent, one, left, edge_same))) (omega (arith, own, none, came_here, nxt_same)) (omega (arith, low_way, way_same)) of_other
+          side_begins other r others is data_is (inr (omega (arith, past, most_sent, one, left, edge_same))) (omega (arith, own, none, came_here, nxt_same)) short of_other
 
       pub room_or : Of other → Awaits (round_end values start v + (60000 + way)) u ⊎ ((end_at other path).tcp.send.nxt ≤ (end_at side path).tcp.recv.edge + 1048576)
       room_or of_other = ⊎_elim (λ past. inl (other_begins past of_other (end_at other path).tcp.send.records refl)) (λ room. inr room) (cases_lt ((end_at side path).tcp.recv.edge + 1048576) (end_at other path).tcp.send.nxt)

@@ -94,7 +94,7 @@ pub data Treats (t : Side) (c : Profile) (ds : List Duty) (e : PathEnd) : Type 0
   broken : IsToReset t ds → Treats t c ds e
 
 -- a duty that sends is neither silent, nor does it stand before the payload is kept
-never_silent : (d : Duty) → sends_on d ≡ true → is_silent d ≡ true → ⊥
+pub never_silent : (d : Duty) → sends_on d ≡ true → is_silent d ≡ true → ⊥
 never_silent (duties.Ask d) on silent = true≢false (sym on)
 never_silent (duties.Silent d) on silent = true≢false (sym on)
 never_silent (duties.Step (step_duties.Data s)) on silent = true≢false (sym silent)
@@ -118,12 +118,12 @@ never_leads t (duties.Send (send_duties.BreakReset u reason)) ds on lead = true�
 never_leads t (duties.Send (send_duties.Reset u)) ds on lead = true≢false (sym on)
 never_leads t _ ds on lead = lead
 
-never_both : (d : Duty) → is_silent d ≡ true → is_of_both d ≡ true → ⊥
+pub never_both : (d : Duty) → is_silent d ≡ true → is_of_both d ≡ true → ⊥
 never_both (duties.Step step_duties.Events) silent both = true≢false (sym silent)
 never_both duties.End silent both = true≢false (sym silent)
 never_both d silent both = true≢false (sym both)
 
-never_joins : (d : Duty) → is_silent d ≡ true → hears_join d ≡ true → ⊥
+pub never_joins : (d : Duty) → is_silent d ≡ true → hears_join d ≡ true → ⊥
 never_joins (duties.Ask (ask_duties.JoinHeard s)) silent joins = true≢false (sym silent)
 never_joins d silent joins = true≢false (sym joins)
 
@@ -166,7 +166,7 @@ module _ {C : Type 0} where
   reset_stands t d ds p quiet (resetting.is_reset reason is) = true≢false (subst (λ (x : Duty). stands x p ≡ false) (first_so d (duties.Send (send_duties.BreakReset t reason)) ds _ is) quiet)
   reset_stands t d ds p quiet (resetting.stopped is) = true≢false (subst (λ (x : Duty). stands x p ≡ false) (first_so d (duties.Ask (ask_duties.AbortSend t)) ds _ is) quiet)
 
-  other_infinite : (d : Duty) (p : PathState C) → (end_at (peer (side_of d)) (passed d p)).modes.peer_infinite ≡ (end_at (peer (side_of d)) p).modes.peer_infinite
+  pub other_infinite : (d : Duty) (p : PathState C) → (end_at (peer (side_of d)) (passed d p)).modes.peer_infinite ≡ (end_at (peer (side_of d)) p).modes.peer_infinite
   other_infinite (duties.Step step_duties.Events) p = refl
   other_infinite d p = other_same (side_of d) (writes d) p _ refl (passes_no_more d p)
 
@@ -421,7 +421,7 @@ abbrev pub BareSaysNothing : {C : Type 0} → Codec C → PathState C → Type 0
 BareSaysNothing k p = (due : Arriving) → next_event p ≡ Some (happenings.Arrives due) → (x : HeardSegment) → heard_in k due.to (arriving due p.link) p ≡ Some x → x.payload ≡ []
     → held_of p.profile due.to (options_heard (end_at due.to p) x) ≡ []
 
-apart : (s : Side) → s ≡ peer s → ⊥
+pub apart : (s : Side) → s ≡ peer s → ⊥
 apart A same = cc
 apart B same = cc
 

@@ -67,7 +67,7 @@ module _ (start : Start) where
 
 -- ---- segments that are harmed
 
-none_harmed : (s : Side) (p q : PathState Carried) → q.link ≡ p.link → is_harmed s p q ≡ false
+pub none_harmed : (s : Side) (p q : PathState Carried) → q.link ≡ p.link → is_harmed s p q ≡ false
 none_harmed s p q same = subst (λ (l : LinkState Carried). Unharmed l) (sym same)
     (ap (λ b. b && not (list_any (λ f. same_side f.to (peer s) && (f.number == segments_sent s p.link && nat_le f.tick (p.clock + 400))) p.link.under_way))
     (le-ltb (segments_sent s p.link) (segments_sent s p.link) (le_refl (segments_sent s p.link))))

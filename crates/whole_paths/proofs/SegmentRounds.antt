@@ -76,7 +76,7 @@ use Rattle.whole_paths.proofs.OpenTurns.{begun}
 
 -- ---- a record and the one that it became
 
-same_end : (r x : Record) → IsSameRecord r x → end_of x ≡ end_of r
+pub same_end : (r x : Record) → IsSameRecord r x → end_of x ≡ end_of r
 same_end r x same = ap (λ n. n + occupied x.kind x.piece) same.pos ∙ ap (λ k. r.pos + occupied k x.piece) same.kind ∙ ap (λ (o : List ℕ). r.pos + occupied r.kind o) same.piece
 
 same_mapped : (c : Profile) (s : Side) (e : PathEnd) (r x : Record) → IsSameRecord r x → HasItsMapping c s x e → HasItsMapping c s r e
@@ -123,7 +123,7 @@ turned : (r x : Record) → IsSameRecord r x → IsSameRecord x r
 turned r x same = record { pos = sym same.pos; kind = sym same.kind; piece = sym same.piece; mapping = sym same.mapping }
 
 -- one that is kept is let go, or there still
-kept_one : (Gone : Record → Type 0) (xs ys : List Record) → AreKept Gone IsSameRecord xs ys → (i : ℕ) (x : Record) → slice_get xs i ≡ Some x → Gone x ⊎ Has (IsSameRecord x) ys
+pub kept_one : (Gone : Record → Type 0) (xs ys : List Record) → AreKept Gone IsSameRecord xs ys → (i : ℕ) (x : Record) → slice_get xs i ≡ Some x → Gone x ⊎ Has (IsSameRecord x) ys
 kept_one Gone [] ys kept i x there = cc
 kept_one Gone (r ∷ xs) [] kept zero x there = inl (subst Gone (same_Some r x there) kept.0)
 kept_one Gone (r ∷ xs) [] kept (suc i) x there = kept_one Gone xs [] kept.1 i x there
@@ -220,11 +220,19 @@ module _ (start : Start) (plan : PathPlan) (x : BeginsWithOnePath start plan) wh
   pub una_up : (s : Side) (p q : PathState Carried) → IsPathAsFar p q → (end_at s p).tcp.send.una ≤ (end_at s q).tcp.send.una
   una_up = elim [ A ↦ λ p q h. h.a.subflow.acknowledged | B ↦ λ p q h. h.b.subflow.acknowledged ]
 
-  came : (turns : List Turn) (p : PathState Carried) → IsPathAt 0 (at turns) p → (s : Side) → is_dead (end_at s p).tcp.state ≡ false → (end_at s p).tcp.send.una ≤ (end_at (peer s) p).tcp.recv.edge
+  pub came : (turns : List Turn) (p : PathState Carried) → IsPathAt 0 (at turns) p → (s : Side) → is_dead (end_at s p).tcp.state ≡ false → (end_at s p).tcp.send.una ≤ (end_at (peer s) p).tcp.recv.edge
   came turns p here s living = (of_path turns p HasCome here ((what_is_acknowledged_came start turns).each 2 here.crew here.there)).una s living
 
   pub counts : (turns : List Turn) (p : PathState Carried) → IsPathAt 0 (at turns) p → (s : Side) → CountsBytes (at turns) p s
   counts turns p here = of_path turns p (λ q. (s : Side) → CountsBytes (at turns) q s) here ((positions_count_bytes start turns plan x.one x.mild).each 2 here.crew here.there)
+
+  -- what an end waits for it waits for still as a turn is over, or it is acknowledged
+  pub kept : (turns : List Turn) (turn : Turn) (before : IsOpenAfter start turns) (after : IsOpenAfter start (turns ++ turn ∷ [])) (s : Side) → KeepsWhatWaits (end_at s before.path) (end_at s after.path)
+  kept turns turn before after s =
+      let found = what_waits_is_kept values (at turns) (turn ∷ []) 2 before.here.crew before.here.there in
+      let there = subst (λ (w : WorldState Carried). slice_get w.crew 2 ≡ Some after.here.crew) (run_append values turns (turn ∷ []) (opened_world start)) after.here.there in
+      (subst (λ m. EndsKeepWhatWaits m (Path after.path)) before.here.is
+      (subst (λ m. EndsKeepWhatWaits before.here.crew.member m) (ap (λ (c : ActorCrew Carried). c.member) (same_Some found.0 after.here.crew (sym found.1 ∙ there)) ∙ after.here.is) found.2)) s
 
   -- ---- what comes in four rounds
 
@@ -242,14 +250,8 @@ module _ (start : Start) (plan : PathPlan) (x : BeginsWithOnePath start plan) wh
         q : PathState Carried
         q = after.path
 
-        kept : KeepsWhatWaits (end_at s p) (end_at s q)
-        kept =
-            let found = what_waits_is_kept values (at turns) (turn ∷ []) 2 before.here.crew before.here.there in
-            let there = subst (λ (w : WorldState Carried). slice_get w.crew 2 ≡ Some after.here.crew) (run_append values turns (turn ∷ []) (opened_world start)) after.here.there in
-            (subst (λ m. EndsKeepWhatWaits m (Path q)) before.here.is (subst (λ m. EndsKeepWhatWaits before.here.crew.member m) (ap (λ (c : ActorCrew Carried). c.member) (same_Some found.0 after.here.crew (sym found.1 ∙ there)) ∙ after.here.is) found.2)) s
-
         by_state : StillComes p → StillComes q
-        by_state (inr acked) = inr (let up = kept.una in omega (arith, acked, up))
+        by_state (inr acked) = inr (let up = (kept turns turn before after s).una in omega (arith, acked, up))
         by_state (inl h) =
             let has = h.0 in
             let item = has.item in
@@ -258,7 +260,7 @@ module _ (start : Start) (plan : PathPlan) (x : BeginsWithOnePath start plan) wh
             ⊎_elim
             (λ gone. inr (let low = gone.1 in let end = same_end r item has.holds in omega (arith, low, end)))
             (λ on. inl (record { at = on.at; item = on.item; there = on.there; holds = same_then r item on.item has.holds on.holds }, there))
-            (kept_one _ (end_at s p).tcp.send.records (end_at s q).tcp.send.records kept.records has.at item has.there)
+            (kept_one _ (end_at s p).tcp.send.records (end_at s q).tcp.send.records (kept turns turn before after s).records has.at item has.there)
 
   module _ (v u : List Turn) (rounds : Rounds start 4 v u) (s : Side) (p q : PathState Carried) (here : IsPathAt 0 (at v) p) (there : IsPathAt 0 (at u) q) (mended : Every (IsWell s p) (end_at s p).tcp.send.records) where
     abbrev r : Side

@@ -1,5 +1,5 @@
 -- A's DATA_FIN is acknowledged, and its FIN sent, only where A may send a DSS: each sign of Multipath TCP comes to it behind a first DSS.
-use Rattle.std.proofs.Common.{◌≡◌, refl, sym, subst, ap, ◌∙◌, ◌⊎◌, inl, inr, ⊎_elim, ℕ, ◌+◌, ◌&&◌, Bool, true, false, true≢false, if◌then◌else◌, Option, Some, None, is_some, List, [], ◌∷◌}
+use Rattle.std.proofs.Common.{◌≡◌, refl, sym, subst, ap, ◌∙◌, ◌⊎◌, inl, inr, ⊎_elim, ℕ, ◌+◌, ◌<◌, arith, ◌&&◌, Bool, true, false, true≢false, if◌then◌else◌, Option, Some, None, is_some, List, [], ◌∷◌}
 use Rattle.std.proofs.lemmas.Bool.{and_parts, both_ways}
 use Rattle.path_segments.specs.Heard.{HeardSegment}
 use Rattle.sides.specs.declared.side.Side.{Side}
@@ -176,48 +176,60 @@ module _ {C : Type 0} (k : Codec C) where
 abbrev own_acked : PathState Carried → Bool
 own_acked p = p.a.sending.close.own_acked
 
+-- with it, how many bytes are acknowledged
+abbrev told_of : PathEnd → Bool × ℕ
+told_of e = (e.sending.close.own_acked, e.sending.heard)
+
+abbrev told : PathState Carried → Bool × ℕ
+told p = told_of p.a
+
 -- what is heard at A's end, and the subflow's acknowledgement
 abbrev acks : Duty → Bool
 acks (duties.Step (step_duties.Heard s index)) = true
 acks (duties.Ask (ask_duties.SubflowAck s)) = true
 acks _ = false
 
-own_unwritten : (d : Duty) → acks d ≡ false → (writes d).own.own_acked ≡ false
+own_unwritten : (d : Duty) → acks d ≡ false → ((writes d).own.own_acked ≡ false) × ((writes d).own.heard ≡ false)
 own_unwritten (duties.Step (step_duties.Heard s index)) none = absurd (true≢false none)
 own_unwritten (duties.Ask (ask_duties.SubflowAck s)) none = absurd (true≢false none)
-own_unwritten (duties.Send (send_duties.Update s)) none = refl
-own_unwritten (duties.Silent (silent_duties.Timer s)) none = refl
-own_unwritten _ none = refl
+own_unwritten (duties.Send (send_duties.Update s)) none = (refl, refl)
+own_unwritten (duties.Silent (silent_duties.Timer s)) none = (refl, refl)
+own_unwritten _ none = (refl, refl)
 
-other_unwritten : (d : Duty) → (writes d).other.own_acked ≡ false
-other_unwritten (duties.Step step_duties.Events) = refl
-other_unwritten d = refl
+other_unwritten : (d : Duty) → ((writes d).other.own_acked ≡ false) × ((writes d).other.heard ≡ false)
+other_unwritten (duties.Step step_duties.Events) = (refl, refl)
+other_unwritten d = (refl, refl)
+
+both_told : (e f : PathEnd) → f.sending.close.own_acked ≡ e.sending.close.own_acked → f.sending.heard ≡ e.sending.heard → told_of f ≡ told_of e
+both_told e f acked heard = ap (λ b. (b, f.sending.heard)) acked ∙ ap (λ n. (e.sending.close.own_acked, n)) heard
 
 -- at A's end, by the duties of the other one, and by the most of its own
-same_acked : (d : Duty) (p q : PathState Carried) → (side_of d ≡ A → acks d ≡ false) → OnlyAt (side_of d) (writes d) p q → own_acked q ≡ own_acked p
+same_acked : (d : Duty) (p q : PathState Carried) → (side_of d ≡ A → acks d ≡ false) → OnlyAt (side_of d) (writes d) p q → told q ≡ told p
 same_acked d p q none x = ⊎_elim
-    (λ own. subst (λ t. (end_at t q).sending.close.own_acked ≡ (end_at t p).sending.close.own_acked) own
-    (unwritten (writes d).own.own_acked (end_at (side_of d) p).sending.close.own_acked (end_at (side_of d) q).sending.close.own_acked (own_unwritten d (none own))
-    (ap (λ (v : EndView). v.own_acked) (own_only (side_of d) (writes d) p q x).same)))
-    (λ away. subst (λ t. (end_at t q).sending.close.own_acked ≡ (end_at t p).sending.close.own_acked) away
-    (unwritten (writes d).other.own_acked (end_at (peer (side_of d)) p).sending.close.own_acked (end_at (peer (side_of d)) q).sending.close.own_acked (other_unwritten d)
-    (ap (λ (v : EndView). v.own_acked) (ap (λ (v : PathView Carried). v.other) x.same))))
+    (λ own. subst (λ t. told_of (end_at t q) ≡ told_of (end_at t p)) own
+    (let view = (own_only (side_of d) (writes d) p q x).same in let kept = own_unwritten d (none own) in both_told (end_at (side_of d) p) (end_at (side_of d) q)
+    (unwritten (writes d).own.own_acked (end_at (side_of d) p).sending.close.own_acked (end_at (side_of d) q).sending.close.own_acked kept.0 (ap (λ (v : EndView). v.own_acked) view))
+    (unwritten (writes d).own.heard (end_at (side_of d) p).sending.heard (end_at (side_of d) q).sending.heard kept.1 (ap (λ (v : EndView). v.heard) view))))
+    (λ away. subst (λ t. told_of (end_at t q) ≡ told_of (end_at t p)) away
+    (let view = ap (λ (v : PathView Carried). v.other) x.same in let kept = other_unwritten d in both_told (end_at (peer (side_of d)) p) (end_at (peer (side_of d)) q)
+    (unwritten (writes d).other.own_acked (end_at (peer (side_of d)) p).sending.close.own_acked (end_at (peer (side_of d)) q).sending.close.own_acked kept.0 (ap (λ (v : EndView). v.own_acked) view))
+    (unwritten (writes d).other.heard (end_at (peer (side_of d)) p).sending.heard (end_at (peer (side_of d)) q).sending.heard kept.1 (ap (λ (v : EndView). v.heard) view))))
     (sides A (side_of d))
 
-item_acked : (o : Option Heard) (e : PathEnd) → (item_passed A o e).sending.close.own_acked ≡ e.sending.close.own_acked
+item_acked : (o : Option Heard) (e : PathEnd) → told_of (item_passed A o e) ≡ told_of e
 item_acked None e = refl
-item_acked (Some (says.Mapping fin)) e = elim (counts e) as (λ b. (if b then with_learned e else with_skipped e).sending.close.own_acked ≡ e.sending.close.own_acked) [ true ↦ refl | false ↦ refl ]
-item_acked (Some (says.DataFin place)) e = elim (counts e) as (λ b. (if b then with_data_fin place e else e).sending.close.own_acked ≡ e.sending.close.own_acked) [ true ↦ refl | false ↦ refl ]
+item_acked (Some (says.Mapping fin)) e = elim (counts e) as (λ b. told_of (if b then with_learned e else with_skipped e) ≡ told_of e) [ true ↦ refl | false ↦ refl ]
+item_acked (Some (says.DataFin place)) e = elim (counts e) as (λ b. told_of (if b then with_data_fin place e else e) ≡ told_of e) [ true ↦ refl | false ↦ refl ]
 item_acked (Some _) e = refl
 
-passed_acked : (d : Duty) (p : PathState Carried) → own_acked (passed d p) ≡ own_acked p
+passed_acked : (d : Duty) (p : PathState Carried) → told (passed d p) ≡ told p
 passed_acked (duties.Step (step_duties.Heard A index)) p = item_acked (item_of index p.a) p.a
 passed_acked (duties.Step (step_duties.Heard B index)) p = refl
 passed_acked (duties.Ask (ask_duties.SubflowAck s)) p = refl
 passed_acked (duties.Step step_duties.Events) p = refl
 passed_acked d p = same_acked d p (passed d p) (λ own. refl) (passes_no_more d p)
 
-acked_lasts : Lasts {C = Carried} (λ p q. own_acked q ≡ own_acked p)
+acked_lasts : Lasts {C = Carried} (λ p q. told q ≡ told p)
 acked_lasts = record { agenda = λ ds p. refl; chains = λ p q r x y. y ∙ x; passes = λ d p. passed_acked d p }
 
 -- what a copy says to A's end, which may send no DSS yet, is nothing that a DSS says
@@ -232,24 +244,24 @@ module _ (index : ℕ) (ds : List Duty) (r : Reply) (p : PathState Carried) (abo
       unled u.n p.a.treated.items item leads.led (unheard x u.n above u.none) (subst (λ n. item_at n p.a.treated.items ≡ Some item) u.follows.0 is))
       leads.clear
 
-  thing_acked : (item : Heard) → IsLed false item → own_acked (answered_heard values A item r x) ≡ own_acked x
+  thing_acked : (item : Heard) → IsLed false item → told (answered_heard values A item r x) ≡ told x
   thing_acked (says.DataAck next window) led = absurd (true≢false (sym led))
   thing_acked (says.Mapping fin) led = absurd (true≢false (sym led))
   thing_acked (says.DataFin place) led = absurd (true≢false (sym led))
   thing_acked (says.InfiniteMapping place position) led = absurd (true≢false (sym led))
   thing_acked (says.Keys own other) led = refl
   thing_acked (says.Notice notice) led = refl
-  thing_acked says.Fail led = fail_answered_so (λ q. own_acked q ≡ own_acked x) A r x refl refl
+  thing_acked says.Fail led = fail_answered_so (λ q. told q ≡ told x) A r x refl refl
   thing_acked _ led = refl
 
-  things_acked : Leads (duties.Step (step_duties.Heard A index) ∷ ds) x → (o : Option Heard) → item_at index p.a.treated.items ≡ o → own_acked (answered_item values A o r x) ≡ own_acked x
+  things_acked : Leads (duties.Step (step_duties.Heard A index) ∷ ds) x → (o : Option Heard) → item_at index p.a.treated.items ≡ o → told (answered_item values A o r x) ≡ told x
   things_acked leads None is = refl
   things_acked leads (Some item) is = thing_acked item (is_led leads item is)
 
-  heard_acked : Leads (duties.Step (step_duties.Heard A index) ∷ ds) x → own_acked (answered_item values A (item_of index p.a) r x) ≡ own_acked x
+  heard_acked : Leads (duties.Step (step_duties.Heard A index) ∷ ds) x → told (answered_item values A (item_of index p.a) r x) ≡ told x
   heard_acked leads = by p.a.modes.identity above
     where
-      by : (b : Bool) → b ≡ false → own_acked (answered_item values A (if b then None else item_at index p.a.treated.items) r x) ≡ own_acked x
+      by : (b : Bool) → b ≡ false → told (answered_item values A (if b then None else item_at index p.a.treated.items) r x) ≡ told x
       by true is = absurd (true≢false is)
       by false is = things_acked leads (item_at index p.a.treated.items) refl
 
@@ -261,10 +273,11 @@ plain_none_next e identity infinite = rw (identity, infinite) refl
 pub record EndsClear (p : PathState Carried) : Type 0 where
   pub leads : LeadsWell p
   pub acked : own_acked p ≡ true → p.a.modes.clear ≡ true
+  pub heard : 0 < p.a.sending.heard → p.a.modes.clear ≡ true
   pub ended : is_ending p.a.tcp.state ≡ true → p.a.modes.clear ≡ true
 
 module _ (p : PathState Carried) (maps : EndsGoByMappings p) (unclear : p.a.modes.clear ≡ false) where
-  answered_acked : (d : Duty) (ds : List Duty) (r : Reply) → let x : PathState Carried = with_agenda (d ∷ ds) p in stands d x ≡ true → Leads (d ∷ ds) x → own_acked (answered values d r x) ≡ own_acked x
+  answered_acked : (d : Duty) (ds : List Duty) (r : Reply) → let x : PathState Carried = with_agenda (d ∷ ds) p in stands d x ≡ true → Leads (d ∷ ds) x → told (answered values d r x) ≡ told x
   answered_acked (duties.Step (step_duties.Heard A index)) ds r due leads = heard_acked index ds r p (maps A).identity unclear leads
   answered_acked (duties.Ask (ask_duties.SubflowAck A)) ds r due leads =
       absurd (true≢false (sym (and_parts (is_some (plain_next p.a)) _ due).0 ∙ ap is_some (plain_none_next p.a (maps A).identity (maps A).own)))
@@ -274,14 +287,14 @@ module _ (p : PathState Carried) (maps : EndsGoByMappings p) (unclear : p.a.mode
       let d : Duty = duties.Ask (ask_duties.SubflowAck B) in let x : PathState Carried = with_agenda (d ∷ ds) p in same_acked d x (answered values d r x) (λ own. cc) (writes_no_more values d r x)
   answered_acked d ds r due leads = let x : PathState Carried = with_agenda (d ∷ ds) p in same_acked d x (answered values d r x) (λ own. refl) (writes_no_more values d r x)
 
-  takes_acked : (r : Reply) → FirstStands p.agenda p → LeadsWell p → own_acked (takes values r p) ≡ own_acked p
+  takes_acked : (r : Reply) → FirstStands p.agenda p → LeadsWell p → told (takes values r p) ≡ told p
   takes_acked r = by p.agenda
     where
-      by : (ds : List Duty) → FirstStands ds (with_agenda ds p) → Leads ds (with_agenda ds p) → own_acked (takes values r (with_agenda ds p)) ≡ own_acked p
+      by : (ds : List Duty) → FirstStands ds (with_agenda ds p) → Leads ds (with_agenda ds p) → told (takes values r (with_agenda ds p)) ≡ told p
       by [] due leads = refl
       by (d ∷ ds) due leads =
           let x : PathState Carried = with_agenda (d ∷ ds) p in let q : PathState Carried = answered values d r x in
-          settled_lasts (λ p q. own_acked q ≡ own_acked p) acked_lasts q.agenda q ∙ answered_acked d ds r due leads
+          settled_lasts (λ p q. told q ≡ told p) acked_lasts q.agenda q ∙ answered_acked d ds r due leads
 
 module _ (start : Start) (p : PathState Carried) (g : Given start p) (h : PathMet p) (maps : EndsGoByMappings p) (c : EndsClear p) where
   unacked : p.a.modes.clear ≡ false → own_acked p ≡ true → ⊥
@@ -307,12 +320,17 @@ module _ (start : Start) (p : PathState Carried) (g : Given start p) (h : PathMe
       record {
         leads = takes_leads values r p g.upright.passes.settled c.leads;
         acked = λ is. by q on p.a.modes.clear refl is;
+        heard = λ some. by_heard q on p.a.modes.clear refl some;
         ended = λ is. on (⊎_elim (λ was. c.ended was) (λ by. c.acked (ends_by by)) (takes_back values r p A is));
       }
     where
       by : (q : PathState Carried) → (p.a.modes.clear ≡ true → q.a.modes.clear ≡ true) → (b : Bool) → p.a.modes.clear ≡ b → own_acked (takes values r p) ≡ true → q.a.modes.clear ≡ true
       by q on true clear is = on clear
-      by q on false unclear is = absurd (unacked unclear (sym (takes_acked p maps unclear r g.upright.passes.settled c.leads) ∙ is))
+      by q on false unclear is = absurd (unacked unclear (sym (ap (λ (t : Bool × ℕ). t.0) (takes_acked p maps unclear r g.upright.passes.settled c.leads)) ∙ is))
+
+      by_heard : (q : PathState Carried) → (p.a.modes.clear ≡ true → q.a.modes.clear ≡ true) → (b : Bool) → p.a.modes.clear ≡ b → 0 < (takes values r p).a.sending.heard → q.a.modes.clear ≡ true
+      by_heard q on true clear some = on clear
+      by_heard q on false unclear some = on (c.heard (let same = ap (λ (t : Bool × ℕ). t.1) (takes_acked p maps unclear r g.upright.passes.settled c.leads) in omega (arith, some, same)))
 
   next_ends : EndsClear (next_round p)
   next_ends =
@@ -320,7 +338,8 @@ module _ (start : Start) (p : PathState Carried) (g : Given start p) (h : PathMe
       let on = (next_clear p).a.0 in
       record {
         leads = next_leads p c.leads;
-        acked = λ is. on (c.acked (sym (begins_lasts (λ p q. own_acked q ≡ own_acked p) acked_lasts q) ∙ is));
+        acked = λ is. on (c.acked (sym (ap (λ (t : Bool × ℕ). t.0) (begins_lasts (λ p q. told q ≡ told p) acked_lasts q)) ∙ is));
+        heard = λ some. on (c.heard (let same = ap (λ (t : Bool × ℕ). t.1) (begins_lasts (λ p q. told q ≡ told p) acked_lasts q) in omega (arith, some, same)));
         ended = λ is. on (c.ended ((next_back values p).back is));
       }
 
@@ -331,7 +350,8 @@ opened_ends start number plan =
     let p : PathState Carried = waiting_path (path_begins start number plan) start.lines in
     record {
       leads = begins_lead p (record { led = tt; clear = inr (record { n = 0; none = inr tt; follows = tt }) });
-      acked = λ is. absurd (true≢false (sym is ∙ begins_lasts (λ p q. own_acked q ≡ own_acked p) acked_lasts p));
+      acked = λ is. absurd (true≢false (sym is ∙ ap (λ (t : Bool × ℕ). t.0) (begins_lasts (λ p q. told q ≡ told p) acked_lasts p)));
+      heard = λ some. absurd (let same = ap (λ (t : Bool × ℕ). t.1) (begins_lasts (λ p q. told q ≡ told p) acked_lasts p) in omega (arith, some, same));
       ended = λ is. absurd (true≢false (sym ((at_end Back (begins_lasts (AllKept Back) (back_lasts values) p) A).back is) ∙ unsent (path_begins start number plan).joined_at));
     }
   where

@@ -20,7 +20,8 @@ use Rattle.world_laws.specs.Laws.{Always}
 use Rattle.world_laws.specs.Members.{HoldsOfKind}
 use Rattle.whole_paths.specs.Finish.{is_harmed}
 use Rattle.whole_paths.specs.Harms.{as_it_arrives}
-use Rattle.whole_paths.specs.Mending.{CopiesAreNumbered, IsSentSoon, LinksAreNumbered, SegmentsComeSoon, WhatIsSentComesSoon}
+use Rattle.whole_paths.specs.Copies.{CopiesAreNumbered, LinksAreNumbered}
+use Rattle.whole_paths.specs.Mending.{IsSentSoon, SegmentsComeSoon, WhatIsSentComesSoon}
 use Rattle.whole_paths.specs.Unharmed.{ComesUnharmed}
 use Rattle.whole_paths.proofs.Arrivals.{sender_of}
 use Rattle.whole_paths.proofs.Due.{LinkIs, LinkMember, each_link, with_all}
@@ -77,6 +78,8 @@ module _ {C : Type 0} where
       soon = h.holds.soon;
       stripped = is_stripped s number p.clock p.link.lines;
       altered = is_altered s number p.link.lines;
+      strips_it = refl;
+      alters_it = refl;
       whole = λ strips. strips.strips s number p.clock;
       plain = λ alters. alters.alters s number;
       carried = each_carries.each h.at h.item h.there h.holds.to (h.holds.number ∙ count_is);

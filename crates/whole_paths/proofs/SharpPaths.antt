@@ -1,48 +1,54 @@
 -- With debts along both directions, and others, whole paths deliver both files with `patience`.
-use Rattle.std.proofs.Common.{◌≡◌, refl, subst, ℕ, ◌≤◌, arith, Bool, true, false, List}
+use Rattle.std.proofs.Common.{subst, ℕ, ◌≤◌, arith, List}
 use Rattle.sides.specs.declared.side.Side.{Side}
 use Rattle.sides.specs.declared.side.Side.TheVariants.{A, B}
 use Rattle.path_core.specs.Values.{values}
 use Rattle.world_laws.specs.Openings.{PathPlan, Start}
 use Rattle.world_laws.specs.RoundDone.{reached}
 use Rattle.world_laws.specs.Worlds.{Turn}
+use Rattle.whole_paths.specs.Courses.{harmed_so_far}
 use Rattle.whole_paths.specs.DebtKinds.{MendsBoth, OwesBoth}
-use Rattle.whole_paths.specs.Debts.{AreMended, AwaitsEither, DebtsAreMended}
-use Rattle.whole_paths.specs.DirectionWaits.{MendsAlong, NumbersAgree}
+use Rattle.whole_paths.specs.Debts.{AreMended, AwaitsEither, DebtsAreMendedBy, FewAreOwedBy, MendsSoon, long_wait, one_timeout}
+use Rattle.whole_paths.specs.DirectionWaits.{MendsAlong}
 use Rattle.whole_paths.specs.Directions.{DirectionIsWell, OwesAlong}
 use Rattle.whole_paths.specs.OnePathScripts.{BeginsWithOnePath}
+use Rattle.whole_paths.specs.OpenCourses.{IsOpenAfter}
 use Rattle.whole_paths.specs.SharpCourses.{SharpExchanges}
 use Rattle.whole_paths.specs.SharpPaths.{OwesAll, RestIsMended, SharpPathsEndSo}
 use Rattle.whole_paths.specs.ShortWaits.{WaitsForAUnit}
 use Rattle.whole_paths.specs.UnitRounds.{AreToldSoon, IsAllWell}
-use Rattle.whole_paths.proofs.DebtKinds.{kinds_are_mended_together}
+use Rattle.whole_paths.proofs.Counts.{debts_are_mended_by_more}
+use Rattle.whole_paths.proofs.DebtKinds.{kinds_are_few_together, kinds_are_mended_together}
 use Rattle.whole_paths.proofs.Directions.{what_owes_none_is_well}
 use Rattle.whole_paths.proofs.DirectionsMended.{directions_are_mended}
-use Rattle.whole_paths.proofs.NumbersAgree.{checked_numbers_agree, numbers_agree_so}
-use Rattle.whole_paths.proofs.OpenFirst.{few_as_it_opens_are_few}
-use Rattle.whole_paths.proofs.OpenQuiet.{opens_with_few_so}
+use Rattle.whole_paths.proofs.OpenFirst.{few_along}
 use Rattle.whole_paths.proofs.SharpCourses.{sharp_exchanges_end}
 use Rattle.whole_paths.proofs.ShortWaits.{exchanges_go_on_so}
 use Rattle.whole_paths.proofs.ToldHeard.{what_is_told_is_heard_so}
 
-module _ (start : Start) (plan : PathPlan) (most : ℕ) (Other : ℕ → List Turn → Type 0) (MendsOther : ℕ → ℕ → List Turn → Type 0) where
+module _ (start : Start) (plan : PathPlan) (most : ℕ) (paid count : List Turn → ℕ) (Other : ℕ → List Turn → Type 0) (MendsOther : ℕ → ℕ → List Turn → Type 0) where
+  abbrev Mends : Side → ℕ → ℕ → List Turn → Type 0
+  Mends s = MendsSoon (MendsAlong start s)
+
   abbrev pub MendsAll : ℕ → ℕ → List Turn → Type 0
-  MendsAll = MendsBoth (OwesAlong start A) (MendsAlong start A) (OwesBoth (OwesAlong start B) Other) (MendsBoth (OwesAlong start B) (MendsAlong start B) Other MendsOther)
+  MendsAll = MendsBoth (OwesAlong start A) (Mends A) (OwesBoth (OwesAlong start B) Other) (MendsBoth (OwesAlong start B) (Mends B) Other MendsOther)
 
-  module _ (one : BeginsWithOnePath start plan) (rest : RestIsMended start plan most Other MendsOther) where
-    numbers : (s : Side) → NumbersAgree start s
-    numbers s = by start.checksums refl
-      where
-        by : (b : Bool) → start.checksums ≡ b → NumbersAgree start s
-        by true checked = checked_numbers_agree start plan s one checked
-        by false none = numbers_agree_so start plan s one (rest.whole none s)
+  module _ (one : BeginsWithOnePath start plan) (rest : RestIsMended start plan most paid count Other MendsOther) where
+    along : (s : Side) → DebtsAreMendedBy start plan most count (OwesAlong start s) (Mends s) long_wait
+    along s = debts_are_mended_by_more start plan most one_timeout long_wait (harmed_so_far values start) count (OwesAlong start s) (MendsAlong start s) one.mild rest.counts.harms (omega arith)
+        (directions_are_mended start plan most s one (rest.numbers s))
 
-    along : (s : Side) → DebtsAreMended start plan most (OwesAlong start s) (MendsAlong start s)
-    along s = directions_are_mended start plan most s one (numbers s) (few_as_it_opens_are_few start plan most s one (opens_with_few_so start plan most one rest.records s))
+    few : (s : Side) → FewAreOwedBy start plan most count (OwesAlong start s)
+    few s = few_along start plan most s one count rest.counts.harms (rest.opens s)
 
-    all_mended : DebtsAreMended start plan most (OwesAll start Other) MendsAll
-    all_mended = kinds_are_mended_together start plan most (OwesAlong start A) (MendsAlong start A) (OwesBoth (OwesAlong start B) Other) (MendsBoth (OwesAlong start B) (MendsAlong start B) Other MendsOther) (along A)
-        (kinds_are_mended_together start plan most (OwesAlong start B) (MendsAlong start B) Other MendsOther (along B) rest.others)
+    all_mended : DebtsAreMendedBy start plan most count (OwesAll start Other) MendsAll long_wait
+    all_mended = kinds_are_mended_together start plan most long_wait count (OwesAlong start A) (Mends A) (OwesBoth (OwesAlong start B) Other) (MendsBoth (OwesAlong start B) (Mends B) Other MendsOther)
+        one.mild rest.counts.harms (along A)
+        (kinds_are_mended_together start plan most long_wait count (OwesAlong start B) (Mends B) Other MendsOther one.mild rest.counts.harms (along B) rest.others)
+
+    all_few : FewAreOwedBy start plan most count (OwesAll start Other)
+    all_few = kinds_are_few_together start plan most count (OwesAlong start A) (OwesBoth (OwesAlong start B) Other) (few A)
+        (kinds_are_few_together start plan most count (OwesAlong start B) Other (few B) rest.few)
 
     none_of : (Owes : ℕ → List Turn → Type 0) (n m : ℕ) (turns : List Turn) → n ≤ m → m ≤ 0 → Owes n turns → Owes 0 turns
     none_of Owes n m turns low none owes = subst (λ k. Owes k turns) (omega (arith, low, none)) owes
@@ -61,10 +67,18 @@ module _ (start : Start) (plan : PathPlan) (most : ℕ) (Other : ℕ → List Tu
       told_soon : (s : Side) → AreToldSoon start s turns
       told_soon s = let is = along_well s in record { path = is.path; here = is.here; told = is.told }
 
-    pub exchanges : SharpExchanges start plan most (AreMended start plan most (OwesAll start Other)) (AwaitsEither start plan most (OwesAll start Other) MendsAll (WaitsForAUnit start plan (OwesAll start Other)))
-    exchanges = exchanges_go_on_so start plan most (OwesAll start Other) MendsAll one all_mended all_well (what_is_told_is_heard_so start plan (OwesAll start Other 0) one told_soon rest.hears)
+    pub exchanges : SharpExchanges start plan paid most (AreMended start plan most count (OwesAll start Other))
+        (AwaitsEither start plan most count (OwesAll start Other) MendsAll (WaitsForAUnit start plan count (OwesAll start Other)))
+    exchanges = exchanges_go_on_so start plan most paid count (OwesAll start Other) MendsAll one rest.counts all_mended all_well
+        (what_is_told_is_heard_so start plan (OwesAll start Other 0) one told_soon rest.hears)
+
+    -- none is mended first
+    pub none_mended : (turns : List Turn) → IsOpenAfter start turns → AreMended start plan most count (OwesAll start Other) 0 turns
+    none_mended turns now = let all = all_few turns now in record { debts = all.debts; owes = all.owes; few = (let low = all.few in omega (arith, low)) }
 
 pub sharp_paths_end_so : SharpPathsEndSo
-sharp_paths_end_so Other MendsOther rests = sharp_exchanges_end (λ start plan most. AreMended start plan most (OwesAll start (Other start)))
-    (λ start plan most. AwaitsEither start plan most (OwesAll start (Other start)) (MendsAll start plan most (Other start) (MendsOther start)) (WaitsForAUnit start plan (OwesAll start (Other start))))
-    (λ start plan most one. exchanges start plan most (Other start) (MendsOther start) one (rests start plan most one))
+sharp_paths_end_so Also paid count Other MendsOther pays rests = sharp_exchanges_end Also paid (λ start plan most. AreMended start plan most (count start) (OwesAll start (Other start)))
+    (λ start plan most. AwaitsEither start plan most (count start) (OwesAll start (Other start)) (MendsAll start plan most (paid start) (count start) (Other start) (MendsOther start)) (WaitsForAUnit start plan (count start) (OwesAll start (Other start))))
+    pays
+    (λ start plan most one also. exchanges start plan most (paid start) (count start) (Other start) (MendsOther start) one (rests start plan most one also))
+    (λ start plan most one also turns now. none_mended start plan most (paid start) (count start) (Other start) (MendsOther start) one (rests start plan most one also) turns now)

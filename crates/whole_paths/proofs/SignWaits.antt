@@ -1,5 +1,5 @@
 -- The waits for the first signs of Multipath TCP go on, turn by turn, or what holds them up is counted.
-use Rattle.std.proofs.Common.{◌≡◌, sym, subst, ap, ◌∙◌, ◌⊎◌, ⊎_elim, inl, inr, ℕ, ◌+◌, ◌<◌, ◌≤◌, arith, true, false, true≢false, IfSome, Some, List, [], ◌∷◌, ◌++◌}
+use Rattle.std.proofs.Common.{◌≡◌, refl, sym, subst, ap, ◌∙◌, ◌⊎◌, ⊎_elim, inl, inr, ℕ, ◌+◌, ◌<◌, ◌≤◌, arith, Bool, true, false, true≢false, IfSome, Some, List, [], ◌∷◌, ◌++◌}
 use Rattle.sides.specs.declared.side.Side.{Side}
 use Rattle.sides.specs.declared.side.Side.TheVariants.{A, B}
 use Rattle.link_model.specs.declared.flight.Flight.{Flight}
@@ -10,51 +10,64 @@ use Rattle.path_agenda.specs.declared.duty.Duty.TheVariants as duties
 use Rattle.path_agenda.specs.declared.duty.SendDuty.TheVariants as send_duties
 use Rattle.path_agenda.specs.declared.heard.Heard.TheVariants as says
 use Rattle.path_core.specs.MpJoin.{is_joined}
+use Rattle.path_core.specs.Profile.{Profile}
 use Rattle.path_core.specs.State.{PathState, end_at}
 use Rattle.path_core.specs.Values.{Carried, values}
 use Rattle.world_laws.specs.Actors.{Actor, is_over}
 use Rattle.world_laws.specs.Members.{HoldsOfKind}
-use Rattle.world_laws.specs.Openings.{Start, opened_world}
+use Rattle.world_laws.specs.Openings.{PathPlan, Start, opened_world}
 use Rattle.world_laws.specs.RoundDone.{EndsAt, reached}
 use Rattle.world_laws.specs.Worlds.{Turn, WorldState, after_turn}
 use Rattle.world_laws.proofs.Rounds.DoneByTheEnd.{rounds_end_on_time}
 use Rattle.world_laws.proofs.Rounds.Lifting.{all_over_each}
 use Rattle.world_laws.proofs.Weaving.WholeRounds.{run_append}
-use Rattle.whole_paths.specs.Courses.{counted, round_end}
+use Rattle.whole_paths.specs.AsFar.{stage}
+use Rattle.whole_paths.specs.Clear.{IsPastIfClear}
+use Rattle.whole_paths.specs.Courses.{round_end}
 use Rattle.whole_paths.specs.DataAcksHeard.{IsToHear}
-use Rattle.whole_paths.specs.Exchanges.{IsHeldUp}
 use Rattle.whole_paths.specs.Expiries.{IsToSendAgain}
 use Rattle.whole_paths.specs.Finish.{IsPathAt}
 use Rattle.whole_paths.specs.FirstPieces.{FirstPieceGoesOn, FirstPiecesBegin, FirstPiecesGoOn, IsFirstPieceAwaited}
 use Rattle.whole_paths.specs.FirstPieces.{FirstPieceGoesOn as pieces}
 use Rattle.whole_paths.specs.FirstPieces.IsFirstPieceAwaited.{comes, hears}
-use Rattle.whole_paths.specs.FirstSigns.{SignGoesOn, SignsAreDue, SignsBegin, SignsGoOn}
+use Rattle.whole_paths.specs.FirstSigns.{IsSignAwaited, SignGoesOn, SignsAreDue, SignsBegin, SignsGoOn}
 use Rattle.whole_paths.specs.FirstSigns.{SignGoesOn as signs}
-use Rattle.whole_paths.specs.Flights.{IsOnItsWay}
+use Rattle.whole_paths.specs.Flights.{IsOnItsWay, IsSentSo}
 use Rattle.whole_paths.specs.Flights.{IsOnItsWay as ways}
-use Rattle.whole_paths.specs.Harms.{longest_way}
 use Rattle.whole_paths.specs.InTime.{ComesFrom}
-use Rattle.whole_paths.specs.Mild.{IsMildStart}
-use Rattle.whole_paths.specs.OpenCourses.{HoldUpsCount, IsNow}
+use Rattle.whole_paths.specs.OnePathScripts.{BeginsWithOnePath}
+use Rattle.whole_paths.specs.OpenCourses.{IsNow}
+use Rattle.whole_paths.specs.Opened.{OpensOn, opened_or_harmed}
+use Rattle.whole_paths.specs.Opened.{OpensOn as opens}
+use Rattle.whole_paths.specs.OpeningConfirmed.{IsBehind}
 use Rattle.whole_paths.specs.OpeningConfirmed.{IsConfirmed as sure}
 use Rattle.whole_paths.specs.OpeningWaits.{AliveOpens, AliveSteps, IsAlive, IsAliveAfter}
+use Rattle.whole_paths.specs.SignPieces.{IsSignPieceAwaited, ShowsADss, SignPieceGoesOn, SignPiecesBegin, SignPiecesGoOn}
+use Rattle.whole_paths.specs.SignPieces.{SignPieceGoesOn as sign_pieces}
 use Rattle.whole_paths.specs.SignWaits.{AwaitsFirstSign, FirstSignsAreAwaited, IsFirstSignAwaited, IsToShow}
 use Rattle.whole_paths.specs.SignWaits.{IsFirstSignAwaited as first_sign}
 use Rattle.whole_paths.specs.SignWaits.{IsToShow as shows}
 use Rattle.whole_paths.specs.Timers.{TimersAreNear}
-use Rattle.whole_paths.proofs.Counted.{what_holds_up_counts}
+use Rattle.whole_paths.proofs.Clearing.{clear_ends_are_past}
 use Rattle.whole_paths.proofs.Exchanges.{all_at}
 use Rattle.whole_paths.proofs.FirstPieces.{each_first_piece_comes}
 use Rattle.whole_paths.proofs.FirstSigns.{each_first_sign_comes}
 use Rattle.whole_paths.proofs.InTime.{nil_so, nothing_is_overdue}
-use Rattle.whole_paths.proofs.RecordWaits.{counts_so, here, path_is, with_both}
-use Rattle.whole_paths.proofs.RoundBegins.{no_round_counts}
+use Rattle.whole_paths.proofs.Opened.{edge_first, far, first_of_b, no_round_opens, opens_so, there}
+use Rattle.whole_paths.proofs.RecordWaits.{path_is, with_both}
+use Rattle.whole_paths.proofs.SignPieces.{each_sign_piece_comes}
 use Rattle.whole_paths.proofs.Syns.{apart}
 use Rattle.whole_paths.proofs.Timing.{timers_run_out}
 
 -- ---- a turn
 
-module _ (start : Start) (mild : IsMildStart start) (turns : List Turn) (turn : Turn) where
+-- what didn't go yet may go as it is to
+ungone_so : (c : Profile) (r : Record) (x : ℕ) (q : PathState Carried) (w : IsOnItsWay values B r x q) → IsSentSo (λ sender stripped altered. ⊥) w → IsSentSo (ShowsADss c r) w
+ungone_so c r x q (ways.waits tick low runs first) so = tt
+ungone_so c r x q (ways.resends low is first) so = tt
+ungone_so c r x q (ways.flies f low there copy) so = absurd so
+
+module _ (start : Start) (plan : PathPlan) (begins : BeginsWithOnePath start plan) (turns : List Turn) (turn : Turn) where
   abbrev w : WorldState Carried
   w = reached values start turns
 
@@ -62,37 +75,56 @@ module _ (start : Start) (mild : IsMildStart start) (turns : List Turn) (turn : 
   v = after_turn values turn w
 
   abbrev Rises : Type 0
-  Rises = counted values start turns < counted values start (turns ++ turn ∷ [])
+  Rises = opened_or_harmed start turns < opened_or_harmed start (turns ++ turn ∷ [])
 
-  module _ (before : IsNow IsAlive w) (after : IsNow IsAlive v) where
+  module _ (before : IsNow IsAlive w) (after : IsNow IsAlive v) (sent : 1 ≤ stage before.path.a.tcp.state) where
     abbrev p : PathState Carried
     p = before.path
 
     abbrev q : PathState Carried
     q = after.path
 
-    abbrev HoldUps : Actor Carried → Actor Carried → Type 0
-    HoldUps m n = HoldUpsCount Rises m n
-
-    held_counts : (s : Side) → IsHeldUp s p q → Rises
-    held_counts s h = here start mild turns turn before after HoldUps
-        (what_holds_up_counts start turns turn before.here.crew after.here.crew before.here.there after.here.there) before.is_open.living after.is_open.living before.few s h
+    opened : OpensOn p q → Rises
+    opened = opens_so start plan begins turns turn before after sent
 
     piece_by : (x : ℕ) → FirstPieceGoesOn x p q → Rises ⊎ IsFirstSignAwaited x q
     piece_by x (pieces.on h) = inr (first_sign.piece h)
-    piece_by x (pieces.counts h) = inl (counts_so start mild turns turn before after h)
-    piece_by x (pieces.held_up s h) = inl (held_counts s h)
+    piece_by x (pieces.opens h) = inl (opened h)
 
-    end_by : (x : ℕ) → SignGoesOn x p q → Rises ⊎ IsFirstSignAwaited x q
-    end_by x (signs.on h) = inr (first_sign.end h)
-    end_by x (signs.counts h) = inl (counts_so start mild turns turn before after h)
-    end_by x (signs.held_up s h) = inl (held_counts s h)
+    sign_by : (x : ℕ) → SignPieceGoesOn x p q → Rises ⊎ IsFirstSignAwaited x q
+    sign_by x (sign_pieces.on h) = inr (first_sign.sign h)
+    sign_by x (sign_pieces.opens h) = inl (opened h)
+
+    unclear_before : (x : ℕ) → IsSignAwaited x p → p.a.modes.clear ≡ false
+    unclear_before x (IsSignAwaited.comes unclear high waits h so) = unclear
+    unclear_before x (IsSignAwaited.hears unclear h) = unclear
+
+    end_by : (x : ℕ) → p.a.modes.clear ≡ false → SignGoesOn x p q → Rises ⊎ IsFirstSignAwaited x q
+    end_by x unclear (signs.on h) = inr (first_sign.end h)
+    end_by x unclear (signs.opens h) = inl (opened h)
+    end_by x unclear (signs.record_waits clear high r is_first way ungone) = by q.a.modes.clear refl
+      where
+        by : (b : Bool) → q.a.modes.clear ≡ b → Rises ⊎ IsFirstSignAwaited x q
+        by true is = inl (opened (opens.clears A unclear is))
+        by false still =
+            let at = there start plan begins turns turn before after in
+            let past = (subst (HoldsOfKind (λ app. Unit {0}) IsPastIfClear) at.is (clear_ends_are_past values start (turns ++ turn ∷ []) 2 at.crew at.there)) after.faithful.joined B clear in
+            let piece = first_of_b start plan begins (turns ++ turn ∷ []) q at after.is_open still past r is_first in
+            inr (first_sign.sign (IsSignPieceAwaited.comes (record {
+              unclear = still;
+              high = high;
+              clear = clear;
+              met = omega (arith, past);
+              edge = edge_first start plan begins (turns ++ turn ∷ []) q at after.is_open A still;
+            }) r piece.0 piece.1 way (ungone_so q.profile r x q way ungone)))
 
     goes_on : (x : ℕ) → IsFirstSignAwaited x p → Rises ⊎ IsFirstSignAwaited x q
-    goes_on x (first_sign.piece h) = piece_by x (with_both start mild turns turn before after FirstPiecesGoOn
-        (each_first_piece_comes.goes_on start turns mild turn 2 before.here.crew before.here.there) before.faithful before.few x h)
-    goes_on x (first_sign.end h) = end_by x (with_both start mild turns turn before after SignsGoOn
-        (each_first_sign_comes.goes_on start turns mild turn 2 before.here.crew before.here.there) before.faithful before.few x h)
+    goes_on x (first_sign.piece h) = piece_by x (with_both start begins.mild turns turn before after FirstPiecesGoOn
+        (each_first_piece_comes.goes_on start turns begins.mild turn 2 before.here.crew before.here.there) before.faithful before.few x h)
+    goes_on x (first_sign.sign h) = sign_by x (with_both start begins.mild turns turn before after SignPiecesGoOn
+        (each_sign_piece_comes.goes_on start turns begins.mild turn 2 before.here.crew before.here.there) before.faithful before.few x h)
+    goes_on x (first_sign.end h) = end_by x (unclear_before x h) (with_both start begins.mild turns turn before after SignsGoOn
+        (each_first_sign_comes.goes_on start turns begins.mild turn 2 before.here.crew before.here.there) before.faithful before.few x h)
 
 -- ---- in time
 
@@ -116,20 +148,28 @@ piece_due p over past x late (hears unsure (sure.clear is)) = true≢false (sym 
 piece_due p over past x late (hears unsure (sure.by_dss own h)) = apart (sym own)
 piece_due p over past x late (hears unsure (sure.by_keys own other none h)) = subst (λ ds. IsToHear B (says.Keys own other) p.b.treated.items ds) over h
 
+sign_due : (p : PathState Carried) → p.agenda ≡ [] → ComesFrom p.until p → (x : ℕ) → x < p.until → IsSignPieceAwaited x p → ⊥
+sign_due p over past x late (IsSignPieceAwaited.comes wants r kind at next so) = let low = on_its_way p B r x over past next in omega (arith, low, late)
+sign_due p over past x late (IsSignPieceAwaited.hears unclear (sure.clear is)) = true≢false (sym is ∙ unclear)
+sign_due p over past x late (IsSignPieceAwaited.hears unclear (sure.by_dss own h)) = subst (λ ds. IsBehind A says.Dss p.a.treated.items ds) over h
+sign_due p over past x late (IsSignPieceAwaited.hears unclear (sure.by_keys own other none h)) = subst (λ ds. IsToHear A (says.Keys own other) p.a.treated.items ds) over h
+
 -- ---- waits
 
-module _ (start : Start) (most : ℕ) (mild : IsMildStart start) where
+module _ (start : Start) (plan : PathPlan) (most : ℕ) (begins : BeginsWithOnePath start plan) where
   abbrev GoesOn : ℕ → List Turn → List Turn → Type 0
-  GoesOn x v u = (counted values start v < counted values start u) ⊎ AwaitsFirstSign start x u
+  GoesOn x v u = (opened_or_harmed start v < opened_or_harmed start u) ⊎ AwaitsFirstSign start x u
 
   turn_on : (x : ℕ) (v : List Turn) (turn : Turn) → IsAliveAfter start most v → IsAliveAfter start most (v ++ turn ∷ []) → AwaitsFirstSign start x v → GoesOn x v (v ++ turn ∷ [])
   turn_on x v turn before after h =
       let same = run_append values v (turn ∷ []) (opened_world start) in
       let then_now : IsNow IsAlive (after_turn values turn (reached values start v)) = subst (λ (y : WorldState Carried). IsNow IsAlive y) same after in
       let there : IsPathAt 0 (reached values start (v ++ turn ∷ [])) then_now.path = subst (λ (y : WorldState Carried). IsPathAt 0 y then_now.path) (sym same) then_now.here in
+      let path_same = path_is (reached values start v) h.path before.path h.here before.here in
+      let sent : 1 ≤ stage before.path.a.tcp.state = subst (λ (p : PathState Carried). 1 ≤ stage p.a.tcp.state) path_same h.sent in
       ⊎_elim (λ rises. inl rises)
-      (λ waits. inr (record { path = then_now.path; here = there; by = h.by; soon = h.soon; waits = waits }))
-      (goes_on start mild v turn before then_now h.by (subst (IsFirstSignAwaited h.by) (path_is (reached values start v) h.path before.path h.here before.here) h.waits))
+      (λ waits. inr (record { path = then_now.path; here = there; by = h.by; soon = h.soon; sent = (let up = (far start plan begins v turn before then_now).a.subflow.state in omega (arith, sent, up)); waits = waits }))
+      (goes_on start plan begins v turn before then_now sent h.by (subst (IsFirstSignAwaited h.by) path_same h.waits))
 
   steps_on : (x : ℕ) (v u : List Turn) → AliveSteps start most v u → AwaitsFirstSign start x v → GoesOn x v u
   steps_on x v u step h = subst (λ t. GoesOn x v t) (sym step.is) (turn_on x v (Turn.Step step.actor) step.before (subst (IsAliveAfter start most) step.is step.after) h)
@@ -157,13 +197,17 @@ module _ (start : Start) (most : ℕ) (mild : IsMildStart start) where
 
     none_late : (x : ℕ) → x < path.until → IsFirstSignAwaited x path → ⊥
     none_late x late (first_sign.piece h) = piece_due path silent (past silent) x late h
+    none_late x late (first_sign.sign h) = sign_due path silent (past silent) x late h
     none_late x late (first_sign.end h) = (subst (HoldsOfKind (λ app. Unit {0}) SignsAreDue) at.is (each_first_sign_comes.due start v 2 at.crew at.there)) silent x late h
 
     pieces_begin : FirstPiecesBegin path
-    pieces_begin = subst (HoldsOfKind (λ app. Unit {0}) FirstPiecesBegin) at.is (each_first_piece_comes.begin start v mild 2 at.crew at.there)
+    pieces_begin = subst (HoldsOfKind (λ app. Unit {0}) FirstPiecesBegin) at.is (each_first_piece_comes.begin start v begins.mild 2 at.crew at.there)
+
+    sign_pieces_begin : SignPiecesBegin path
+    sign_pieces_begin = subst (HoldsOfKind (λ app. Unit {0}) SignPiecesBegin) at.is (each_sign_piece_comes.begin start v begins.mild 2 at.crew at.there)
 
     signs_begin : SignsBegin path
-    signs_begin = subst (HoldsOfKind (λ app. Unit {0}) SignsBegin) at.is (each_first_sign_comes.begin start v mild 2 at.crew at.there)
+    signs_begin = subst (HoldsOfKind (λ app. Unit {0}) SignsBegin) at.is (each_first_sign_comes.begin start v begins.mild 2 at.crew at.there)
 
     same_now : path ≡ step.before.path
     same_now = path_is ended path step.before.path at step.before.here
@@ -174,33 +218,26 @@ module _ (start : Start) (most : ℕ) (mild : IsMildStart start) where
     first : is_joined path.profile ≡ false
     first = subst (λ (p : PathState Carried). is_joined p.profile ≡ false) (sym same_now) step.before.faithful.joined
 
-    waiting : (way : ℕ) → longest_way A path.link + longest_way B path.link ≤ way → IsToShow path → AwaitsFirstSign start (round_end values start v + (60000 + way)) v
-    waiting way low (shows.piece r others is kind pos high unclear unsure there edge) = record {
-      path = path;
-      here = at;
-      by = path.clock + 60000 + longest_way A path.link;
-      soon = let clock = near.clock in omega (arith, low, clock, until);
-      waits = first_sign.piece (pieces_begin silent first (living A) r others is kind pos high unclear unsure there edge);
-    }
-    waiting way low (shows.end opened none unclear high waits) = record {
-      path = path;
-      here = at;
-      by = path.clock + 60000 + longest_way B path.link;
-      soon = let clock = near.clock in omega (arith, low, clock, until);
-      waits = first_sign.end (signs_begin silent opened none unclear high waits);
-    }
+    -- such a wait begins
+    wait : (sent : 1 ≤ stage path.a.tcp.state) → IsFirstSignAwaited (path.clock + 60000 + 400) path → AwaitsFirstSign start (round_end values start v + 60800) v
+    wait sent waits = record { path = path; here = at; by = path.clock + 60000 + 400; soon = (let clock = near.clock in omega (arith, clock, until)); sent = sent; waits = waits }
 
-    wait_begins : (way : ℕ) → longest_way A path.link + longest_way B path.link ≤ way → IsToShow path → AwaitsFirstSign start (round_end values start v + (60000 + way)) u
-    wait_begins way low to_show = ⊎_elim
-        (λ rises. absurd (let same = ap (counted values start) step.is ∙ no_round_counts start v step.over in omega (arith, rises, same)))
+    waiting : IsToShow path → AwaitsFirstSign start (round_end values start v + 60800) v
+    waiting (shows.piece r others is kind pos high unclear unsure there edge) = wait (omega (arith, high)) (first_sign.piece (pieces_begin silent first (living A) r others is kind pos high unclear unsure there edge))
+    waiting (shows.sign wants r others is kind pos) = wait (let high = wants.high in omega (arith, high)) (first_sign.sign (sign_pieces_begin silent (living B) wants r others is kind pos))
+    waiting (shows.end opened none unclear high waits) = wait (omega (arith, high)) (first_sign.end (signs_begin silent opened none unclear high waits))
+
+    wait_begins : IsToShow path → AwaitsFirstSign start (round_end values start v + 60800) u
+    wait_begins to_show = ⊎_elim
+        (λ rises. absurd (no_round_opens start plan begins most v u step rises))
         (λ waits. waits)
-        (opens_on (round_end values start v + (60000 + way)) v u step (waiting way low to_show))
+        (opens_on (round_end values start v + 60800) v u step (waiting to_show))
 
 pub first_signs_are_awaited : FirstSignsAreAwaited
-first_signs_are_awaited start most mild = record {
-  begins = λ way v u step h. wait_begins start most mild v u step h.path h.here way h.near h.shows;
-  on = λ x v u step h. steps_on start most mild x v u step h;
-  next = λ x v u step h. opens_on start most mild x v u step h;
-  due = λ x v u step h late. none_late start most mild v u step h.path h.here h.by
-      (let end = until start most mild v u step h.path h.here in let soon = h.soon in omega (arith, end, soon, late)) h.waits;
+first_signs_are_awaited start plan most begins = record {
+  begins = λ v u step h. wait_begins start plan most begins v u step h.path h.here h.shows;
+  on = λ x v u step h. steps_on start plan most begins x v u step h;
+  next = λ x v u step h. opens_on start plan most begins x v u step h;
+  due = λ x v u step h late. none_late start plan most begins v u step h.path h.here h.by
+      (let end = until start plan most begins v u step h.path h.here in let soon = h.soon in omega (arith, end, soon, late)) h.waits;
 }

@@ -41,7 +41,6 @@ use Rattle.whole_paths.specs.Exchanges.{IsBareWithin, IsFaithful}
 use Rattle.whole_paths.specs.Exchanges.{IsHeldUp as held}
 use Rattle.whole_paths.specs.Flights.{ComesSo, GoesOnTo, IsCopyOf}
 use Rattle.whole_paths.specs.Flights.{GoesOnTo as way}
-use Rattle.whole_paths.specs.Harms.{longest_way}
 use Rattle.whole_paths.specs.Hearing.{PathsCount}
 use Rattle.whole_paths.specs.InTime.{ComesFrom}
 use Rattle.whole_paths.specs.Kept.{EndsKeepWhatWaits}
@@ -75,6 +74,7 @@ use Rattle.whole_paths.proofs.Passing.{what_is_in_order_is_passed}
 use Rattle.whole_paths.proofs.Paying.{AnswersComeSo, TurnedTo, answers_come_so, turned_to}
 use Rattle.whole_paths.proofs.Reached.{first_reached, none_left}
 use Rattle.whole_paths.proofs.Syns.{each_known, still_received}
+use Rattle.whole_paths.proofs.SentSoon.{what_is_sent_comes_soon}
 
 -- what a state is, as to the FIN
 behind_or : (state : EndPhase) → (is_behind_fin state ≡ true) ⊎ (is_unfinished state ≡ true)
@@ -121,7 +121,7 @@ module _ (p q : PathState Carried) (known : Known p) (faithful : IsFaithful p) (
 
     -- A is past the handshake still, and B half-open, or an end went further, or B heard
     stays : (IsSynAnswered x q) → Goes
-    stays next = ⊎_elim (λ up. goes.further B up)
+    stays next = ⊎_elim (λ up. goes.further up)
         (λ none. ⊎_elim (λ heard. goes.held_up (held.news (IsNews.on_subflow heard)))
         (λ low. goes.on (record {
           past = (let was = h.past in let up = turn.later A in omega (arith, was, up));
@@ -162,13 +162,12 @@ module _ (p q : PathState Carried) (known : Known p) (faithful : IsFaithful p) (
         (λ hindered. ⊎_elim (λ z. goes.held_up z) (λ far. if_living (λ living. goes.finished (past_so living far))) hindered)
         y)
         (answer_comes p q known faithful few turn B acks_first hands answers position f there g so (let was = ap stage h.half_open in omega (arith, was)) others first next (omega (arith, enough)))
-    answer_goes position before enough low (answer.harmed less) so = goes.held_up (held.harmed less)
-    answer_goes position before enough low (answer.lost y covers taken loses) so = goes.held_up (held.lost A y taken loses)
+    answer_goes position before enough low (answer.harmed is) so = goes.held_up (held.harmed A is)
     answer_goes position before enough low (answer.resets is) so = never_refused is
     answer_goes position before enough low (answer.gone dead) so = goes.held_up (held.gone A (inr dead))
     answer_goes position before enough low (answer.dies line next is dead) so = goes.held_up (held.dies line next is dead)
 
-    module _ (syn : Record) (kind : syn.kind ≡ Syn) (at_first : syn.pos ≡ 0) (empty : syn.piece ≡ []) (arrival : ℕ) (soon : arrival + longest_way A p.link ≤ x) where
+    module _ (syn : Record) (kind : syn.kind ≡ Syn) (at_first : syn.pos ≡ 0) (empty : syn.piece ≡ []) (arrival : ℕ) (soon : arrival + 400 ≤ x) where
       -- a copy comes
       module _ (f : Flight Carried) (in_time : f.tick ≤ arrival) (there : IsUnderWay f p) (copy : IsCopyOf values B syn p f) (sent : IsSynSent B copy.sender copy.stripped copy.altered)
           (others : List Duty) (first : p.agenda ≡ duties.Step step_duties.Events ∷ others) (next : next_event p ≡ Some (happenings.Arrives (due_of f))) where
@@ -190,16 +189,16 @@ module _ (p q : PathState Carried) (known : Known p) (faithful : IsFaithful p) (
         counts : SynCounts copy.segment p p.a.tcp
         counts = subst (λ t. SynCounts copy.segment p (end_at t p).tcp) due_to (each_syn_counts copy.segment p comes_now is_syn_ack)
 
-        clock_is : q.clock ≡ max p.clock f.tick → q.clock + longest_way A q.link ≤ x
-        clock_is is = (let from = tick_from p q known faithful few turn B acks_first hands answers f there in let way = turn.frames.way A in omega (arith, is, from, in_time, way, soon))
+        clock_is : q.clock ≡ max p.clock f.tick → q.clock + 400 ≤ x
+        clock_is is = (let from = tick_from p q known faithful few turn B acks_first hands answers f there in omega (arith, is, from, in_time, soon))
 
         again : ComesAs p means.Outside → Goes
         again c =
             let to : c.copy.due.to ≡ A = sym (ap event_side c.copy.next) ∙ ap event_side next ∙ copy.to in
             ⊎_elim (λ same. same_goes same)
             (λ go. ⊎_elim (λ same. same_goes same)
-            (λ is. (let here = subst (λ t. (go : AnswerGoesOn values t (end_at t p).tcp.recv.edge (q.clock + longest_way t q.link) p q) × AnswerComesSo Bare go) to go in
-            answer_goes p.a.tcp.recv.edge (q.clock + longest_way A q.link) (let some = known.edge A in omega (arith, some)) (clock_is is) here.0 here.1))
+            (λ is. (let here = subst (λ t. (go : AnswerGoesOn values t (end_at t p).tcp.recv.edge (q.clock + 400) p q) × AnswerComesSo Bare go) to go in
+            answer_goes p.a.tcp.recv.edge (q.clock + 400) (let some = known.edge A in omega (arith, some)) (clock_is is) here.0 here.1))
             (turn.frames.moves (happenings.Arrives (due_of f)) others first next))
             (hands.1.0 c.copy c.is (subst (λ t. 3 ≤ stage (end_at t p).tcp.state) (sym to) h.past))
 
@@ -208,11 +207,10 @@ module _ (p q : PathState Carried) (known : Known p) (faithful : IsFaithful p) (
             (let past = h.past in omega (arith, past)) living (below_limit p known A) (known.edge A)))
 
       goes_by : (go : GoesOnTo values B syn arrival p q) → ComesSo (IsSynSent B) go → Goes
-      goes_by (way.on next) so = stays (comes syn kind at_first empty arrival (let way = turn.frames.way A in omega (arith, way, soon)) next so)
+      goes_by (way.on next) so = stays (comes syn kind at_first empty arrival (omega (arith, soon)) next so)
       goes_by (way.arrives f low there copy others first next) so = syn_ack_comes f low there copy so others first next
       goes_by (way.news news) so = goes.held_up (held.news news)
-      goes_by (way.harmed less) so = goes.held_up (held.harmed less)
-      goes_by (way.lost y of_it taken loses) so = goes.held_up (held.lost B y taken loses)
+      goes_by (way.harmed is) so = goes.held_up (held.harmed B is)
       goes_by (way.gone dead) so = goes.held_up (held.gone B (inr dead))
       goes_by (way.dies line next is dead) so = goes.held_up (held.dies line next is dead)
 
@@ -237,7 +235,7 @@ module _ (start : Start) (p : PathState Carried) (known : Known p) (first : IsFi
       begun : 1 ≤ p.b.tcp.send.nxt
       begun = first.begun B (rw half_open refl)
 
-      by : (rs : List Record) → p.b.tcp.send.records ≡ rs → IsToBeAnswered (p.clock + 60000 + longest_way B p.link + longest_way A p.link) p
+      by : (rs : List Record) → p.b.tcp.send.records ≡ rs → IsToBeAnswered (p.clock + 60000 + 400 + 400) p
       by [] is = absurd (let all = none_left p.b.tcp (known.reached B) is in omega (arith, all, none, begun))
       by (r ∷ others) is = by_kind r.kind refl
         where
@@ -247,14 +245,14 @@ module _ (start : Start) (p : PathState Carried) (known : Known p) (first : IsFi
           low : r.pos ≤ p.b.tcp.send.una
           low = first_reached p.b.tcp r others (known.reached B) is
 
-          by_kind : (k : RecordKind) → r.kind ≡ k → IsToBeAnswered (p.clock + 60000 + longest_way B p.link + longest_way A p.link) p
+          by_kind : (k : RecordKind) → r.kind ≡ k → IsToBeAnswered (p.clock + 60000 + 400 + 400) p
           by_kind Data kind = absurd (let behind = known.behind B r others is kind in omega (arith, behind, low, none))
           by_kind Fin kind = absurd ((first.kinds B unfinished).each 0 r there kind)
           by_kind Syn kind = (let at_end = sent over B (ap is_closed_to_segments half_open) r others is in record {
             past = past;
             half_open = half_open;
             unheard = none;
-            exchange = comes r kind (omega (arith, low, none)) ((first.syns B).each 0 r there kind) (p.clock + 60000 + longest_way B p.link) (le_refl _) at_end.0 at_end.1;
+            exchange = comes r kind (omega (arith, low, none)) ((first.syns B).each 0 r there kind) (p.clock + 60000 + 400) (le_refl _) at_end.0 at_end.1;
           })
 
 -- ---- the world
@@ -283,10 +281,10 @@ syn_acks_by_turns start turns mild turn c at =
       syn_acks_go start c.member d.member (each_known start turns mild.plain.size mild.fit 2 c at) (all_answered.first 2 c at) kept.2
           (same_actor (λ x. FramesStay c.member x.member) v 2 d kept.1 (frames_stay values w turn 2 c at))
           (same_actor (λ x. TurnedTo c.member x.member) v 2 d kept.1 (turned_to values w turn 2 c at))
-          (same_actor (λ x. SentGoOn (IsSynSent B) values c.member x.member) v 2 d kept.1 (sent_go_on (IsSynSent B) values w (nothing_is_overdue values start turns) turn 2 c at))
+          (same_actor (λ x. SentGoOn (IsSynSent B) values c.member x.member) v 2 d kept.1 (sent_go_on (IsSynSent B) values w (nothing_is_overdue values start turns) ((what_is_sent_comes_soon values).numbered start turns) turn 2 c at))
           (λ Was. same_actor (λ x. HandsComeSo Was values c.member x.member) v 2 d kept.1
-          (hands_come_so Was values w all_answered (what_is_in_order_is_passed values start turns) ((what_is_told_is_known values).live start turns) turn 2 c at))
-          (λ Was. same_actor (λ x. AnswersComeSo Was values c.member x.member) v 2 d kept.1 (answers_come_so Was values w all_answered turn 2 c at))
+          (hands_come_so Was values w all_answered ((what_is_sent_comes_soon values).numbered start turns) (what_is_in_order_is_passed values start turns) ((what_is_told_is_known values).live start turns) turn 2 c at))
+          (λ Was. same_actor (λ x. AnswersComeSo Was values c.member x.member) v 2 d kept.1 (answers_come_so Was values w all_answered ((what_is_sent_comes_soon values).numbered start turns) turn 2 c at))
           (same_actor (λ x. PathsCount values c.member x.member) v 2 d kept.1 (each_acknowledgement_counts values w turn 2 c at))
           ((never_breaks start turns mild).each 2 c at) ((each_clears values start turns).each 2 c at) (no_end_overruns start turns mild c at) (each_first start turns mild.plain.size c at),
     )

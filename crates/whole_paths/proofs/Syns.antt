@@ -45,7 +45,6 @@ use Rattle.whole_paths.specs.Exchanges.{IsFaithful}
 use Rattle.whole_paths.specs.Exchanges.{IsHeldUp as held}
 use Rattle.whole_paths.specs.Flights.{ComesSo, GoesOnTo, IsCopyOf}
 use Rattle.whole_paths.specs.Flights.{GoesOnTo as way}
-use Rattle.whole_paths.specs.Harms.{longest_way}
 use Rattle.whole_paths.specs.Opening.{ComesAs, IsSyn, OpensSoFar, PathsOpen, SynCounts, opens_to}
 use Rattle.whole_paths.specs.Syns.{EachSynComes, IsSynAwaited, IsSynSent, IsToOpen, SynGoesOn, SynsBegin, SynsEnd, SynsGoOn}
 use Rattle.whole_paths.specs.Syns.IsToOpen.{asks, answers}
@@ -64,6 +63,7 @@ use Rattle.whole_paths.proofs.Opening.{each_handshake_counts}
 use Rattle.whole_paths.proofs.OpeningSyns.{each_syn_counts}
 use Rattle.whole_paths.proofs.Reached.{EndsAreReached, each_is_reached, first_reached, none_left}
 use Rattle.whole_paths.proofs.Sent.{what_came_was_sent}
+use Rattle.whole_paths.proofs.SentSoon.{what_is_sent_comes_soon}
 
 -- ---- states
 
@@ -232,8 +232,7 @@ module _ (p q : PathState Carried) (known : Known p) (faithful : IsFaithful p) (
     goes_by (way.on next) so = if_to_open (λ opens. goes.on (record { opens = opens; syn = h.syn; kind = h.kind; first = h.first; empty = h.empty; way = next; sent = so }))
     goes_by (way.arrives f low there copy others first next) so = syn_comes f there copy so others first next
     goes_by (way.news news) so = goes.held_up (held.news news)
-    goes_by (way.harmed less) so = goes.held_up (held.harmed less)
-    goes_by (way.lost y of_it taken loses) so = goes.held_up (held.lost s y taken loses)
+    goes_by (way.harmed is) so = goes.held_up (held.harmed s is)
     goes_by (way.gone dead) so = goes.held_up (held.gone s (inr dead))
     goes_by (way.dies line next is dead) so = goes.held_up (held.dies line next is dead)
 
@@ -263,7 +262,7 @@ module _ (start : Start) (p : PathState Carried) (known : (s : Side) (r : Record
       living : is_closed_to_segments (end_at s p).tcp.state ≡ false
       living = ⊎_elim (λ is. ap is_closed_to_segments is) (λ is. ap is_closed_to_segments is) state
 
-      by : (rs : List Record) → (end_at s p).tcp.send.records ≡ rs → IsSynAwaited s (p.clock + 60000 + longest_way s p.link) p
+      by : (rs : List Record) → (end_at s p).tcp.send.records ≡ rs → IsSynAwaited s (p.clock + 60000 + 400) p
       by [] is = absurd (let all = none_left (end_at s p).tcp (reached_p s) is in omega (arith, all, none, begun))
       by (r ∷ others) is = by_kind r.kind refl
         where
@@ -273,7 +272,7 @@ module _ (start : Start) (p : PathState Carried) (known : (s : Side) (r : Record
           low : r.pos ≤ (end_at s p).tcp.send.una
           low = first_reached (end_at s p).tcp r others (reached_p s) is
 
-          by_kind : (k : RecordKind) → r.kind ≡ k → IsSynAwaited s (p.clock + 60000 + longest_way s p.link) p
+          by_kind : (k : RecordKind) → r.kind ≡ k → IsSynAwaited s (p.clock + 60000 + 400) p
           by_kind Data kind = absurd (let behind = known s r others is kind in omega (arith, behind, low, none))
           by_kind Fin kind = absurd ((first.kinds s unfinished).each 0 r there kind)
           by_kind Syn kind =
@@ -315,7 +314,7 @@ syns_by_turns start turns size fit turn actor c at =
       d,
       opens.1,
       turn_goes c.member d.member (each_known start turns size fit actor c at)
-          (λ s. same_actor (λ x. SentGoOn (IsSynSent s) values c.member x.member) v actor d opens.1 (sent_go_on (IsSynSent s) values w (nothing_is_overdue values start turns) turn actor c at))
+          (λ s. same_actor (λ x. SentGoOn (IsSynSent s) values c.member x.member) v actor d opens.1 (sent_go_on (IsSynSent s) values w (nothing_is_overdue values start turns) ((what_is_sent_comes_soon values).numbered start turns) turn actor c at))
           (same_actor (λ x. FramesStay c.member x.member) v actor d opens.1 (frames_stay values w turn actor c at))
           (later.each actor d opens.1)
           opens.2

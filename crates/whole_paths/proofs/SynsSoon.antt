@@ -51,7 +51,8 @@ use Rattle.whole_paths.specs.AsFar.{stage}
 use Rattle.whole_paths.specs.Expiries.{IsSegmentOf}
 use Rattle.whole_paths.specs.Finish.{IsPathAt, is_harmed}
 use Rattle.whole_paths.specs.Flights.{IsOnItsWay}
-use Rattle.whole_paths.specs.Mending.{CopiesAreNumbered, IsSentSoon}
+use Rattle.whole_paths.specs.Copies.{CopiesAreNumbered}
+use Rattle.whole_paths.specs.Mending.{IsSentSoon}
 use Rattle.whole_paths.specs.Mild.{IsMildStart, LinkIsMild}
 use Rattle.whole_paths.specs.RecordsGo.{IsOneSo}
 use Rattle.whole_paths.specs.Syns.{IsSynAwaited, IsToOpen}

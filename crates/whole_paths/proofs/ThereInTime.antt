@@ -19,8 +19,8 @@ use Rattle.world_laws.proofs.Weaving.WholeRounds.{run_append}
 use Rattle.whole_paths.specs.AsFar.{IsActorAsFar, stage}
 use Rattle.whole_paths.specs.Courses.{Exchanges}
 use Rattle.whole_paths.specs.Delivery.{AllIsThere}
-use Rattle.whole_paths.specs.Finish.{AnEndDied, IsWhole, Patience, BriefPathsDeliver, harmed, opened, rounds_in}
-use Rattle.whole_paths.specs.OnePathScripts.{AllIsThereWithin, AnEndDiedEarly, BeginsWithOnePath, BriefPathsEnd, for_all_news, WhatIsThereInTimeIsDelivered}
+use Rattle.whole_paths.specs.Finish.{AnEndDied, IsWhole, Patience, BriefPathsDeliver, opened, rounds_in}
+use Rattle.whole_paths.specs.OnePathScripts.{AllIsThereWithin, Allowance, AnEndDiedEarly, BeginsWithOnePath, BriefPathsEnd, Count, WhatIsThereInTimeIsDelivered, WhatIsThereInTimeIsDeliveredBy, for_all_news, harms_alone}
 use Rattle.whole_paths.specs.OpenCourses.{IsOpenAfter}
 use Rattle.whole_paths.specs.SentByTurns.{SentAtMost}
 use Rattle.whole_paths.proofs.Courses.{harmed_append}
@@ -96,11 +96,11 @@ all_there_or w = ⊎_elim
     (λ none. inr (λ all. none (all.of A)))
     (there_or A w)
 
-pub what_is_there_in_time_is_delivered : WhatIsThereInTimeIsDelivered
-what_is_there_in_time_is_delivered bound comes start plan before more most begins lawful few whole low many =
+pub what_is_there_in_time_is_delivered_by : (Also : Start → PathPlan → Type 0) (count : Count) (bound : Allowance) → WhatIsThereInTimeIsDeliveredBy Also count bound
+what_is_there_in_time_is_delivered_by Also count bound up comes start plan before more most begins also lawful few whole low many =
     subst Ends (sym parts.is)
     (by parts.first parts.rest (subst (λ ts. AreLawful values ts (reached values start before)) parts.is lawful) (subst (λ ts. length (before ++ ts) < 2 ^ 64 - 1) parts.is few)
-    (subst (λ ts. harmed values 0 (before ++ ts) (opened_world start) ≤ most) parts.is low) parts.last (let all = parts.all in omega (arith, many, all)))
+    (subst (λ ts. count start (before ++ ts) ≤ most) parts.is low) parts.last (let all = parts.all in omega (arith, many, all)))
   where
     Ends : List Turn → Type 0
     Ends ts = (outcome_of (reached values start (before ++ ts)).crew ≡ Delivered) ⊎ AnEndDiedEarly values start (before ++ ts)
@@ -109,7 +109,7 @@ what_is_there_in_time_is_delivered bound comes start plan before more most begin
     parts = last_rounds 3 more (omega (arith, many))
 
     by : (first rest : List Turn) → AreLawful values (first ++ rest) (reached values start before) → length (before ++ (first ++ rest)) < 2 ^ 64 - 1
-        → harmed values 0 (before ++ (first ++ rest)) (opened_world start) ≤ most → rounds_in rest ≡ 3 → bound start most < 100 * rounds_in first → Ends (first ++ rest)
+        → count start (before ++ (first ++ rest)) ≤ most → rounds_in rest ≡ 3 → bound start most < 100 * rounds_in first → Ends (first ++ rest)
     by first rest going short fewer three enough = ⊎_elim delivered ended (all_there_or (reached values start (before ++ first)))
       where
         same : (before ++ first) ++ rest ≡ before ++ (first ++ rest)
@@ -126,14 +126,19 @@ what_is_there_in_time_is_delivered bound comes start plan before more most begin
         all_came : IsWhole 0 (reached values start (before ++ first)) → AllIsThere (reached values start (before ++ first))
         all_came last =
             let sum = length-append (before ++ first) rest in let long = ap length same in
-            let harms = harmed_append values 0 (before ++ first) rest (opened_world start) in let all = ap (λ ts. harmed values 0 ts (opened_world start)) same in
-            comes start plan before first most begins (lawful_parts first rest (reached values start before) going).0 (omega (arith, short, sum, long)) whole last (omega (arith, harms, all, fewer)) enough
+            let rises = up start (before ++ first) rest in let all = ap (λ ts. count start ts) same in
+            comes start plan before first most begins also (lawful_parts first rest (reached values start before) going).0 (omega (arith, short, sum, long)) whole last (omega (arith, rises, all, fewer)) enough
 
         ended : (AllIsThere (reached values start (before ++ first)) → ⊥) → Ends (first ++ rest)
         ended missing = ⊎_elim
             (λ last. absurd (missing (all_came (subst (IsWhole 0) (sym then) last))))
             (λ died. inr (record { first = before ++ first; rest = rest; is = sym same; died = subst (AnEndDied 0) (sym then) died; missing = missing }))
             (whole_paths_stay_whole values (reached values start before) 0 first whole)
+
+pub what_is_there_in_time_is_delivered : WhatIsThereInTimeIsDelivered
+what_is_there_in_time_is_delivered bound comes start plan before more most begins =
+    what_is_there_in_time_is_delivered_by (λ start plan. Unit {0}) (harms_alone values) bound (λ start turns more. harmed_append values 0 turns more (opened_world start))
+    (λ start plan before more most begins also. comes start plan before more most begins) start plan before more most begins tt
 
 -- ---- from exchanges
 

@@ -19,22 +19,22 @@ use Rattle.whole_paths.proofs.SegmentRounds.{stays_there}
 use Rattle.whole_paths.proofs.UnitRounds.{Parted, parted, rounds_of, well_after}
 
 module _ (start : Start) (plan : PathPlan) (Well : List Turn → Type 0) (x : BeginsWithOnePath start plan) (tells : (turns : List Turn) → Well turns → (s : Side) → AreToldSoon start s turns)
-    (left : WindowsAndEndsAreHeard start plan Well) (s : Side) (v u : List Turn) (rounds : WellRounds start Well 5 v u) where
+    (left : WindowsAndEndsAreHeard start plan Well) (s : Side) (v u : List Turn) (rounds : WellRounds start Well 6 v u) where
   abbrev at : List Turn → WorldState Carried
   at turns = reached values start turns
 
-  part : Parted start Well 1 4 v u
-  part = parted start Well 1 4 5 v u refl rounds
+  part : Parted start Well 2 4 v u
+  part = parted start Well 2 4 6 v u refl rounds
 
-  -- after the first round
+  -- after the first two rounds
   abbrev m : List Turn
   m = part.between_them
 
   soon : AreToldSoon start s m
-  soon = tells m (well_after start Well 1 v m part.first) s
+  soon = tells m (well_after start Well 2 v m part.first) s
 
   received_up : received (arrived_at (peer s) (at v)) ≤ received (arrived_at (peer s) (at m))
-  received_up = ((far start v m (between start 0 v m (rounds_of start Well 1 v m part.first))).sides (peer s)).arrival.received
+  received_up = ((far start v m (between start 1 v m (rounds_of start Well 2 v m part.first))).sides (peer s)).arrival.received
 
   acked : IsAllThere s (at u) ⊎ (received (arrived_at (peer s) (at v)) ≤ acked_len (written_by s (at u)).marks)
   acked = ⊎_elim

@@ -82,7 +82,7 @@ use Rattle.whole_paths.proofs.SentSoon.{numbered_so, segments_come_soon}
 use Rattle.whole_paths.proofs.SentWithin.{EndsWithin, SentWithin, all_sent_within}
 use Rattle.whole_paths.specs.Straying.{IsOpenFrom}
 
-not_opening : (state : EndPhase) → 3 ≤ stage state → is_opening state ≡ true → ⊥
+pub not_opening : (state : EndPhase) → 3 ≤ stage state → is_opening state ≡ true → ⊥
 not_opening phase.SynSent high is = absurd (omega (arith, high))
 not_opening _ high is = true≢false (sym is)
 

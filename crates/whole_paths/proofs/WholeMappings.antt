@@ -50,11 +50,11 @@ use Rattle.whole_paths.proofs.OpenCourses.{IsFirstPath, each_first}
 
 -- ---- a mapping that is found
 
-record IsFound (P : KeptMapping → Bool) (xs : List KeptMapping) (m : KeptMapping) : Type 0 where
-  at : ℕ
-  there : slice_get xs at ≡ Some m
-  fits : P m ≡ true
-  within : IsWithin m
+pub record IsFound (P : KeptMapping → Bool) (xs : List KeptMapping) (m : KeptMapping) : Type 0 where
+  pub at : ℕ
+  pub there : slice_get xs at ≡ Some m
+  pub fits : P m ≡ true
+  pub within : IsWithin m
 
 found_at : (P : KeptMapping → Bool) (xs : List KeptMapping) (m : KeptMapping) → All IsWithin xs → find P xs ≡ Some m → IsFound P xs m
 found_at P [] m all is = cc
@@ -64,7 +64,7 @@ found_at P (x ∷ xs) m all is = by (P x) refl is (found_at P xs m (All-tail IsW
     by true fits is rest = let same = same_Some x m is in record { at = 0; there = is; fits = subst (λ y. P y ≡ true) same fits; within = subst IsWithin same (All-head IsWithin x xs all) }
     by false other is rest = let more = rest is in record { at = suc more.at; there = more.there; fits = more.fits; within = more.within }
 
-mapping_found : (v : Mappings) (edge pos : ℕ) (m : KeptMapping) → AreLive v edge → mapping_at v pos ≡ Some m → IsFound (λ kept. covers pos (run_of kept)) v.live m
+pub mapping_found : (v : Mappings) (edge pos : ℕ) (m : KeptMapping) → AreLive v edge → mapping_at v pos ≡ Some m → IsFound (λ kept. covers pos (run_of kept)) v.live m
 mapping_found v edge pos m h = by (nat_lt pos v.forgotten)
   where
     by : (b : Bool) → (if b then None else find (λ kept. covers pos (run_of kept)) v.live) ≡ Some m → IsFound (λ kept. covers pos (run_of kept)) v.live m

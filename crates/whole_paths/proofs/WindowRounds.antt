@@ -26,7 +26,7 @@ module _ (start : Start) where
   at turns = reached values start turns
 
   -- what each turn keeps of path 0 and the world holds after all of them
-  carried_with : (P : List Turn → PathState Carried → Type 0) → ((turns : List Turn) (turn : Turn) (before : IsOpenAfter start turns) (after : IsOpenAfter start (turns ++ turn ∷ [])) → P turns before.path → P (turns ++ turn ∷ []) after.path)
+  pub carried_with : (P : List Turn → PathState Carried → Type 0) → ((turns : List Turn) (turn : Turn) (before : IsOpenAfter start turns) (after : IsOpenAfter start (turns ++ turn ∷ [])) → P turns before.path → P (turns ++ turn ∷ []) after.path)
       → (turns more : List Turn) → StaysOpen start turns more → (p q : PathState Carried) → IsPathAt 0 (at turns) p → IsPathAt 0 (at (turns ++ more)) q → P turns p → P (turns ++ more) q
   carried_with P goes turns [] h p q here there so =
       subst (λ t. P t q) (sym (append-nil turns)) (subst (P turns) (path_is (at turns) p q here (subst (λ t. IsPathAt 0 (at t) q) (append-nil turns) there)) so)

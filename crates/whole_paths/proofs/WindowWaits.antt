@@ -26,7 +26,6 @@ use Rattle.whole_paths.specs.Finish.{IsPathAt}
 use Rattle.whole_paths.specs.Flights.{IsFirst}
 use Rattle.whole_paths.specs.Halted.{HaltGoesOn, HaltsGoOn, IsHalted}
 use Rattle.whole_paths.specs.Halted.{HaltGoesOn as halts}
-use Rattle.whole_paths.specs.Harms.{longest_way}
 use Rattle.whole_paths.specs.Mild.{IsMildStart}
 use Rattle.whole_paths.specs.News.{Counts as counts}
 use Rattle.whole_paths.specs.News.{Gains as gains}
@@ -205,7 +204,7 @@ module _ (start : Start) (plan : PathPlan) (most : ℕ) (one : start.paths ≡ p
         place = (send_of h.side (books_in ended.books)).edge + 1
 
         first : ℕ
-        first = h.path.clock + 60000 + longest_way h.side h.path.link + longest_way (peer h.side) h.path.link
+        first = h.path.clock + 60000 + 400 + 400
 
         near : TimersAreNear h.path
         near = subst (OfPaths TimersAreNear) h.here.is ((timers_run_out values start v).each 2 h.here.crew h.here.there)

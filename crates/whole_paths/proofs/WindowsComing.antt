@@ -73,10 +73,10 @@ module _ (start : Start) (mild : IsMildStart start) (turns : List Turn) (turn : 
   abbrev later : SixBooks
   later = books_in v.books
 
-  bares : BareSegmentsGoOn s p q
+  pub bares : BareSegmentsGoOn s p q
   bares = bare_go_on start mild turns turn before after s
 
-  opens : HearsWindows values six later after.here.crew.list p q
+  pub opens : HearsWindows values six later after.here.crew.list p q
   opens = here start mild turns turn before after (λ (m : Actor Carried) (n : Actor Carried). PathsBetween (HearsWindows values) w.books v.books after.here.crew.list m n) (by (each_window_counts values w turn 2 before.here.crew before.here.there))
     where
       by : (d : ActorCrew Carried) × (slice_get v.crew 2 ≡ Some d) × PathsBetween (HearsWindows values) w.books v.books d.list before.here.crew.member d.member
@@ -86,7 +86,7 @@ module _ (start : Start) (mild : IsMildStart start) (turns : List Turn) (turn : 
   fine : was_told tells_refusal after.here.crew.list ≡ false
   fine = ap (λ o. was_told tells_refusal (notes_or o)) (sym (subst (λ (x : WorldState Carried). slice_get x.crew 2 ≡ Some after.here.crew) (sym (last start mild turns turn)) after.here.there)) ∙ nothing_refused start (turns ++ turn ∷ []) mild.plain 2
 
-  open_on : (edge : ℕ) → StaysOpenTo later s edge after.here.crew.list q → IsOpenTo later s edge q
+  pub open_on : (edge : ℕ) → StaysOpenTo later s edge after.here.crew.list q → IsOpenTo later s edge q
   open_on edge (stay.on is) = is
   open_on edge (stay.gone dead) = absurd (both_ways (is_dead (end_at s q).tcp.state) (after.is_open.living s) dead)
   open_on edge (stay.reset is) = absurd (never_resets q (unbroken_q start mild turns turn before after after.is_open.first) s is)
@@ -137,7 +137,7 @@ module _ (start : Start) (mild : IsMildStart start) (turns : List Turn) (turn : 
 
   -- ---- one that is sent
 
-  on_its_way : (x : PlainSegment) → IsBareFrom t p x → (next : ℕ) (mapping : Option (PathMapping ℕ)) (others : List PlainOption) → x.options ≡ Dss (Some next) mapping ∷ others → next < 2 ^ 62
+  pub on_its_way : (x : PlainSegment) → IsBareFrom t p x → (next : ℕ) (mapping : Option (PathMapping ℕ)) (others : List PlainOption) → x.options ≡ Dss (Some next) mapping ∷ others → next < 2 ^ 62
       → (edge : ℕ) → edge ≤ next + (meant x).window → BareIsSent s x p q → WindowComesBy s (end_at t p).tcp.send.nxt edge (p.clock + 400) q
   on_its_way x from next mapping others options low edge wide c = record {
     copy = c.sent.copy;

@@ -13,7 +13,6 @@ use Rattle.world_laws.specs.Worlds.{Turn}
 use Rattle.whole_paths.specs.AskStages.{IsAnswerAwaited}
 use Rattle.whole_paths.specs.Courses.{counted, round_end}
 use Rattle.whole_paths.specs.Finish.{IsPathAt}
-use Rattle.whole_paths.specs.Harms.{longest_way}
 use Rattle.whole_paths.specs.Mild.{IsMildStart}
 use Rattle.whole_paths.specs.News.{one_if}
 use Rattle.whole_paths.specs.OpenAsks.{IsUnansweredAt}
@@ -44,7 +43,7 @@ module _ (start : Start) where
     pub unanswered : IsUnansweredAt (books_in (reached values start turns).books) side place fin path
     pub has : place ≤ received (reassembly_of (peer side) (books_in (reached values start turns).books)) + one_if fin
     pub room : (end_at (peer side) path).tcp.send.nxt ≤ (end_at side path).tcp.recv.edge + 1048576
-    pub near : longest_way side path.link + longest_way (peer side) path.link ≤ way
+    pub near : 400 + 400 ≤ way
 
   -- As a round begins a wait begins, for a minute and as long as a segment is under way there and back; it goes on by each step, and as the next
   -- round begins, or something is counted; and no round begins past it.

@@ -20,7 +20,6 @@ use Rattle.whole_paths.specs.DataAcksAsked.{IsAskedSo}
 use Rattle.whole_paths.specs.DataAcksExchanged.{IsInquired}
 use Rattle.whole_paths.specs.DataAcksExchanged.IsInquired.{asks}
 use Rattle.whole_paths.specs.Exchanges.{IsHeldUp}
-use Rattle.whole_paths.specs.Harms.{longest_way}
 use Rattle.whole_paths.specs.Mild.{IsMildStart}
 use Rattle.whole_paths.specs.News.{one_if}
 use Rattle.whole_paths.specs.OpenAsks.{IsHardlyAwry, IsUnansweredAt}
@@ -64,7 +63,7 @@ AnswerIsAwaitedBy six later _ _ = Unit {0}
 abbrev pub AnswerIsAwaitedFrom : SixBooks → PathState Carried → Type 0
 AnswerIsAwaitedFrom six p = IsOpen p → p.agenda ≡ [] → (s : Side) → (end_at s p).tcp.send.records ≡ [] → (place : ℕ) (fin : Bool) → IsUnansweredAt six s place fin p
     → place ≤ received (reassembly_of (peer s) six) + one_if fin
-    → IsAnswerAwaited six s place fin (p.clock + 60000 + longest_way s p.link + longest_way (peer s) p.link) p
+    → IsAnswerAwaited six s place fin (p.clock + 60000 + 400 + 400) p
 
 -- at any moment of a mild connection, and by any turn where there is one path
 pub record OpenAsksAreAnswered : Type 0 where

@@ -18,7 +18,6 @@ use Rattle.world_laws.specs.Promises.{HasRoom, NumbersFit}
 use Rattle.world_laws.specs.Worlds.{WorldState, Turn, after_turn, world_run}
 use Rattle.whole_paths.specs.Between.{PathsBetween}
 use Rattle.whole_paths.specs.Exchanges.{IsFaithful}
-use Rattle.whole_paths.specs.Harms.{longest_way}
 use Rattle.whole_paths.specs.Offered.{OffersUpTo}
 use Rattle.whole_paths.specs.Probes.{AskTurns, IsProbed}
 use Rattle.whole_paths.specs.Reasons.{IsOutstanding}
@@ -42,7 +41,7 @@ abbrev pub AwaitingBegins : SixBooks → PathState Carried → Type 0
 AwaitingBegins six p = p.agenda ≡ [] → (s : Side) → is_closed_to_segments (end_at s p).tcp.state ≡ false → (end_at s p).tcp.send.records ≡ []
     → IsOutstanding (end_at s p)
     → (at : ℕ) → (send_of s six).edge < at → at + 31 ≤ arriving.edge (reassembly_of (peer s) six)
-    → IsAwaited six s at (p.clock + 60000 + longest_way s p.link + longest_way (peer s) p.link) p
+    → IsAwaited six s at (p.clock + 60000 + 400 + 400) p
 
 -- where a turn is over in a round that ends past its tick, and the peer isn't dead, none is awaited
 abbrev pub AwaitingIsDue : SixBooks → PathState Carried → Type 0

@@ -28,10 +28,10 @@ use Rattle.world_laws.specs.Laws.{Always}
 use Rattle.world_laws.specs.Members.{HoldsOfKind}
 use Rattle.world_laws.specs.NeverFalls.{StripsNothing}
 use Rattle.world_laws.specs.Worlds.{WorldState, Turn, after_turn}
-use Rattle.whole_paths.specs.Copies.{IsUnderWay}
+use Rattle.whole_paths.specs.Copies.{IsUnderWay, LinksAreNumbered}
 use Rattle.whole_paths.specs.Expiries.{IsToSendAgain}
-use Rattle.whole_paths.specs.Flights.{IsFirst, IsOnItsWay}
-use Rattle.whole_paths.specs.Harms.{harms_left, loses, longest_way}
+use Rattle.whole_paths.specs.Flights.{IsFirst, IsOnItsWay, IsSentSo}
+use Rattle.whole_paths.specs.Finish.{is_harmed}
 use Rattle.whole_paths.specs.InTime.{NothingIsOverdue}
 use Rattle.whole_paths.specs.Reasons.{IsOutstanding}
 use Rattle.whole_paths.specs.Running.{IsRunning}
@@ -52,8 +52,8 @@ module _ {C : Type 0} where
   -- Such a copy comes by this tick, unless the script harms it: as late as the link may hand on what is sent as the timer runs out, or now,
   -- where the end is to send again; or the copy is under way. The end has no record left.
   pub data IsAskedAgain (k : Codec C) (s : Side) (by : ℕ) (p : PathState C) : Type 0 where
-    waits : (tick : ℕ) → tick + longest_way s p.link ≤ by → IsRunning tick (end_at s p) → (end_at s p).tcp.send.records ≡ [] → IsAskedAgain k s by p
-    resends : p.clock + longest_way s p.link ≤ by → IsToSendAgain s p → (end_at s p).tcp.send.records ≡ [] → IsAskedAgain k s by p
+    waits : (tick : ℕ) → tick + 400 ≤ by → IsRunning tick (end_at s p) → (end_at s p).tcp.send.records ≡ [] → IsAskedAgain k s by p
+    resends : p.clock + 400 ≤ by → IsToSendAgain s p → (end_at s p).tcp.send.records ≡ [] → IsAskedAgain k s by p
     flies : (f : Flight C) → f.tick ≤ by → IsUnderWay f p → IsAsking k s p f → IsAskedAgain k s by p
 
   -- what becomes of it, as the path becomes another one
@@ -63,17 +63,14 @@ module _ {C : Type 0} where
     -- such a copy was what arrives next
     arrives : (f : Flight C) → f.tick ≤ by → IsUnderWay f p → IsAsking k s p f → (others : List Duty) → p.agenda ≡ duties.Step step_duties.Events ∷ others
         → next_event p ≡ Some (happenings.Arrives (due_of f)) → AskingGoesOn k s by p q
-    -- the end, which had none, has a record again, which comes by the same tick (`WhatWaitsComes`)
-    record_waits : (r : Record) → (end_at s p).tcp.send.records ≡ [] → IsFirst r (end_at s q) → IsOnItsWay k s r by q → AskingGoesOn k s by p q
+    -- the end, which had none, has a record again, which didn't go yet, and comes by the same tick (`WhatWaitsComes`)
+    record_waits : (r : Record) → (end_at s p).tcp.send.records ≡ [] → IsFirst r (end_at s q) → (way : IsOnItsWay k s r by q)
+        → IsSentSo (λ sender stripped altered. ⊥) way → AskingGoesOn k s by p q
     -- there is news, or nothing of the end is outstanding any longer
     news : IsNews (end_at s p) (end_at s q) → AskingGoesOn k s by p q
     done : (IsOutstanding (end_at s q) → ⊥) → AskingGoesOn k s by p q
-    -- a line was used by which a segment is lost or late
-    harmed : harms_left q.link < harms_left p.link → AskingGoesOn k s by p q
-    -- the link took the segment, and lost it by the word drawn for it, or since its queue was full
-    lost : (x : PlainSegment) → x ≡ ack_resent p.profile s (end_at s p) → q.link ≡ handed k s x p
-        → loses s (length (made p.profile.spelling s x)) p.clock p.link ≡ true
-        → AskingGoesOn k s by p q
+    -- the segment is harmed
+    harmed : is_harmed s p q ≡ true → AskingGoesOn k s by p q
     -- the end is dead, or the line came next by which the path died
     gone : is_dead (end_at s q).tcp.state ≡ true → AskingGoesOn k s by p q
     dies : (line : LineLeft) → next_event p ≡ Some (happenings.Takes line) → line.action ≡ actions.Die → is_dead q.a.tcp.state ≡ true → AskingGoesOn k s by p q
@@ -100,7 +97,7 @@ module _ {C : Type 0} where
   abbrev pub IsAskedAtTheEnd : Codec C → PathState C → Type 0
   IsAskedAtTheEnd k p = p.agenda ≡ [] → (s : Side) → is_closed_to_segments (end_at s p).tcp.state ≡ false → (end_at s p).tcp.send.records ≡ []
       → IsOutstanding (end_at s p)
-      → IsAskedAgain k s (p.clock + 60000 + longest_way s p.link) p
+      → IsAskedAgain k s (p.clock + 60000 + 400) p
 
   -- on each path
   pub record EachEndAsksAgain (k : Codec C) (w : WorldState C) : Type 0 where
@@ -109,5 +106,5 @@ module _ {C : Type 0} where
   -- at each moment, and by any turn where no event was passed by
   pub record WhatIsAskedComes (k : Codec C) : Type 0 where
     pub begins : Always k (λ start w. EachEndAsksAgain k w)
-    pub goes_on : (w : WorldState C) → NothingIsOverdue w → (turn : Turn) (actor : ℕ) (c : ActorCrew C) → slice_get w.crew actor ≡ Some c
+    pub goes_on : (w : WorldState C) → NothingIsOverdue w → LinksAreNumbered w → (turn : Turn) (actor : ℕ) (c : ActorCrew C) → slice_get w.crew actor ≡ Some c
         → (d : ActorCrew C) × (slice_get (after_turn k turn w).crew actor ≡ Some d) × AsksGoOn k c.member d.member

@@ -28,7 +28,6 @@ use Rattle.whole_paths.specs.DataAcksHeard.{IsHeard, IsPastTheEnd}
 use Rattle.whole_paths.specs.DataAcksOwed.{IsDataAckFrom, WantsWhereItSends}
 use Rattle.whole_paths.specs.Exchanges.{AtEither, IsFaithful, IsHeldUp}
 use Rattle.whole_paths.specs.Flights.{IsFirst, IsOnItsWay}
-use Rattle.whole_paths.specs.Harms.{longest_way}
 use Rattle.whole_paths.specs.Owed.{IsAnswered, IsAnsweredSo, IsToRefuse}
 use Rattle.whole_paths.specs.Reasons.{IsOutstanding}
 
@@ -48,7 +47,7 @@ pub record IsAskedPlainly (base : ℕ) (e : PathEnd) (stripped altered : Bool) :
 -- how far the exchange is, if by this tick an answer is to come with a Data ACK of this place, or one past it, with the DATA_FIN or without
 pub data IsInquired (s : Side) (place : ℕ) (fin : Bool) (by : ℕ) (p : PathState Carried) : Type 0 where
   -- the end asks, so early that the answer comes in time
-  asks : (arrival : ℕ) → arrival + longest_way (peer s) p.link ≤ by → (h : IsAskedAgain values s arrival p)
+  asks : (arrival : ℕ) → arrival + 400 ≤ by → (h : IsAskedAgain values s arrival p)
       → IsAskedSo (IsAskedPlainly (end_at s p).tcp.send.una) h → IsInquired s place fin by p
   -- the end has both SYNs, and the peer answers so
   answered : 2 ≤ stage (end_at s p).tcp.state → (h : IsAnswered values (peer s) 1 by p)
@@ -102,7 +101,7 @@ InquiriesGoOn books steps _ _ = ⊥
 abbrev pub InquiriesBegin : PathState Carried → Type 0
 InquiriesBegin p = p.agenda ≡ [] → (s : Side) → is_closed_to_segments (end_at s p).tcp.state ≡ false → (end_at s p).tcp.send.records ≡ []
     → IsOutstanding (end_at s p)
-    → (place : ℕ) (fin : Bool) → IsInquired s place fin (p.clock + 60000 + longest_way s p.link + longest_way (peer s) p.link) p
+    → (place : ℕ) (fin : Bool) → IsInquired s place fin (p.clock + 60000 + 400 + 400) p
 
 -- once the clock is past its tick the end heard such a Data ACK, or hears it in its turn
 pub record HasHeard (s : Side) (place : ℕ) (fin : Bool) (p : PathState Carried) : Type 0 where

@@ -1,8 +1,12 @@
 -- Debts of two kinds, side by side: of each there are so many at most, and waits for both go on at once.
 use Rattle.std.specs.Prelude.{ℕ, ◌<◌, ◌≤◌, List}
+use Rattle.path_core.specs.Values.{values}
 use Rattle.world_laws.specs.Openings.{PathPlan, Start}
 use Rattle.world_laws.specs.Worlds.{Turn}
-use Rattle.whole_paths.specs.Debts.{DebtsAreMended}
+use Rattle.whole_paths.specs.Counts.{CountsAsMuch}
+use Rattle.whole_paths.specs.Courses.{harmed_so_far}
+use Rattle.whole_paths.specs.Mild.{IsMildStart}
+use Rattle.whole_paths.specs.Debts.{DebtsAreMendedBy, FewAreOwedBy}
 
 -- so many of either kind are owed at most
 pub record OwesBoth (One Other : ℕ → List Turn → Type 0) (debts : ℕ) (turns : List Turn) : Type 0 where
@@ -25,9 +29,14 @@ module _ (One : ℕ → List Turn → Type 0) (MendsOne : ℕ → ℕ → List T
     one : (by : ℕ) → by ≤ x → MendsOne debts by turns → MendsKind Other MendsOther debts x turns → MendsBoth debts x turns
     other : (by : ℕ) → by ≤ x → MendsOther debts by turns → MendsKind One MendsOne debts x turns → MendsBoth debts x turns
 
--- Where debts of each of two kinds are mended, so are both side by side: a segment that is harmed makes one of either kind at most.
+-- Where debts of each of two kinds are mended, so are both side by side: a harm makes one of either kind at most.
 abbrev pub KindsAreMendedTogether : Type 1
-KindsAreMendedTogether = (start : Start) (plan : PathPlan) (most : ℕ)
+KindsAreMendedTogether = (start : Start) (plan : PathPlan) (most within : ℕ) (count : List Turn → ℕ)
     (One : ℕ → List Turn → Type 0) (MendsOne : ℕ → ℕ → List Turn → Type 0) (Other : ℕ → List Turn → Type 0)
-    (MendsOther : ℕ → ℕ → List Turn → Type 0) → DebtsAreMended start plan most One MendsOne → DebtsAreMended start plan most Other MendsOther
-    → DebtsAreMended start plan most (OwesBoth One Other) (MendsBoth One MendsOne Other MendsOther)
+    (MendsOther : ℕ → ℕ → List Turn → Type 0) → IsMildStart start → CountsAsMuch start (harmed_so_far values start) count
+    → DebtsAreMendedBy start plan most count One MendsOne within → DebtsAreMendedBy start plan most count Other MendsOther within
+    → DebtsAreMendedBy start plan most count (OwesBoth One Other) (MendsBoth One MendsOne Other MendsOther) within
+
+abbrev pub KindsAreFewTogether : Type 1
+KindsAreFewTogether = (start : Start) (plan : PathPlan) (most : ℕ) (count : List Turn → ℕ) (One Other : ℕ → List Turn → Type 0)
+    → FewAreOwedBy start plan most count One → FewAreOwedBy start plan most count Other → FewAreOwedBy start plan most count (OwesBoth One Other)

@@ -14,7 +14,7 @@ use Rattle.world_laws.specs.RoundDone.{reached}
 use Rattle.world_laws.specs.Worlds.{Turn}
 use Rattle.whole_paths.specs.Copies.{IsUnderWay}
 use Rattle.whole_paths.specs.Courses.{round_end}
-use Rattle.whole_paths.specs.Debts.{DebtsAreMended, OwesAtMost}
+use Rattle.whole_paths.specs.Debts.{DebtsAreMended}
 use Rattle.whole_paths.specs.Delivery.{IsAllThere}
 use Rattle.whole_paths.specs.Directions.{AreHeardBut, OwesAlong, OwesThese}
 use Rattle.whole_paths.specs.Expiries.{IsToSendAgain}
@@ -100,16 +100,15 @@ pub record NumbersAgree (start : Start) (s : Side) : Type 0 where
       ⊎ ((end_at s h.path).tcp.send.una ≤ suc (end_at s h.path).sending.heard)
   pub whole : ArePassedWhole start s
 
--- So it is over one path, where records are passed whole.
-abbrev pub NumbersAgreeSo : Type 0
-NumbersAgreeSo = (start : Start) (plan : PathPlan) (s : Side) → BeginsWithOnePath start plan → ArePassedWhole start s → NumbersAgree start s
+-- Over one path records are passed whole.
+abbrev pub RecordsArePassedWhole : Type 0
+RecordsArePassedWhole = (start : Start) (plan : PathPlan) (s : Side) → BeginsWithOnePath start plan → ArePassedWhole start s
 
--- with checksums always
-abbrev pub CheckedNumbersAgree : Type 0
-CheckedNumbersAgree = (start : Start) (plan : PathPlan) (s : Side) → BeginsWithOnePath start plan → start.checksums ≡ true → NumbersAgree start s
+-- So numbers agree there.
+abbrev pub NumbersAlwaysAgree : Type 0
+NumbersAlwaysAgree = (start : Start) (plan : PathPlan) (s : Side) → BeginsWithOnePath start plan → NumbersAgree start s
 
--- Where numbers agree, and there are no more debts than harms at each open moment, debts along a direction are mended.
+-- Where numbers agree, debts along a direction are mended.
 abbrev pub DirectionsAreMended : Type 0
 DirectionsAreMended = (start : Start) (plan : PathPlan) (most : ℕ) (s : Side) → BeginsWithOnePath start plan → NumbersAgree start s
-    → ((turns : List Turn) → IsOpenAfter start turns → OwesAtMost start plan most (OwesAlong start s) turns)
     → DebtsAreMended start plan most (OwesAlong start s) (MendsAlong start s)

@@ -1,6 +1,6 @@
 -- Rounds of a mild connection over one path between open ends, in which nothing is to be mended, once all of a stream is read: the stream is closed,
 -- and its DATA_FIN is sent (RFC 8684, section 3.3.3).
-use Rattle.std.specs.Prelude.{◌≡◌, ◌≤◌, ◌⊎◌, true, is_some, List, length}
+use Rattle.std.specs.Prelude.{◌≡◌, ◌<◌, ◌≤◌, ◌⊎◌, true, is_some, List, length}
 use Rattle.sides.specs.declared.side.Side.{Side}
 use Rattle.sides.specs.Side.{peer}
 use Rattle.send_book.specs.State.{acked_len}
@@ -26,13 +26,14 @@ module _ (start : Start) (s : Side) where
   abbrev pub EndIsKnown : List Turn → Type 0
   EndIsKnown turns = is_some (arrived_at (peer s) (reached values start turns)).known_end ≡ true
 
-  -- the end of path 0 sent the DATA_FIN
+  -- the end of path 0 sent the DATA_FIN, and all bytes of the file before it are acknowledged: SND.UNA is past them
   abbrev pub FinIsSent : List Turn → Type 0
-  FinIsSent turns = (p : PathState Carried) → IsPathAt 0 (reached values start turns) p → (end_at s p).sending.fin_sent ≡ true
+  FinIsSent turns = (p : PathState Carried) → IsPathAt 0 (reached values start turns) p
+      → ((end_at s p).sending.fin_sent ≡ true) × (length (pick s start.file_a start.file_b) < (end_at s p).tcp.send.una)
 
--- Where all of a stream is read, and nothing is to be mended, and all of it is acknowledged in the first five rounds, it is closed a round later; and
--- in the next round its end sends the DATA_FIN, or the peer's side knows the end. If what the end sent so comes in four more, the peer's side knows
--- it then.
+-- Where all of a stream is read, and nothing is to be mended, and all of it is acknowledged in the first five rounds, it is closed a round later;
+-- and in the next round its end sends the DATA_FIN, or the peer's side knows the end. If what the end sent so, behind bytes that are all
+-- acknowledged, comes in four more, the peer's side knows it then.
 pub record AnEndComes (start : Start) (s : Side) (b u : List Turn) : Type 0 where
   pub closed : IsClosed start s b
   pub known : EndIsKnown start s u

@@ -37,7 +37,7 @@ use Rattle.whole_paths.specs.Arrivals.{HasItsMapping}
 use Rattle.whole_paths.specs.AsFar.{stage}
 use Rattle.whole_paths.specs.Brought.{FailsItsCheck, IsToReset, IsUnsure}
 use Rattle.whole_paths.specs.Flights.{IsFirst, IsOnItsWay, IsSentSo}
-use Rattle.whole_paths.specs.Harms.{harms_left, loses, longest_way}
+use Rattle.whole_paths.specs.Finish.{is_harmed}
 use Rattle.whole_paths.specs.InHand.{IsInHand, IsPartial}
 use Rattle.whole_paths.specs.Owed.{IsAnswered, IsAnsweredSo, IsToRefuse}
 use Rattle.whole_paths.specs.Waits.{IsNews}
@@ -71,7 +71,7 @@ pub record IsBareWithin (edge next : ℕ) (x : PlainSegment) : Type 0 where
 -- how far the exchange of a record is that this side's end sends, if by this tick an answer is to come
 pub data IsExchanged (s : Side) (r : Record) (by : ℕ) (p : PathState Carried) : Type 0 where
   -- the record is the first that isn't acknowledged, and a copy of it comes so early that the answer comes in time
-  comes : (arrival : ℕ) → arrival + longest_way (peer s) p.link ≤ by → IsFirst r (end_at s p) → (way : IsOnItsWay values s r arrival p)
+  comes : (arrival : ℕ) → arrival + 400 ≤ by → IsFirst r (end_at s p) → (way : IsOnItsWay values s r arrival p)
       → IsSentSo (IsSentWhole p.profile s r) way
       → IsExchanged s r by p
   -- the end has both SYNs, and the peer has all of it in hand, or answers that its RCV.NXT is at the end of the record, or past it
@@ -87,14 +87,12 @@ pub data IsExchanged (s : Side) (r : Record) (by : ℕ) (p : PathState Carried) 
 abbrev pub AtEither : (PathEnd → Type 0) → Side → PathState Carried → PathState Carried → Type 0
 AtEither Holds t p q = Holds (end_at t p) ⊎ Holds (end_at t q)
 
--- there is news, or the script harms a segment of the exchange, or an end of the path dies
+-- there is news, or a segment of the exchange is harmed, or an end of the path dies
 pub data IsHeldUp (s : Side) (p q : PathState Carried) : Type 0 where
   news : IsNews (end_at s p) (end_at s q) → IsHeldUp s p q
   -- octets of the peer's came in order
   more_came : (end_at s p).tcp.recv.edge < (end_at s q).tcp.recv.edge → IsHeldUp s p q
-  -- a line was used by which a segment is lost or late, or the link lost one by the word drawn for it, or since its queue was full
-  harmed : harms_left q.link < harms_left p.link → IsHeldUp s p q
-  lost : (t : Side) (x : PlainSegment) → q.link ≡ handed values t x p → loses t (length (made p.profile.spelling t x)) p.clock p.link ≡ true → IsHeldUp s p q
+  harmed : (t : Side) → is_harmed t p q ≡ true → IsHeldUp s p q
   -- an end is dead, or the line came next by which the path died
   gone : (t : Side) → AtEither (λ e. is_dead e.tcp.state ≡ true) t p q → IsHeldUp s p q
   dies : (line : LineLeft) → next_event p ≡ Some (happenings.Takes line) → line.action ≡ actions.Die → is_dead q.a.tcp.state ≡ true → IsHeldUp s p q
@@ -144,7 +142,7 @@ ExchangesGoOn _ _ = ⊥
 -- where a turn is over, with the first record of each end that opens, is open or closes: within a minute and the longest time there and back
 abbrev pub ExchangesBegin : PathState Carried → Type 0
 ExchangesBegin p = p.agenda ≡ [] → (s : Side) → is_closed_to_segments (end_at s p).tcp.state ≡ false → (r : Record) (others : List Record)
-    → (end_at s p).tcp.send.records ≡ r ∷ others → IsExchanged s r (p.clock + 60000 + longest_way s p.link + longest_way (peer s) p.link) p
+    → (end_at s p).tcp.send.records ≡ r ∷ others → IsExchanged s r (p.clock + 60000 + 400 + 400) p
 
 -- once the clock is past its tick SND.UNA is at the record's end, or past it
 abbrev pub ExchangesEnd : PathState Carried → Type 0

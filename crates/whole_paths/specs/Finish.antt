@@ -74,10 +74,12 @@ pub record IsBrief (script : Script) (turns : List Turn) : Type 0 where
 abbrev pub Patience : Type 0
 Patience = Script → PathLine → List ℕ → List ℕ → ℕ → ℕ
 
--- 80 rounds, 16 for each full segment of either file, and 1,300 for each segment that is harmed: two greatest timeouts of 60,000 ticks
+-- 13,000 rounds, 26 for each full segment of either file, and 3,900 for each segment that is harmed. A harm may cost a wait for a timer of 60,000 ticks
+-- as the path opens, and four afterwards, with what is sent behind them. Of the 13,000 rounds 3,100 are for the opening, and 9,750 for three such harms,
+-- though no segment is harmed: what is sent as the path opens may be dropped, and the end of a stream may be overtaken by its last bytes.
 abbrev pub patience : Patience
 patience script path file_a file_b harmed =
-    80 + 16 * (segments path.mss (length file_a) + segments path.mss (length file_b)) + 1300 * harmed
+    13000 + 26 * (segments path.mss (length file_a) + segments path.mss (length file_b)) + 3900 * harmed
 
 -- how many rounds end by these turns
 abbrev pub rounds_in : List Turn → ℕ

@@ -22,11 +22,10 @@ use Rattle.world_laws.specs.Openings.{Start}
 use Rattle.world_laws.specs.RoundDone.{reached}
 use Rattle.world_laws.specs.Worlds.{Turn, after_turn}
 use Rattle.whole_paths.specs.AsFar.{stage}
-use Rattle.whole_paths.specs.Exchanges.{IsFaithful, IsHeldUp}
+use Rattle.whole_paths.specs.Exchanges.{IsFaithful}
 use Rattle.whole_paths.specs.Flights.{IsOnItsWay, IsSentSo}
-use Rattle.whole_paths.specs.Harms.{longest_way}
 use Rattle.whole_paths.specs.Mild.{IsMildStart}
-use Rattle.whole_paths.specs.News.{Counts}
+use Rattle.whole_paths.specs.Opened.{OpensOn}
 use Rattle.whole_paths.specs.OpeningConfirmed.{IsConfirmed}
 
 -- A's end sends the record with both keys, and the link leaves the copy as it is
@@ -49,12 +48,10 @@ pub data IsFirstPieceAwaited (x : ℕ) (p : PathState Carried) : Type 0 where
       → IsSentSo (ShowsBothKeys p.profile r) way → IsFirstPieceAwaited x p
   hears : p.b.modes.clear ≡ false → IsConfirmed B p → IsFirstPieceAwaited x p
 
--- as the path becomes another one
+-- as the path becomes another one: it is awaited still, or the path is a step further, or a segment is harmed, or an end is dead
 pub data FirstPieceGoesOn (x : ℕ) (p q : PathState Carried) : Type 0 where
   on : IsFirstPieceAwaited x q → FirstPieceGoesOn x p q
-  -- what counts came between, as that an end may send a DSS
-  counts : Counts p q → FirstPieceGoesOn x p q
-  held_up : (s : Side) → IsHeldUp s p q → FirstPieceGoesOn x p q
+  opens : OpensOn p q → FirstPieceGoesOn x p q
 
 -- as the path becomes this actor, with fewer than 2^64 - 1 segments sent from each side
 abbrev pub FirstPiecesGoOn : Actor Carried → Actor Carried → Type 0
@@ -66,7 +63,7 @@ FirstPiecesGoOn _ _ = ⊥
 abbrev pub FirstPiecesBegin : PathState Carried → Type 0
 FirstPiecesBegin p = p.agenda ≡ [] → is_joined p.profile ≡ false → is_dead p.a.tcp.state ≡ false → (r : Record) (others : List Record)
     → p.a.tcp.send.records ≡ r ∷ others → r.kind ≡ Data → r.pos ≡ 1 → 2 ≤ stage p.a.tcp.state → p.a.modes.clear ≡ false
-    → p.b.modes.clear ≡ false → 2 ≤ stage p.b.tcp.state → p.b.tcp.recv.edge ≡ 1 → IsFirstPieceAwaited (p.clock + 60000 + longest_way A p.link) p
+    → p.b.modes.clear ≡ false → 2 ≤ stage p.b.tcp.state → p.b.tcp.recv.edge ≡ 1 → IsFirstPieceAwaited (p.clock + 60000 + 400) p
 
 -- where a turn is over the clock isn't past its tick
 abbrev pub FirstPiecesEnd : PathState Carried → Type 0

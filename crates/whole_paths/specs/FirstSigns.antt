@@ -3,6 +3,7 @@ use Rattle.std.specs.Prelude.{ℕ, ◌+◌, ◌-◌, ◌^◌, ◌≡◌, ◌<◌
 use Rattle.sides.specs.declared.side.Side.{Side}
 use Rattle.sides.specs.declared.side.Side.TheVariants.{A, B}
 use Rattle.link_model.specs.Steps.{segments_sent}
+use Rattle.subflow_send.specs.Records.{Record}
 use Rattle.subflow_tcp.specs.States.{is_closed_to_segments}
 use Rattle.path_core.specs.DataFin.{is_data_fin_owed}
 use Rattle.path_core.specs.End.{PathEnd}
@@ -16,10 +17,10 @@ use Rattle.world_laws.specs.RoundDone.{reached}
 use Rattle.world_laws.specs.Worlds.{Turn, after_turn}
 use Rattle.whole_paths.specs.AsFar.{stage}
 use Rattle.whole_paths.specs.DataAcksAsked.{IsAskedAgain, IsAskedSo}
-use Rattle.whole_paths.specs.Exchanges.{IsFaithful, IsHeldUp}
-use Rattle.whole_paths.specs.Harms.{longest_way}
+use Rattle.whole_paths.specs.Exchanges.{IsFaithful}
 use Rattle.whole_paths.specs.Mild.{IsMildStart}
-use Rattle.whole_paths.specs.News.{Counts}
+use Rattle.whole_paths.specs.Flights.{IsFirst, IsOnItsWay, IsSentSo}
+use Rattle.whole_paths.specs.Opened.{OpensOn}
 use Rattle.whole_paths.specs.OpeningConfirmed.{IsConfirmed}
 
 -- An end that may send a DSS asks for the Data ACK of its DATA_FIN, at this position, behind all that it sent; and the link leaves the copy as it
@@ -46,12 +47,12 @@ pub data IsSignAwaited (x : ℕ) (p : PathState Carried) : Type 0 where
   comes : p.a.modes.clear ≡ false → 2 ≤ stage p.a.tcp.state → WaitsAtItsEnd p.b → (h : IsAskedAgain values B x p) → IsAskedSo (AsksByItsEnd p.a.tcp.recv.edge) h → IsSignAwaited x p
   hears : p.a.modes.clear ≡ false → IsConfirmed A p → IsSignAwaited x p
 
--- as the path becomes another one
+-- as the path becomes another one: it is awaited still, or the path is a step further, or a segment is harmed, or an end is dead
 pub data SignGoesOn (x : ℕ) (p q : PathState Carried) : Type 0 where
   on : IsSignAwaited x q → SignGoesOn x p q
-  -- what counts came between, as that an end may send a DSS, or that B sends more
-  counts : Counts p q → SignGoesOn x p q
-  held_up : (s : Side) → IsHeldUp s p q → SignGoesOn x p q
+  opens : OpensOn p q → SignGoesOn x p q
+  -- B has a record again, which comes by the same tick
+  record_waits : q.b.modes.clear ≡ true → 2 ≤ stage q.a.tcp.state → (r : Record) → IsFirst r q.b → (way : IsOnItsWay values B r x q) → IsSentSo (λ sender stripped altered. ⊥) way → SignGoesOn x p q
 
 -- as the path becomes this actor, with fewer than 2^64 - 1 segments sent from each side
 abbrev pub SignsGoOn : Actor Carried → Actor Carried → Type 0
@@ -62,7 +63,7 @@ SignsGoOn _ _ = ⊥
 -- where a turn is over, within a minute and the longest time on its way
 abbrev pub SignsBegin : PathState Carried → Type 0
 SignsBegin p = p.agenda ≡ [] → is_closed_to_segments p.b.tcp.state ≡ false → p.b.tcp.send.records ≡ [] → p.a.modes.clear ≡ false
-    → 2 ≤ stage p.a.tcp.state → WaitsAtItsEnd p.b → IsSignAwaited (p.clock + 60000 + longest_way B p.link) p
+    → 2 ≤ stage p.a.tcp.state → WaitsAtItsEnd p.b → IsSignAwaited (p.clock + 60000 + 400) p
 
 -- where a turn is over in a round that ends past its tick none is awaited
 abbrev pub SignsAreDue : PathState Carried → Type 0

@@ -26,9 +26,9 @@ use Rattle.world_laws.specs.Laws.{Always}
 use Rattle.world_laws.specs.Members.{HoldsOfKind}
 use Rattle.world_laws.specs.NeverFalls.{StripsNothing}
 use Rattle.world_laws.specs.Worlds.{WorldState, Turn, after_turn}
-use Rattle.whole_paths.specs.Copies.{IsUnderWay}
+use Rattle.whole_paths.specs.Copies.{IsUnderWay, LinksAreNumbered}
 use Rattle.whole_paths.specs.Expiries.{IsSegmentOf, IsSaidAt, IsToSendAgain}
-use Rattle.whole_paths.specs.Harms.{harms_left, loses, longest_way}
+use Rattle.whole_paths.specs.Finish.{is_harmed}
 use Rattle.whole_paths.specs.InTime.{NothingIsOverdue}
 use Rattle.whole_paths.specs.Kept.{IsSameRecord}
 use Rattle.whole_paths.specs.Waits.{RunsTo, IsNews}
@@ -58,8 +58,8 @@ module _ {C : Type 0} where
   -- A copy of it comes by this tick, unless the script harms it: as late as the link may hand on what is sent as the timer runs out, or now,
   -- where the record is to be sent again; or the copy is under way.
   pub data IsOnItsWay (k : Codec C) (s : Side) (r : Record) (by : ℕ) (p : PathState C) : Type 0 where
-    waits : (tick : ℕ) → tick + longest_way s p.link ≤ by → RunsTo tick (end_at s p) → IsFirst r (end_at s p) → IsOnItsWay k s r by p
-    resends : p.clock + longest_way s p.link ≤ by → IsToSendAgain s p → IsFirst r (end_at s p) → IsOnItsWay k s r by p
+    waits : (tick : ℕ) → tick + 400 ≤ by → RunsTo tick (end_at s p) → IsFirst r (end_at s p) → IsOnItsWay k s r by p
+    resends : p.clock + 400 ≤ by → IsToSendAgain s p → IsFirst r (end_at s p) → IsOnItsWay k s r by p
     flies : (f : Flight C) → f.tick ≤ by → IsUnderWay f p → IsCopyOf k s r p f → IsOnItsWay k s r by p
 
   -- what becomes of it, as the path becomes another one
@@ -69,12 +69,9 @@ module _ {C : Type 0} where
     -- a copy of it was what arrives next
     arrives : (f : Flight C) → f.tick ≤ by → IsUnderWay f p → IsCopyOf k s r p f → (others : List Duty) → p.agenda ≡ duties.Step step_duties.Events ∷ others
         → next_event p ≡ Some (happenings.Arrives (due_of f)) → GoesOnTo k s r by p q
-    -- there is news, or a line was used by which a segment is lost or late
+    -- there is news, or its segment is harmed
     news : IsNews (end_at s p) (end_at s q) → GoesOnTo k s r by p q
-    harmed : harms_left q.link < harms_left p.link → GoesOnTo k s r by p q
-    -- the link took its segment, and lost it by the word drawn for it, or since its queue was full: never a plain direction (Mild)
-    lost : (x : PlainSegment) → IsSegmentOf r x → q.link ≡ handed k s x p → loses s (length (made p.profile.spelling s x)) p.clock p.link ≡ true
-        → GoesOnTo k s r by p q
+    harmed : is_harmed s p q ≡ true → GoesOnTo k s r by p q
     -- the end is dead, or the line came next by which the path died
     gone : is_dead (end_at s q).tcp.state ≡ true → GoesOnTo k s r by p q
     dies : (line : LineLeft) → next_event p ≡ Some (happenings.Takes line) → line.action ≡ actions.Die → is_dead q.a.tcp.state ≡ true → GoesOnTo k s r by p q
@@ -100,7 +97,7 @@ module _ {C : Type 0} where
   -- time that a segment is under way
   abbrev pub IsOnItsWayAtTheEnd : Codec C → PathState C → Type 0
   IsOnItsWayAtTheEnd k p = p.agenda ≡ [] → (s : Side) → is_closed_to_segments (end_at s p).tcp.state ≡ false
-      → (r : Record) (others : List Record) → (end_at s p).tcp.send.records ≡ r ∷ others → IsOnItsWay k s r (p.clock + 60000 + longest_way s p.link) p
+      → (r : Record) (others : List Record) → (end_at s p).tcp.send.records ≡ r ∷ others → IsOnItsWay k s r (p.clock + 60000 + 400) p
 
   -- on each path
   pub record RecordsAreOnTheirWay (k : Codec C) (w : WorldState C) : Type 0 where
@@ -109,5 +106,5 @@ module _ {C : Type 0} where
   -- at each moment, and by any turn where no event was passed by
   pub record WhatWaitsComes (k : Codec C) : Type 0 where
     pub begins : Always k (λ start w. RecordsAreOnTheirWay k w)
-    pub goes_on : (w : WorldState C) → NothingIsOverdue w → (turn : Turn) (actor : ℕ) (c : ActorCrew C) → slice_get w.crew actor ≡ Some c
+    pub goes_on : (w : WorldState C) → NothingIsOverdue w → LinksAreNumbered w → (turn : Turn) (actor : ℕ) (c : ActorCrew C) → slice_get w.crew actor ≡ Some c
         → (d : ActorCrew C) × (slice_get (after_turn k turn w).crew actor ≡ Some d) × RecordsGoOn k c.member d.member

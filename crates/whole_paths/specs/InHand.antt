@@ -22,10 +22,10 @@ use Rattle.path_core.specs.declared.judged.Judged.TheVariants as judged
 use Rattle.world_laws.specs.declared.member.Member.TheVariants.{App, Path}
 use Rattle.world_laws.specs.Actors.{Actor, ActorCrew}
 use Rattle.world_laws.specs.Worlds.{WorldState, Turn, after_turn}
+use Rattle.whole_paths.specs.Copies.{LinksAreNumbered}
 use Rattle.whole_paths.specs.AsFar.{stage}
 use Rattle.whole_paths.specs.Answered.{CopiesAreAnswered}
 use Rattle.whole_paths.specs.Brought.{FailsItsCheck, IsToReset, IsUnsure, IsThere, Comes, IsTo, Brings}
-use Rattle.whole_paths.specs.Harms.{longest_way}
 use Rattle.whole_paths.specs.Mapped.{says_mapping, IsMapped, MappingsAreLive}
 use Rattle.whole_paths.specs.Owed.{AnswerGoesOn, AnswerComesSo}
 use Rattle.whole_paths.specs.Passed.{WhatIsInOrderIsPassed}
@@ -34,7 +34,7 @@ module _ {C : Type 0} where
   -- Each octet before this position came to the end, and its mapping, and the end owes an acknowledgement, which can come by this tick, as
   -- late as the link may hand on what is sent now. Both SYNs came.
   pub record IsInHand (s : Side) (position by : ℕ) (p : PathState C) : Type 0 where
-    pub in_time : p.clock + longest_way s p.link ≤ by
+    pub in_time : p.clock + 400 ≤ by
     pub opened : 2 ≤ stage (end_at s p).tcp.state
     pub due : (end_at s p).tcp.due.ack ≡ true
     pub octets : (pos : ℕ) → pos < position → (octet : ℕ) × IsThere s pos octet p
@@ -93,12 +93,12 @@ module _ {C : Type 0} where
   -- as the path becomes another one, unless it stays as it is: what comes in order is in hand, at once
   abbrev pub ComesInHand : Codec C → PathState C → PathState C → Type 0
   ComesInHand k p q = (b : Brings k p) → IsInOrder k p b
-      → (q ≡ p) ⊎ HandGoesOn k b.copy.due.to (b.position + length b.copy.segment.payload) (q.clock + longest_way b.copy.due.to q.link) p q
+      → (q ≡ p) ⊎ HandGoesOn k b.copy.due.to (b.position + length b.copy.segment.payload) (q.clock + 400) p q
 
   -- a copy that lies outside the window, as one that came before, is answered, where the end opened
   abbrev pub IsAnsweredOutside : Codec C → PathState C → PathState C → Type 0
   IsAnsweredOutside k p q = (c : Comes k p) → IsTo k p c (judged.As Outside) → 3 ≤ stage (end_at c.due.to p).tcp.state
-      → (q ≡ p) ⊎ AnswerGoesOn k c.due.to (end_at c.due.to p).tcp.recv.edge (q.clock + longest_way c.due.to q.link) p q
+      → (q ≡ p) ⊎ AnswerGoesOn k c.due.to (end_at c.due.to p).tcp.recv.edge (q.clock + 400) p q
 
   -- ---- any path
 
@@ -111,5 +111,5 @@ module _ {C : Type 0} where
 
   -- by any turn, where what is in order is passed, and each answered
   abbrev pub WhatIsInHandIsAcknowledged : Codec C → Type 0
-  WhatIsInHandIsAcknowledged k = (w : WorldState C) → CopiesAreAnswered w → WhatIsInOrderIsPassed w → MappingsAreLive w → (turn : Turn) (actor : ℕ) (c : ActorCrew C)
+  WhatIsInHandIsAcknowledged k = (w : WorldState C) → CopiesAreAnswered w → LinksAreNumbered w → WhatIsInOrderIsPassed w → MappingsAreLive w → (turn : Turn) (actor : ℕ) (c : ActorCrew C)
       → slice_get w.crew actor ≡ Some c → (d : ActorCrew C) × (slice_get (after_turn k turn w).crew actor ≡ Some d) × HandsGoOn k c.member d.member

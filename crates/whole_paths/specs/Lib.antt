@@ -24,6 +24,7 @@ pub mod DataAcksAsked
 pub mod DataAcksCome
 pub mod DataAcksExchanged
 pub mod DataAcksHeard
+pub mod Counts
 pub mod Courses
 pub mod DataAcksNow
 pub mod DataAcksOwed
@@ -36,6 +37,8 @@ pub mod ExpiriesInARow
 pub mod Deaths
 pub mod ExpirySegments
 pub mod AnsweredExpiries
+pub mod FinDebts
+pub mod FinsMended
 pub mod HeardBelow
 pub mod HeardSaid
 pub mod KeptAddresses
@@ -74,6 +77,7 @@ pub mod Outstanding
 pub mod OverOctets
 pub mod Owed
 pub mod PaidCourses
+pub mod PaidEnds
 pub mod PaidRounds
 pub mod Passed
 pub mod Probes
@@ -109,6 +113,11 @@ pub mod BareSegments
 pub mod FinsComing
 pub mod OneDebt
 pub mod WindowsComing
+pub mod WindowsAssured
+pub mod FilesFit
+pub mod AnswersAssure
+pub mod AsksOwed
+pub mod ToldEdges
 pub mod Writers
 pub mod EndedStreams
 pub mod Ends
@@ -130,6 +139,7 @@ pub mod NeverAborted
 pub mod PositionCounts
 pub mod SentInOrder
 pub mod Pushed
+pub mod FullGrants
 pub mod SegmentRounds
 pub mod EndRounds
 pub mod UnitRounds
@@ -152,3 +162,6 @@ pub mod SharpPaths
 pub mod SynsSoon
 pub mod FirstPiecesSoon
 pub mod AnswersSoon
+pub mod Opened
+pub mod SignPieces
+pub mod EarlyRecords

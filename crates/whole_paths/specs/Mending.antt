@@ -5,7 +5,8 @@ use Rattle.sides.specs.declared.side.Side.TheVariants.{B}
 use Rattle.sides.specs.Side.{peer}
 use Rattle.path_segments.specs.Spelled.{PlainSegment}
 use Rattle.link_model.specs.declared.flight.Flight.{Flight}
-use Rattle.link_model.specs.Steps.{changed, segments_sent}
+use Rattle.link_model.specs.Fate.{is_stripped, is_altered}
+use Rattle.link_model.specs.Steps.{changed, next_number, segments_sent}
 use Rattle.stream_lanes.specs.Words.{Every, Has}
 use Rattle.subflow_recv.specs.Receiving.{octet_at, after_keep_held}
 use Rattle.subflow_send.specs.Records.{Record, end_of}
@@ -25,7 +26,7 @@ use Rattle.world_laws.specs.Openings.{Start}
 use Rattle.world_laws.specs.RoundDone.{reached}
 use Rattle.world_laws.specs.Worlds.{Turn, WorldState}
 use Rattle.whole_paths.specs.Brought.{IsThere}
-use Rattle.whole_paths.specs.Copies.{IsUnderWay}
+use Rattle.whole_paths.specs.Copies.{CopiesAreNumbered, IsUnderWay, LinksAreNumbered}
 use Rattle.whole_paths.specs.Exchanges.{IsSentWhole}
 use Rattle.whole_paths.specs.Finish.{is_harmed}
 use Rattle.whole_paths.specs.Flights.{IsCopyOf}
@@ -39,10 +40,6 @@ use Rattle.whole_paths.specs.Straying.{IsOpen, IsOpenFrom}
 -- ---- one segment
 
 module _ {C : Type 0} where
-  -- no copy under way has a number past that of the last segment that the link took from its side
-  abbrev pub CopiesAreNumbered : PathState C → Type 0
-  CopiesAreNumbered p = (f : Flight C) → IsUnderWay f p → f.number ≤ segments_sent (peer f.to) p.link
-
   -- What the link made of the segment as the path became another one is under way, as the last one from the side, and comes within 400 ticks.
   -- Where no line of the path takes options away none were, and where none alters payload the copy's wasn't.
   pub record IsSentSoon (k : Codec C) (s : Side) (x : PlainSegment) (p q : PathState C) : Type 0 where
@@ -53,6 +50,8 @@ module _ {C : Type 0} where
     pub soon : copy.tick ≤ p.clock + 400
     pub stripped : Bool
     pub altered : Bool
+    pub strips_it : stripped ≡ is_stripped s (next_number s p.link) p.clock p.link.lines
+    pub alters_it : altered ≡ is_altered s (next_number s p.link) p.link.lines
     pub whole : StripsNothing p.link.lines → stripped ≡ false
     pub plain : AltersNothing p.link.lines → altered ≡ false
     pub carried : copy.carried
@@ -62,10 +61,6 @@ module _ {C : Type 0} where
   abbrev pub SegmentsComeSoon : Codec C → PathState C → PathState C → Type 0
   SegmentsComeSoon k p q = (s : Side) (x : PlainSegment) → segments_sent s p.link < 2 ^ 64 - 1 → q.link ≡ handed k s x p
       → (is_harmed s p q ≡ true) ⊎ IsSentSoon k s x p q
-
-  -- on each path
-  pub record LinksAreNumbered (w : WorldState C) : Type 0 where
-    pub each : (actor : ℕ) (c : ActorCrew C) → slice_get w.crew actor ≡ Some c → HoldsOfKind (λ app. Unit {0}) CopiesAreNumbered c.member
 
 -- what is sent comes soon, or is harmed
 pub record WhatIsSentComesSoon {C : Type 0} (k : Codec C) : Type 0 where

@@ -97,6 +97,37 @@ EndsWithin enough = (start : Start) (plan : PathPlan) (before more : List Turn) 
 abbrev pub WhatIsThereInTimeIsDelivered : Type 0
 WhatIsThereInTimeIsDelivered = (enough : Allowance) → AllIsThereWithin enough → EndsWithin enough
 
+-- ---- by any count
+
+-- what is counted of a run, by how it begins and by its turns
+abbrev pub Count : Type 0
+Count = Start → List Turn → ℕ
+
+-- it never falls
+abbrev pub NeverFalls : Count → Type 0
+NeverFalls count = (start : Start) (turns more : List Turn) → count start turns ≤ count start (turns ++ more)
+
+-- the segments of path 0 that are harmed
+abbrev pub harms_alone : {C : Type 0} → Codec C → Count
+harms_alone k start turns = harmed k 0 turns (opened_world start)
+
+-- The same of connections that are so besides, and of rounds enough for all that is counted.
+module _ (Also : Start → PathPlan → Type 0) (count : Count) (enough : Allowance) where
+  abbrev pub AllIsThereBy : Type 0
+  AllIsThereBy = (start : Start) (plan : PathPlan) (before more : List Turn) (most : ℕ) → BeginsWithOnePath start plan → Also start plan
+      → AreLawful values more (reached values start before) → length (before ++ more) < 2 ^ 64 - 1 → IsWhole 0 (reached values start before)
+      → IsWhole 0 (reached values start (before ++ more)) → count start (before ++ more) ≤ most
+      → enough start most < 100 * rounds_in more → AllIsThere (reached values start (before ++ more))
+
+  abbrev pub EndsBy : Type 0
+  EndsBy = (start : Start) (plan : PathPlan) (before more : List Turn) (most : ℕ) → BeginsWithOnePath start plan → Also start plan
+      → AreLawful values more (reached values start before) → length (before ++ more) < 2 ^ 64 - 1 → IsWhole 0 (reached values start before)
+      → count start (before ++ more) ≤ most → enough start most + 300 < 100 * rounds_in more
+      → (outcome_of (reached values start (before ++ more)).crew ≡ Delivered) ⊎ AnEndDiedEarly values start (before ++ more)
+
+  abbrev pub WhatIsThereInTimeIsDeliveredBy : Type 0
+  WhatIsThereInTimeIsDeliveredBy = NeverFalls count → AllIsThereBy → EndsBy
+
 -- ---- what is said of mild scripts of one path
 
 -- so many rounds are enough
@@ -114,3 +145,18 @@ module _ {C : Type 0} (k : Codec C) where
   -- what is said of each start holds of such scripts
   abbrev pub EndsAsItBegins : Type 0
   EndsAsItBegins = (enough : Allowance) → EndsWithin enough → BriefPathsEnd (rounds_within enough)
+
+  -- by any count, of scripts that are so besides
+  abbrev pub BriefPathsEndBy : (Start → PathPlan → Type 0) → Count → Patience → Type 0
+  BriefPathsEndBy Also count enough = (script : Script) (path : PathLine) (file_a file_b : List ℕ) (before more : List Turn) → IsMild script path file_a file_b
+      → Also (start_of script file_a file_b) (plan_of script 0 path)
+      → let turns = before ++ Turn.Round ∷ more in IsBrief script turns → AreLawful k turns (opened script file_a file_b)
+      → IsWhole 0 (run_of k script file_a file_b (before ++ Turn.Round ∷ []))
+      → enough script path file_a file_b (count (start_of script file_a file_b) turns) ≤ rounds_in more
+      → (outcome_of (run_of k script file_a file_b turns).crew ≡ Delivered) ⊎ AnEndDiedEarly k (start_of script file_a file_b) turns
+
+  -- where as much is counted as over segments as values
+  abbrev pub EndsAsItBeginsBy : Type 1
+  EndsAsItBeginsBy = (Also : Start → PathPlan → Type 0) (count counted : Count) (enough : Allowance)
+      → ((start : Start) → IsMildStart start → (turns : List Turn) → counted start turns ≡ count start turns)
+      → EndsBy Also count enough → BriefPathsEndBy Also counted (rounds_within enough)

@@ -18,7 +18,6 @@ use Rattle.world_laws.specs.Worlds.{WorldState, Turn, after_turn, world_run}
 use Rattle.whole_paths.specs.DataAcksExchanged.{IsAwry, IsInquired}
 use Rattle.whole_paths.specs.DataAcksOwed.{WantsWhereItSends}
 use Rattle.whole_paths.specs.Exchanges.{IsHeldUp}
-use Rattle.whole_paths.specs.Harms.{longest_way}
 use Rattle.whole_paths.specs.Mild.{IsMildStart}
 use Rattle.whole_paths.specs.Reasons.{IsOutstanding}
 use Rattle.whole_paths.specs.Straying.{IsOpen}
@@ -96,7 +95,7 @@ module _ (six : SixBooks) where
   -- where the path's turn is over it asks for the answer, within a minute and the longest time there and back
   abbrev pub AskBegins : PathState Carried → Type 0
   AskBegins p = IsOpen p → p.agenda ≡ [] → (s : Side) → (end_at s p).tcp.send.records ≡ [] → (place : ℕ) (fin : Bool) → IsUnansweredAt s place fin p
-      → IsInquired s place fin (p.clock + 60000 + longest_way s p.link + longest_way (peer s) p.link) p
+      → IsInquired s place fin (p.clock + 60000 + 400 + 400) p
 
   -- in a round that ends past its tick it was answered
   abbrev pub AskIsDue : PathState Carried → Type 0

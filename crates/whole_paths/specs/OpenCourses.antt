@@ -16,7 +16,6 @@ use Rattle.whole_paths.specs.Exchanges.{IsFaithful, IsHeldUp}
 use Rattle.whole_paths.specs.Finish.{IsPathAt, IsWhole, rounds_in}
 use Rattle.whole_paths.specs.Mild.{IsMildStart}
 use Rattle.whole_paths.specs.News.{most_news}
-use Rattle.whole_paths.specs.PaidCourses.{PaidExchanges}
 use Rattle.whole_paths.specs.Rounds.{ticks_for}
 use Rattle.whole_paths.specs.Straying.{IsOpen}
 
@@ -63,12 +62,3 @@ OpenExchangesEnd = (start : Start) (most within : ℕ) (Over : List Turn → Typ
     → (before more : List Turn) → AreLawful values more (reached values start before) → IsWhole 0 (reached values start before)
     → (last : IsWhole 0 (reached values start (before ++ more))) → ((s : Side) → segments_sent s last.path.link < 2 ^ 64 - 1)
     → harmed_so_far values start (before ++ more) ≤ most → ticks_for within (suc (most_news start + most)) < 100 * rounds_in more → Over (before ++ more)
-
--- and where waits are paid, with rounds enough for all that can be paid
-abbrev pub OpenPaidExchangesEnd : Type 1
-OpenPaidExchangesEnd = (start : Start) (most most_paid : ℕ) (Over : List Turn → Type 0) (Pays : ℕ → List Turn → Type 0) (Waits : ℕ → ℕ → List Turn
-    → Type 0) → IsMildStart start
-    → PaidExchanges values start (IsOpenAfter start) most most_paid Over Pays Waits
-    → (before more : List Turn) → Pays 0 before → AreLawful values more (reached values start before) → IsWhole 0 (reached values start before)
-    → (last : IsWhole 0 (reached values start (before ++ more))) → ((s : Side) → segments_sent s last.path.link < 2 ^ 64 - 1)
-    → harmed_so_far values start (before ++ more) ≤ most → most_paid < 100 * rounds_in more → Over (before ++ more)

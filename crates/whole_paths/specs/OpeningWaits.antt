@@ -9,16 +9,17 @@ use Rattle.path_core.specs.Values.{Carried, values}
 use Rattle.sides.specs.Side.{peer}
 use Rattle.world_laws.specs.Actors.{ActorCrew}
 use Rattle.world_laws.specs.Members.{HoldsOfKind}
-use Rattle.world_laws.specs.Openings.{Start}
+use Rattle.world_laws.specs.Openings.{PathPlan, Start}
 use Rattle.world_laws.specs.RoundDone.{reached}
 use Rattle.world_laws.specs.Worlds.{Turn}
 use Rattle.whole_paths.specs.AsFar.{stage}
-use Rattle.whole_paths.specs.Courses.{BeginsARound, TakesAStep, counted, round_end}
+use Rattle.whole_paths.specs.Courses.{BeginsARound, TakesAStep, round_end}
 use Rattle.whole_paths.specs.Delivery.{HasFinished}
 use Rattle.whole_paths.specs.Finish.{IsPathAt}
-use Rattle.whole_paths.specs.Harms.{longest_way}
 use Rattle.whole_paths.specs.Mild.{IsMildStart}
+use Rattle.whole_paths.specs.OnePathScripts.{BeginsWithOnePath}
 use Rattle.whole_paths.specs.OpenCourses.{IsNow}
+use Rattle.whole_paths.specs.Opened.{opened_or_harmed}
 use Rattle.whole_paths.specs.SynAcks.{IsToBeAnswered}
 use Rattle.whole_paths.specs.Syns.{IsSynAwaited, IsToOpen}
 
@@ -63,12 +64,11 @@ abbrev pub LivingEndsOpenOrArePast : Type 0
 LivingEndsOpenOrArePast = (start : Start) (turns : List Turn) → IsMildStart start → (p : PathState Carried) → IsPathAt 0 (reached values start turns) p → IsAlive p
     → IsOpening p ⊎ ((s : Side) → 3 ≤ stage (end_at s p).tcp.state)
 
--- over such a path a segment goes for so long at most, there and back
-pub record OpensStill (start : Start) (way : ℕ) (turns : List Turn) : Type 0 where
+-- so it is after these turns
+pub record OpensStill (start : Start) (turns : List Turn) : Type 0 where
   pub path : PathState Carried
   pub here : IsPathAt 0 (reached values start turns) path
   pub opening : IsOpening path
-  pub near : longest_way A path.link + longest_way B path.link ≤ way
 
 -- A's end has finished, so that all of its side's stream is with the peer
 pub record AHasFinished (start : Start) (turns : List Turn) : Type 0 where
@@ -88,20 +88,20 @@ module _ (start : Start) (most : ℕ) where
   abbrev pub AliveOpens : List Turn → List Turn → Type 0
   AliveOpens = BeginsARound values start IsAliveAfter most
 
-  -- something is counted, or A has finished, or the wait goes on
+  -- the path is a step further, or a segment was harmed, or A has finished, or the wait goes on
   abbrev pub OpeningGoesOn : ℕ → List Turn → List Turn → Type 0
-  OpeningGoesOn x v u = (counted values start v < counted values start u) ⊎ (AHasFinished start v ⊎ AwaitsOpening start x u)
+  OpeningGoesOn x v u = (opened_or_harmed start v < opened_or_harmed start u) ⊎ (AHasFinished start v ⊎ AwaitsOpening start x u)
 
-  -- As a round begins a wait begins, for a minute and as long as a segment is under way there and back; it goes on by each step, and as the next
-  -- round begins; and no round begins past it, unless something is counted, or A has finished.
+  -- As a round begins a wait begins, for a minute and 400 ticks there and back; it goes on by each step, and as the next round begins; and no round
+  -- begins past it, unless the path is a step further, or a segment was harmed, or A has finished.
   pub record OpeningIsAwaited : Type 0 where
-    pub begins : (way : ℕ) (v u : List Turn) → AliveOpens v u → OpensStill start way v → AHasFinished start v
-        ⊎ AwaitsOpening start (round_end values start v + (60000 + way)) u
+    pub begins : (v u : List Turn) → AliveOpens v u → OpensStill start v → AHasFinished start v
+        ⊎ AwaitsOpening start (round_end values start v + 60800) u
     pub on : (x : ℕ) (v u : List Turn) → AliveSteps v u → AwaitsOpening start x v → OpeningGoesOn x v u
     pub next : (x : ℕ) (v u : List Turn) → AliveOpens v u → AwaitsOpening start x v → OpeningGoesOn x v u
     pub due : (x : ℕ) (v u : List Turn) → AliveOpens v u → AwaitsOpening start x v → x < round_end values start v
-        → (counted values start v < counted values start u) ⊎ AHasFinished start v
+        → (opened_or_harmed start v < opened_or_harmed start u) ⊎ AHasFinished start v
 
--- in each mild connection
+-- in each mild connection over one path
 abbrev pub OpeningsAreAwaited : Type 0
-OpeningsAreAwaited = (start : Start) (most : ℕ) → IsMildStart start → OpeningIsAwaited start most
+OpeningsAreAwaited = (start : Start) (plan : PathPlan) (most : ℕ) → BeginsWithOnePath start plan → OpeningIsAwaited start most

@@ -13,7 +13,6 @@ use Rattle.whole_paths.specs.AnswerWaits.{HasAnAsk}
 use Rattle.whole_paths.specs.Courses.{counted}
 use Rattle.whole_paths.specs.Finish.{IsPathAt}
 use Rattle.whole_paths.specs.GoingOn.{steps_of}
-use Rattle.whole_paths.specs.Harms.{longest_way}
 use Rattle.whole_paths.specs.Mild.{IsMildStart}
 use Rattle.whole_paths.specs.Reasons.{IsOutstanding}
 use Rattle.whole_paths.specs.Straying.{IsOpen}
@@ -28,7 +27,7 @@ module _ (start : Start) (way : ℕ) (turns : List Turn) where
     pub side : Side
     pub outstanding : IsOutstanding (end_at side path)
     pub room : (end_at (peer side) path).tcp.send.nxt ≤ (end_at side path).tcp.recv.edge + 1048576
-    pub near : longest_way side path.link + longest_way (peer side) path.link ≤ way
+    pub near : 400 + 400 ≤ way
 
   pub data WaitsForOne (h : HasOutstanding) : Type 0 where
     -- a record isn't acknowledged

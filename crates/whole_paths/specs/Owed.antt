@@ -25,8 +25,8 @@ use Rattle.world_laws.specs.NeverFalls.{StripsNothing}
 use Rattle.world_laws.specs.Worlds.{WorldState, Turn, after_turn}
 use Rattle.whole_paths.specs.AsFar.{stage}
 use Rattle.whole_paths.specs.Answered.{CopiesAreAnswered}
-use Rattle.whole_paths.specs.Copies.{IsUnderWay}
-use Rattle.whole_paths.specs.Harms.{harms_left, loses, longest_way}
+use Rattle.whole_paths.specs.Copies.{IsUnderWay, LinksAreNumbered}
+use Rattle.whole_paths.specs.Finish.{is_harmed}
 
 -- the segment acknowledges all before this position at least, and is no reset
 pub record Covers (position : ℕ) (x : PlainSegment) : Type 0 where
@@ -56,7 +56,7 @@ module _ {C : Type 0} where
   -- Such a copy comes by this tick, unless the script harms it: as late as the link may hand on what is sent now, where the end owes an
   -- acknowledgement and all before the position came to it; or the copy is under way. Both SYNs came.
   pub data IsAnswered (k : Codec C) (s : Side) (position by : ℕ) (p : PathState C) : Type 0 where
-    owes : p.clock + longest_way s p.link ≤ by → 2 ≤ stage (end_at s p).tcp.state → position ≤ (end_at s p).tcp.recv.edge → (end_at s p).tcp.due.ack ≡ true
+    owes : p.clock + 400 ≤ by → 2 ≤ stage (end_at s p).tcp.state → position ≤ (end_at s p).tcp.recv.edge → (end_at s p).tcp.due.ack ≡ true
         → IsAnswered k s position by p
     flies : (f : Flight C) → f.tick ≤ by → IsUnderWay f p → IsAnswer k s position p f → IsAnswered k s position by p
 
@@ -67,11 +67,8 @@ module _ {C : Type 0} where
     -- such a copy was what arrives next
     arrives : (f : Flight C) → f.tick ≤ by → IsUnderWay f p → IsAnswer k s position p f → (others : List Duty) → p.agenda ≡ duties.Step step_duties.Events ∷ others
         → next_event p ≡ Some (happenings.Arrives (due_of f)) → AnswerGoesOn k s position by p q
-    -- a line was used by which a segment is lost or late
-    harmed : harms_left q.link < harms_left p.link → AnswerGoesOn k s position by p q
-    -- the link took such a segment, and lost it by the word drawn for it, or since its queue was full: never a plain direction (Mild)
-    lost : (x : PlainSegment) → Covers position x → q.link ≡ handed k s x p → loses s (length (made p.profile.spelling s x)) p.clock p.link ≡ true
-        → AnswerGoesOn k s position by p q
+    -- such a segment is harmed
+    harmed : is_harmed s p q ≡ true → AnswerGoesOn k s position by p q
     -- the end refuses a copy next, or answers one by a reset, as a dead end does, and one that listens
     resets : IsToRefuse s p.agenda → AnswerGoesOn k s position by p q
     -- the end is dead, or the line came next by which the path died
@@ -99,5 +96,5 @@ module _ {C : Type 0} where
 
   -- by any turn, where no end owes an acknowledgement as a turn is over or an event is next
   abbrev pub WhatIsOwedComes : Codec C → Type 0
-  WhatIsOwedComes k = (w : WorldState C) → CopiesAreAnswered w → (turn : Turn) (actor : ℕ) (c : ActorCrew C) → slice_get w.crew actor ≡ Some c
+  WhatIsOwedComes k = (w : WorldState C) → CopiesAreAnswered w → LinksAreNumbered w → (turn : Turn) (actor : ℕ) (c : ActorCrew C) → slice_get w.crew actor ≡ Some c
       → (d : ActorCrew C) × (slice_get (after_turn k turn w).crew actor ≡ Some d) × AnswersGoOn k c.member d.member

@@ -1,8 +1,10 @@
 -- On the only path of a connection positions count the bytes of the streams (RFC 8684, section 3.3.1): SND.NXT those that the path took, and
 -- RCV.NXT those that the peer's side received.
-use Rattle.std.specs.Prelude.{ℕ, suc, ◌≡◌, ◌<◌, ◌≤◌, false, Some, length, slice_get}
+use Rattle.std.specs.Prelude.{ℕ, suc, ◌≡◌, ◌<◌, ◌≤◌, true, false, Some, length, slice_get}
 use Rattle.sides.specs.declared.side.Side.{Side}
 use Rattle.sides.specs.Side.{peer}
+use Rattle.send_book.specs.declared.mark.ByteMark.{ByteMark}
+use Rattle.send_book.specs.Marks.{is_free_for}
 use Rattle.reassembly_book.specs.State.{received}
 use Rattle.path_core.specs.State.{PathState, end_at}
 use Rattle.world_laws.specs.Actors.{ActorCrew}
@@ -20,6 +22,10 @@ module _ {C : Type 0} where
     pub most : (end_at s p).tcp.send.nxt ≤ suc (suc (length (written_by s w).written))
     pub came : received (arrived_at (peer s) w) < (end_at (peer s) p).tcp.recv.edge
     pub exact : (end_at s p).tcp.send.finished ≡ false → (end_at (peer s) p).tcp.recv.edge ≡ suc (received (arrived_at (peer s) w))
+    -- each byte that was written has its mark, and all behind those that the path took are there for it
+    pub marked : length (written_by s w).marks ≡ length (written_by s w).written
+    pub free : (place : ℕ) (mark : ByteMark) → taken_len 0 (written_by s w).marks ≤ place → slice_get (written_by s w).marks place ≡ Some mark
+        → is_free_for 0 mark ≡ true
 
   -- of both streams, on each path
   pub record PositionsCountBytes (w : WorldState C) : Type 0 where

@@ -26,7 +26,6 @@ use Rattle.whole_paths.specs.DataAcksExchanged.{IsAskedPlainly, IsAwry}
 use Rattle.whole_paths.specs.DataAcksOwed.{IsDataAckFrom}
 use Rattle.whole_paths.specs.Exchanges.{IsFaithful, IsHeldUp}
 use Rattle.whole_paths.specs.Flights.{IsFirst, IsOnItsWay}
-use Rattle.whole_paths.specs.Harms.{longest_way}
 use Rattle.whole_paths.specs.Offered.{OffersWhereItSends}
 use Rattle.whole_paths.specs.Owed.{IsAnswered, IsAnsweredSo}
 use Rattle.whole_paths.specs.Reasons.{IsOutstanding}
@@ -37,7 +36,7 @@ use Rattle.whole_paths.specs.WindowsHeard.{IsOpenTo}
 -- How far it is, if by this tick an answer is to come, at the end's RCV.NXT or behind it, of which this is said; and what the end hears.
 pub data IsAskedFor (Says : ℕ → ℕ → PlainSegment → Type 0) (Hears : PathState Carried → Type 0) (s : Side) (by : ℕ) (p : PathState Carried) : Type 0 where
   -- the end asks, so early that the answer comes in time
-  asks : (arrival : ℕ) → arrival + longest_way (peer s) p.link ≤ by → (h : IsAskedAgain values s arrival p)
+  asks : (arrival : ℕ) → arrival + 400 ≤ by → (h : IsAskedAgain values s arrival p)
       → IsAskedSo (IsAskedPlainly (end_at s p).tcp.send.una) h → IsAskedFor Says Hears s by p
   -- the end has both SYNs, and the peer answers so
   answered : 2 ≤ stage (end_at s p).tcp.state → (h : IsAnswered values (peer s) 1 by p)
@@ -76,7 +75,7 @@ ProbesGoOn six after steps p q =
 abbrev pub ProbesBegin : SixBooks → PathState Carried → Type 0
 ProbesBegin six p = p.agenda ≡ [] → (s : Side) → is_closed_to_segments (end_at s p).tcp.state ≡ false → (end_at s p).tcp.send.records ≡ []
     → IsOutstanding (end_at s p)
-    → (at : ℕ) → IsProbed six s at (p.clock + 60000 + longest_way s p.link + longest_way (peer s) p.link) p
+    → (at : ℕ) → IsProbed six s at (p.clock + 60000 + 400 + 400) p
 
 -- once the clock is past its tick the side may send so far, or hears so in its turn
 abbrev pub ProbesEnd : SixBooks → PathState Carried → Type 0

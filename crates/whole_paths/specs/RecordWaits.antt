@@ -13,7 +13,6 @@ use Rattle.whole_paths.specs.Courses.{BeginsARound, TakesAStep, counted, round_e
 use Rattle.whole_paths.specs.Exchanges.{IsExchanged}
 use Rattle.whole_paths.specs.Finish.{IsPathAt}
 use Rattle.whole_paths.specs.Flights.{IsFirst}
-use Rattle.whole_paths.specs.Harms.{longest_way}
 use Rattle.whole_paths.specs.Mild.{IsMildStart}
 use Rattle.whole_paths.specs.OpenCourses.{IsOpenAfter}
 
@@ -45,7 +44,7 @@ pub record HasARecord (start : Start) (way : ℕ) (turns : List Turn) : Type 0 w
   pub others : List Record
   pub records : (end_at side path).tcp.send.records ≡ first ∷ others
   pub unfinished : (end_at side path).tcp.send.finished ≡ false
-  pub near : longest_way side path.link + longest_way (peer side) path.link ≤ way
+  pub near : 400 + 400 ≤ way
 
 -- an end of path 0 sent no FIN, and over the path a segment goes for so long at most, there and back
 pub record SentNoFin (start : Start) (way : ℕ) (turns : List Turn) : Type 0 where
@@ -53,7 +52,7 @@ pub record SentNoFin (start : Start) (way : ℕ) (turns : List Turn) : Type 0 wh
   pub here : IsPathAt 0 (reached values start turns) path
   pub side : Side
   pub unfinished : (end_at side path).tcp.send.finished ≡ false
-  pub near : longest_way side path.link + longest_way (peer side) path.link ≤ way
+  pub near : 400 + 400 ≤ way
 
 -- its peer sent no more than its window has room for
 abbrev pub LeavesRoom : {start : Start} {way : ℕ} {turns : List Turn} → SentNoFin start way turns → Type 0

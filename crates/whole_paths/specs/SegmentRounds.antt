@@ -1,6 +1,6 @@
--- Rounds of a mild connection over one path between open ends, in which nothing is to be mended: in twelve of them the peer's reader reads a full
--- segment more. What was told is heard, bytes are written, sent, come, are passed, and read.
-use Rattle.std.specs.Prelude.{ℕ, suc, zero, ◌+◌, ◌-◌, ◌*◌, ◌≡◌, ◌≤◌, ◌⊎◌, min, true, List, [], ◌∷◌, ◌++◌, length}
+-- Rounds of a mild connection over one path between open ends, in which nothing is to be mended: in twenty of them the peer's reader reads a full
+-- segment more. What was told is heard, bytes are written, what is under way comes and is acknowledged, they are sent, come, are passed, and read.
+use Rattle.std.specs.Prelude.{ℕ, suc, zero, ◌+◌, ◌-◌, ◌≡◌, ◌≤◌, ◌⊎◌, min, true, List, [], ◌∷◌, ◌++◌, length}
 use Rattle.sides.specs.declared.side.Side.{Side}
 use Rattle.sides.specs.Side.{peer}
 use Rattle.send_book.specs.State.{acked_len}
@@ -14,6 +14,7 @@ use Rattle.world_laws.specs.Promises.{arrived_at, written_by}
 use Rattle.world_laws.specs.RoundDone.{reached}
 use Rattle.world_laws.specs.Worlds.{Turn, all_over}
 use Rattle.whole_paths.specs.Delivery.{IsAllThere}
+use Rattle.whole_paths.specs.Directions.{DirectionIsWell}
 use Rattle.whole_paths.specs.Finish.{IsPathAt}
 use Rattle.whole_paths.specs.GoingOn.{steps_of}
 use Rattle.whole_paths.specs.Mending.{IsToldSoon, IsWell}
@@ -49,14 +50,9 @@ module _ (start : Start) where
   abbrev pub written_after : Side → List Turn → ℕ
   written_after s turns = length (written_by s (reached values start turns)).written
 
-  -- As a round is over, each record of the side on path 0 is well, its end is told soon how far its peer is, or all of the side's stream is there; and
-  -- the side's congestion window holds two full segments.
-  pub record IsWellAfter (s : Side) (turns : List Turn) : Type 0 where
-    pub path : PathState Carried
-    pub here : IsPathAt 0 (reached values start turns) path
-    pub records : Every (IsWell s path) (end_at s path).tcp.send.records
-    pub told : IsToldSoon s path ⊎ IsAllThere s (reached values start turns)
-    pub wide : 2 * path.profile.mss ≤ (end_at s path).tcp.congestion.reno.window
+  -- nothing of the stream is to be mended
+  abbrev pub IsWellAfter : Side → List Turn → Type 0
+  IsWellAfter s turns = DirectionIsWell s (reached values start turns)
 
   -- What the peer could tell of the stream after the first turns is heard after the others: all that its side had received is acknowledged, and
   -- its window takes a full segment's payload past what its reader had read.
@@ -92,9 +88,11 @@ FourRoundsTell = (start : Start) (plan : PathPlan) (v u : List Turn) → BeginsW
 
 -- ---- a segment
 
--- Of a stream the peer's reader reads a full segment's payload more within twelve rounds, or all of it, where nothing is to be mended as the first
--- one begins and once seven are over, and what was told is heard in the first five.
+-- Of a stream the peer's reader reads a full segment's payload more within twenty rounds, or all of it, where what was told is heard in the first
+-- six, and nothing is to be mended as they begin, and once seven, eleven and fifteen of them are over. No more is asked of the congestion window
+-- than that it holds one segment: what was under way after seven rounds is acknowledged after eight more, and then the window is free.
 abbrev pub ASegmentIsRead : Type 0
-ASegmentIsRead = (start : Start) (plan : PathPlan) → BeginsWithOnePath start plan → (s : Side) (v a b u : List Turn)
-    → Rounds start 5 v a → Rounds start 2 a b → Rounds start 5 b u → IsWellAfter start s v → IsWellAfter start s b → IsHeard start plan s v a
+ASegmentIsRead = (start : Start) (plan : PathPlan) → BeginsWithOnePath start plan → (s : Side) (v a b c d u : List Turn)
+    → Rounds start 6 v a → Rounds start 1 a b → Rounds start 4 b c → Rounds start 4 c d → Rounds start 5 d u
+    → IsWellAfter start s v → IsWellAfter start s b → IsWellAfter start s c → IsWellAfter start s d → IsHeard start plan s v a
     → min (length (pick s start.file_a start.file_b)) (read_after start s v + (plan.mss - 28)) ≤ read_after start s u

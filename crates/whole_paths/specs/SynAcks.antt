@@ -19,7 +19,6 @@ use Rattle.whole_paths.specs.AsFar.{stage}
 use Rattle.whole_paths.specs.Delivery.{HasFinished}
 use Rattle.whole_paths.specs.Exchanges.{IsBareWithin, IsFaithful, IsHeldUp}
 use Rattle.whole_paths.specs.Flights.{IsOnItsWay, IsSentSo}
-use Rattle.whole_paths.specs.Harms.{longest_way}
 use Rattle.whole_paths.specs.Mild.{IsMildStart}
 use Rattle.whole_paths.specs.Owed.{IsAnswered, IsAnsweredSo}
 use Rattle.whole_paths.specs.Syns.{IsSynSent}
@@ -27,7 +26,7 @@ use Rattle.whole_paths.specs.Syns.{IsSynSent}
 -- by this tick an answer is to come
 pub data IsSynAnswered (x : ℕ) (p : PathState Carried) : Type 0 where
   -- a copy of B's SYN comes so early that the answer comes in time
-  comes : (syn : Record) → syn.kind ≡ Syn → syn.pos ≡ 0 → syn.piece ≡ [] → (arrival : ℕ) → arrival + longest_way A p.link ≤ x
+  comes : (syn : Record) → syn.kind ≡ Syn → syn.pos ≡ 0 → syn.piece ≡ [] → (arrival : ℕ) → arrival + 400 ≤ x
       → (way : IsOnItsWay values B syn arrival p) → IsSentSo (IsSynSent B) way
       → IsSynAnswered x p
   -- A answers it
@@ -40,10 +39,10 @@ pub record IsToBeAnswered (x : ℕ) (p : PathState Carried) : Type 0 where
   pub unheard : p.b.tcp.send.una ≡ 0
   pub exchange : IsSynAnswered x p
 
--- as the path becomes another one: it is awaited still; or an end went further; or something else came between, which counts
+-- as the path becomes another one: it is awaited still; or B's end went further; or something holds it up
 pub data SynAckGoesOn (x : ℕ) (p q : PathState Carried) : Type 0 where
   on : IsToBeAnswered x q → SynAckGoesOn x p q
-  further : (t : Side) → stage (end_at t p).tcp.state < stage (end_at t q).tcp.state → SynAckGoesOn x p q
+  further : stage p.b.tcp.state < stage q.b.tcp.state → SynAckGoesOn x p q
   held_up : IsHeldUp B p q → SynAckGoesOn x p q
   -- A sent its FIN, so that all of its side's stream is with the peer
   finished : HasFinished p.a → SynAckGoesOn x p q
@@ -57,7 +56,7 @@ SynAcksGoOn _ _ = ⊥
 -- where a turn is over, within a minute and the longest time there and back
 abbrev pub SynAcksBegin : PathState Carried → Type 0
 SynAcksBegin p = p.agenda ≡ [] → 3 ≤ stage p.a.tcp.state → p.b.tcp.state ≡ SynReceived → p.b.tcp.send.una ≡ 0
-    → IsToBeAnswered (p.clock + 60000 + longest_way B p.link + longest_way A p.link) p
+    → IsToBeAnswered (p.clock + 60000 + 400 + 400) p
 
 -- the clock isn't past its tick
 abbrev pub SynAcksEnd : PathState Carried → Type 0

@@ -20,7 +20,6 @@ use Rattle.world_laws.specs.Worlds.{Turn, after_turn}
 use Rattle.whole_paths.specs.AsFar.{stage}
 use Rattle.whole_paths.specs.Exchanges.{IsFaithful, IsHeldUp}
 use Rattle.whole_paths.specs.Flights.{IsOnItsWay, IsSentSo}
-use Rattle.whole_paths.specs.Harms.{longest_way}
 
 -- A's end sends its SYN with no acknowledgement, and B's with RCV.NXT, and the link leaves the copy as it is
 pub record IsSynSent (s : Side) (e : PathEnd) (stripped altered : Bool) : Type 0 where
@@ -45,7 +44,7 @@ pub record IsSynAwaited (s : Side) (x : ℕ) (p : PathState Carried) : Type 0 wh
   pub way : IsOnItsWay values s syn x p
   pub sent : IsSentSo (IsSynSent s) way
 
--- as the path becomes another one: it is awaited still; or an end went further; or something else came between, which counts
+-- as the path becomes another one: it is awaited still; or an end went further; or something holds it up
 pub data SynGoesOn (s : Side) (x : ℕ) (p q : PathState Carried) : Type 0 where
   on : IsSynAwaited s x q → SynGoesOn s x p q
   further : (t : Side) → stage (end_at t p).tcp.state < stage (end_at t q).tcp.state → SynGoesOn s x p q
@@ -59,7 +58,7 @@ SynsGoOn _ _ = ⊥
 
 -- where a turn is over, within a minute and the longest time on its way
 abbrev pub SynsBegin : PathState Carried → Type 0
-SynsBegin p = p.agenda ≡ [] → (s : Side) → IsToOpen s p → (end_at s p).tcp.send.una ≡ 0 → IsSynAwaited s (p.clock + 60000 + longest_way s p.link) p
+SynsBegin p = p.agenda ≡ [] → (s : Side) → IsToOpen s p → (end_at s p).tcp.send.una ≡ 0 → IsSynAwaited s (p.clock + 60000 + 400) p
 
 -- the clock isn't past its tick
 abbrev pub SynsEnd : PathState Carried → Type 0

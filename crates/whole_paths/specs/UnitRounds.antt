@@ -1,4 +1,4 @@
--- In thirteen rounds in which nothing is to be mended a stream goes on by a unit: a full segment more is read, or its end is told; as long as not all
+-- In twenty rounds in which nothing is to be mended a stream goes on by a unit: a full segment more is read, or its end is told; as long as not all
 -- of both streams is with the peers.
 use Rattle.std.specs.Prelude.{ℕ, suc, zero, ◌+◌, ◌-◌, ◌*◌, ◌≡◌, ◌<◌, ◌≤◌, ◌⊎◌, true, List, [], ◌∷◌, ◌++◌}
 use Rattle.sides.specs.declared.side.Side.{Side}
@@ -50,10 +50,10 @@ module _ (start : Start) (Well : List Turn → Type 0) where
 
 -- ---- a unit
 
--- As rounds pass after which all is well, what the peer could tell of a stream is heard in five of them, or all of it is there; and a DATA_FIN that
+-- As rounds pass after which all is well, what the peer could tell of a stream is heard in six of them, or all of it is there; and a DATA_FIN that
 -- was sent comes in four.
 pub record WhatIsToldIsHeard (start : Start) (plan : PathPlan) (Well : List Turn → Type 0) : Type 0 where
-  pub heard : (s : Side) (v u : List Turn) → WellRounds start Well 5 v u → IsAllThere s (reached values start u) ⊎ IsHeard start plan s v u
+  pub heard : (s : Side) (v u : List Turn) → WellRounds start Well 6 v u → IsAllThere s (reached values start u) ⊎ IsHeard start plan s v u
   pub fins : (s : Side) (v u : List Turn) → WellRounds start Well 4 v u → FinIsSent start s v → EndIsKnown start s u
 
 -- Of that the Data ACKs need no more than that each end is told soon how far its peer is, or all of its stream is there. So what is left is that the
@@ -64,7 +64,7 @@ pub record AreToldSoon (start : Start) (s : Side) (turns : List Turn) : Type 0 w
   pub told : IsToldSoon s path ⊎ IsAllThere s (reached values start turns)
 
 pub record WindowsAndEndsAreHeard (start : Start) (plan : PathPlan) (Well : List Turn → Type 0) : Type 0 where
-  pub windows : (s : Side) (v u : List Turn) → WellRounds start Well 5 v u
+  pub windows : (s : Side) (v u : List Turn) → WellRounds start Well 6 v u
       → IsAllThere s (reached values start u) ⊎ (read_after start s v + (plan.mss - 28) ≤ (written_by s (reached values start u)).edge)
   pub fins : (s : Side) (v u : List Turn) → WellRounds start Well 4 v u → FinIsSent start s v → EndIsKnown start s u
 
@@ -73,7 +73,7 @@ WhatIsToldIsHeardSo = (start : Start) (plan : PathPlan) (Well : List Turn → Ty
     → ((turns : List Turn) → Well turns → (s : Side) → AreToldSoon start s turns)
     → WindowsAndEndsAreHeard start plan Well → WhatIsToldIsHeard start plan Well
 
--- nothing of path 0 is to be mended, and both congestion windows hold two full segments
+-- nothing of path 0 is to be mended
 abbrev pub IsAllWell : Start → List Turn → Type 0
 IsAllWell start turns = (s : Side) → IsWellAfter start s turns
 
@@ -82,7 +82,7 @@ ShortWaitsGoOn = (start : Start) → WaitsGoOn start (IsAllWell start)
 
 abbrev pub AUnitIsMade : Type 0
 AUnitIsMade = (start : Start) (plan : PathPlan) → BeginsWithOnePath start plan
-    → WhatIsToldIsHeard start plan (IsAllWell start) → (v u : List Turn) → WellRounds start (IsAllWell start) 13 v u
+    → WhatIsToldIsHeard start plan (IsAllWell start) → (v u : List Turn) → WellRounds start (IsAllWell start) 20 v u
     → (most_units start plan ≤ units start plan (reached values start v))
     ⊎ (units start plan (reached values start v) < units start plan (reached values start u))
 

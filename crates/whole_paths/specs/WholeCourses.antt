@@ -14,7 +14,6 @@ use Rattle.whole_paths.specs.AnswerWaits.{AwaitsAnAnswer}
 use Rattle.whole_paths.specs.Courses.{counted, round_end}
 use Rattle.whole_paths.specs.Finish.{IsPathAt}
 use Rattle.whole_paths.specs.GoingOn.{IsAboutToGoOn, steps_of}
-use Rattle.whole_paths.specs.Harms.{longest_way}
 use Rattle.whole_paths.specs.RecordWaits.{AwaitsARecord, LeavesRoom, Opens, SentNoFin, Steps}
 
 -- An end of path 0 that may still send its FIN has no record, all bytes are acknowledged that it was granted, and the peer's window is shut, while
@@ -50,4 +49,4 @@ pub data IsAwaited (start : Start) (within : ℕ) (Waits : ℕ → ℕ → List 
 
 -- over path 0 a segment goes for so long at most, there and back, at each moment
 abbrev pub WaysAreShort : Start → ℕ → Type 0
-WaysAreShort start way = (turns : List Turn) (p : PathState Carried) → IsPathAt 0 (reached values start turns) p → longest_way A p.link + longest_way B p.link ≤ way
+WaysAreShort start way = (turns : List Turn) (p : PathState Carried) → IsPathAt 0 (reached values start turns) p → 400 + 400 ≤ way

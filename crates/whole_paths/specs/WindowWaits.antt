@@ -15,7 +15,6 @@ use Rattle.whole_paths.specs.Awaited.{IsAwaited}
 use Rattle.whole_paths.specs.Courses.{counted, round_end}
 use Rattle.whole_paths.specs.Finish.{IsPathAt}
 use Rattle.whole_paths.specs.Halted.{IsHalted}
-use Rattle.whole_paths.specs.Harms.{longest_way}
 use Rattle.whole_paths.specs.Mild.{IsMildStart}
 use Rattle.whole_paths.specs.RecordWaits.{Opens, Steps}
 
@@ -44,7 +43,7 @@ pub record HasAShutWindow (start : Start) (way : ℕ) (turns : List Turn) : Type
   pub halted : IsHalted (books_in (reached values start turns).books) side path
   pub takes : (written_by side (reached values start turns)).edge + 32 ≤ arriving.edge (arrived_at (peer side) (reached values start turns))
   pub room : (end_at (peer side) path).tcp.send.nxt ≤ (end_at side path).tcp.recv.edge + 1048576
-  pub near : longest_way side path.link + longest_way (peer side) path.link ≤ way
+  pub near : 400 + 400 ≤ way
 
 module _ (start : Start) (most : ℕ) where
   -- As a round begins a wait begins, for a minute and as long as a segment is under way there and back; it goes on by each step, and as the next

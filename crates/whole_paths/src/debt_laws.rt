@@ -1,9 +1,12 @@
 //! What is to be mended of a connection over one path, and how it is, as clauses of functions that do nothing.
-ghost use Rattle.whole_paths.specs.CutRecords.{CheckedRecordsArePassedWhole};
-ghost use Rattle.whole_paths.specs.DirectionWaits.{CheckedNumbersAgree, DirectionsAreMended, NumbersAgreeSo};
+ghost use Rattle.whole_paths.specs.CutRecords.{CheckedRecordsArePassedWhole, UncheckedRecordsArePassedWhole};
+ghost use Rattle.whole_paths.specs.DirectionWaits.{DirectionsAreMended, NumbersAlwaysAgree, RecordsArePassedWhole};
+ghost use Rattle.whole_paths.specs.FinDebts.{FinsAreHeard, FinsGoAgain, FinsStandOn};
+ghost use Rattle.whole_paths.specs.FinsMended.{FewFinsAreOwed, FinsAreMended, WhatIsAckedLasts, WhoOwesNoFinStands};
 ghost use Rattle.whole_paths.specs.OneDebt.{FinDebtsAreKnown, FinDebtsGoOn};
 ghost use Rattle.whole_paths.specs.OpenFirst.{AOwesRecordsFirst, BOwesNoneFirst, FewAsItOpensAreFew, OpensWithFewSo, PathsOpenByClearing};
 ghost use Rattle.whole_paths.specs.Directions.{DirectionsGoOn, WhatOwesNoneIsWell, WhoIsToldButStaysSo};
+ghost use Rattle.whole_paths.specs.FullGrants.{EachGrantIsFull};
 ghost use Rattle.whole_paths.specs.FirstLost.{LostRecordsAreAwaited, LostRecordsAreMended};
 ghost use Rattle.whole_paths.specs.Mends.{WhatRunsOutIsMended};
 ghost use Rattle.whole_paths.specs.ClearRounds.{LostRecordsAreFirst, LostRecordsStay, WhatIsReachedIsFirst};
@@ -15,14 +18,21 @@ pub fn checked_records_are_passed_whole()
     ensures { CheckedRecordsArePassedWhole }
 {}
 
-/// A law: with checksums as many bytes of a side's stream are acknowledged by Data ACKs as positions of the only path of a mild connection, where a
-/// turn is over, and never more; and RCV.NXT of the peer lies inside no record of data (RFC 8684, sections 3.3.1 and 3.3.2; `checked`).
+/// A law: without checksums RCV.NXT of an end lies inside no record of data of its peer's either, on path 0 of a mild connection neither end of which
+/// is dead: each segment has all of a record, so that none of its octets comes, or all (RFC 9293, section 3.4; `unchecked`).
 ///
-/// So it is at each moment at which the path is open, unless all of the side's stream is with the peer; without checksums, too, where records are
-/// passed whole (`so`).
+/// Over one path it doesn't wherever the path is open, with checksums or without (`always`).
+pub fn records_are_passed_whole()
+    ensures unchecked { UncheckedRecordsArePassedWhole }
+    ensures always { RecordsArePassedWhole }
+{}
+
+/// A law: as many bytes of a side's stream are acknowledged by Data ACKs as positions of the only path of a mild connection, where a turn is over, and
+/// never more; and RCV.NXT of the peer lies inside no record of data (RFC 8684, sections 3.3.1 and 3.3.2).
+///
+/// So it is at each moment at which the path is open, unless all of the side's stream is with the peer.
 pub fn numbers_agree()
-    ensures so { NumbersAgreeSo }
-    ensures checked { CheckedNumbersAgree }
+    ensures { NumbersAlwaysAgree }
 {}
 
 /// A law: in one direction of the only path of a mild connection a segment that is harmed makes one debt at most (RFC 9293, section 3.10.7.4).
@@ -43,7 +53,7 @@ pub fn directions_go_on()
 ///
 /// An end hears what it wasn't told: its timer runs out within a minute, its first record goes again, and the peer answers. A record that may be
 /// lost becomes the first one, since all before it comes within 400 ticks, and is acknowledged; then it goes again, as the timer runs out. That the
-/// direction's numbers agree, as they do with checksums (`numbers_agree`), is a premise, and that there are no more debts than harmed segments.
+/// direction's numbers agree, as they do (`numbers_agree`), is a premise.
 pub fn directions_are_mended()
     ensures { DirectionsAreMended }
 {}
@@ -77,6 +87,39 @@ pub fn few_as_it_opens_are_few()
 pub fn fin_debts_go_on()
     ensures goes_on { FinDebtsGoOn }
     ensures known { FinDebtsAreKnown }
+{}
+
+/// A law: once all bytes before it are acknowledged a DATA_FIN comes, or goes again as a timer runs out, unless it is harmed, over one path of a
+/// mild connection (RFC 8684, section 3.3.3; RFC 6298, section 5).
+///
+/// While bytes wait for the peer's window it may go before them, and be overtaken by a piece that is sent later. Nothing is sent behind it once
+/// SND.UNA is past the last byte of the side's file. By the turn in which it comes to be past, and by one in which a segment of the side is harmed,
+/// the DATA_FIN may be owed; by others it isn't (`stands`). Where it is owed its end's timer runs, and as that runs out it goes again, and comes
+/// within 400 ticks, or is harmed (`again`).
+pub fn fins_stand_on()
+    ensures stands { FinsStandOn }
+    ensures again { FinsGoAgain }
+{}
+
+/// A law: a DATA_FIN that isn't owed is heard in four rounds, once all bytes before it are acknowledged, over one path of a mild connection
+/// (RFC 8684, section 3.3.3).
+///
+/// Then the peer's side knows where the stream ends. It is said of a DATA_FIN that was sent, and of bytes that are acknowledged as the rounds begin.
+pub fn fins_are_heard()
+    ensures { FinsAreHeard }
+{}
+
+/// A law: a DATA_FIN is a debt of one at most, which is mended within 60,100 ticks, unless more is counted, over one path of a mild connection
+/// (RFC 8684, section 3.3.3; RFC 6298, section 5).
+///
+/// What is counted takes in the segments that are harmed, and once the moment from which on all bytes of the side's file are acknowledged (`mended`),
+/// which stays so (`acked`). No more such debts are owed at any open moment than were counted (`few`), and without one the DATA_FIN wasn't sent, was
+/// heard or comes, or bytes before it aren't acknowledged, or all of the stream is there (`none`).
+pub fn fins_are_mended()
+    ensures mended { FinsAreMended }
+    ensures few { FewFinsAreOwed }
+    ensures acked { WhatIsAckedLasts }
+    ensures none { WhoOwesNoFinStands }
 {}
 
 /// A law: between open ends of the only path of a mild connection no more is to be mended of what a side sends, but for one if a segment of it is
@@ -129,4 +172,13 @@ pub fn what_is_reached_is_first()
 /// it is harmed, or each record of the end is well: the first one comes within 400 ticks, each other one is to be sent.
 pub fn what_runs_out_is_mended()
     ensures { WhatRunsOutIsMended }
+{}
+
+/// A law: what the end of the only path of a mild connection is granted is a full segment's payload, or all that there is for it (RFC 9293, section
+/// 3.8.6).
+///
+/// By any turn SND.NXT of an end that sent no FIN stays; or where it was a record of data begins now that holds a full segment's payload, or reaches
+/// all that is written of the side's stream, or the edge of the peer's window.
+pub fn each_grant_is_full()
+    ensures { EachGrantIsFull }
 {}

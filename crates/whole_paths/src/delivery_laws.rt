@@ -27,7 +27,7 @@ ghost use Rattle.whole_paths.specs.OnlyPaths.{long_patience, news_within};
 ghost use Rattle.whole_paths.specs.OpenAsks.{OpenAsksAreInTime, OpenAsksGoOn, OpenEndsHardlyGoAwry};
 ghost use Rattle.whole_paths.specs.OverOctets.{FewLossesFinishAsOverValues, OctetsAreAsFarAsValues, OnePathEndsAsOverValues, BriefPathsDeliverAsOverValues, WholePathsDeliverAsOverValues};
 ghost use Rattle.whole_paths.specs.OpenCourses.{WhatHoldsUpCounts};
-ghost use Rattle.whole_paths.specs.OpeningCourses.{opening_patience, DeliversWithin, OpensWithin};
+ghost use Rattle.whole_paths.specs.OpeningCourses.{opening_allowance, opening_patience, DeliversWithin, OpensWithin};
 ghost use Rattle.whole_paths.specs.OpeningWaits.{EndsOpenOrArePast, LivingEndsOpenOrArePast, OpeningsAreAwaited};
 ghost use Rattle.whole_paths.specs.Outstanding.{WhatIsOutstandingIsAwaited};
 ghost use Rattle.whole_paths.specs.Overruns.{NoEndOverruns};
@@ -150,7 +150,7 @@ pub fn no_end_overruns()
 /// A law: on the only path of a mild connection positions count bytes, whatever is lost, late or repeated (RFC 8684, section 3.3.1).
 ///
 /// SND.NXT lies behind all bytes of the side's stream that the path took. RCV.NXT of the peer's end lies behind all that the peer's side
-/// received, and as long as the end sent no FIN just behind them.
+/// received, and as long as the end sent no FIN just behind them. Each byte that is written and lies behind those that the path took is there for it.
 pub fn positions_count_bytes()
     ensures { HoldsOfOnlyPaths values PositionsCountBytes }
 {}
@@ -187,12 +187,13 @@ pub fn each_round_writes_and_reads()
 {}
 
 /// A law: where nothing is to be mended, all that an open end sent comes within four rounds (`brought`), and as soon the end is told how far the peer
-/// was (`told`); so the peer's reader reads a full segment more in twelve rounds (`read`), or all of the stream.
+/// was (`told`); so the peer's reader reads a full segment more in twenty rounds (`read`), or all of the stream.
 ///
-/// It is said of a mild connection over one path, between moments at which the path is open. For `read` nothing is to be mended as the rounds begin and
-/// after seven of them, the congestion window holds two full segments then, and what the peer could tell of the stream is heard in the first
-/// five, as a premise says: the Data ACK, and a window that takes a full segment. Then come a round in which the application writes, one in which the
-/// end sends, four in which that comes, and one in which it is read.
+/// It is said of a mild connection over one path, between moments at which the path is open. For `read` nothing is to be mended as the rounds begin,
+/// and after seven, eleven and fifteen of them; and what the peer could tell of the stream is heard in the first six, as a premise says: the Data
+/// ACK, and a window that takes a full segment. Then come a round in which the application writes, eight by which all is acknowledged that was under
+/// way, so that the end sends what had no room in its congestion window, or what it is granted (`each_grant_is_full`), four in which that comes, and
+/// one in which it is read. No more is asked of the congestion window than that it holds one segment (RFC 5681, section 3.1), as it always does.
 pub fn a_segment_is_read()
     ensures brought { FourRoundsBring }
     ensures told { FourRoundsTell }
@@ -208,12 +209,12 @@ pub fn an_end_is_told()
     ensures { AnEndIsTold }
 {}
 
-/// A law: in thirteen rounds in which nothing is to be mended a stream goes on by a full segment or by its end, or all is read and told.
+/// A law: in twenty rounds in which nothing is to be mended a stream goes on by a full segment or by its end, or all is read and told.
 ///
-/// It is said of a mild connection over one path, as long as all is well: nothing of path 0 is to be mended then, and both congestion windows hold two
-/// full segments. A wait for such rounds begins with each of them, and it goes on by each turn as long as all is well. That what the peer could
-/// tell is heard in five rounds, and that a DATA_FIN comes in four, are premises. Where there are as many units as can be (`all`), all of
-/// both streams is with the peers. Where no record may be lost and each end is told soon (`free`), nothing is to be mended.
+/// It is said of a mild connection over one path, as long as all is well: nothing of path 0 is to be mended then. A wait for such rounds begins with
+/// each of them, and it goes on by each turn as long as all is well. That what the peer could tell is heard in six rounds, and that a DATA_FIN comes
+/// in four, are premises. Where there are as many units as can be (`all`), all of both streams is with the peers. Where no record may be lost and
+/// each end is told soon (`free`), nothing is to be mended.
 pub fn a_unit_is_made()
     ensures waits { ShortWaitsGoOn }
     ensures made { AUnitIsMade }
@@ -295,7 +296,7 @@ pub fn who_is_told_stays_told()
 /// counted, and it is never late.
 ///
 /// Of what leads an exchange astray (`open_ends_hardly_stray`) nothing is left then. As a round begins such a wait begins, for a minute and the
-/// longest time there and back, where an end that sent no FIN has a record that isn't acknowledged: for that one, or where the peer filled the
+/// 800 ticks, where an end that sent no FIN has a record that isn't acknowledged: for that one, or where the peer filled the
 /// end's window and sent its FIN behind, for the peer's first one, which didn't come.
 pub fn records_are_awaited_always()
     ensures { RecordsAreAwaitedAlways }
@@ -312,26 +313,26 @@ pub fn senders_are_awaited()
 /// A law: B's DATA_FIN comes to A on path 0 of a mild connection, whatever is lost, where B has no record, and shows A its first DSS, by which A
 /// may send one (RFC 8684, sections 3.1 and 3.3.3).
 ///
-/// As a turn is over, B may send a DSS, and its DATA_FIN isn't acknowledged, such a copy is on its way to A's RCV.NXT, for a minute and the
-/// longest time that a segment is under way, or what counts comes between; it is never late.
+/// As a turn is over, B may send a DSS, and its DATA_FIN isn't acknowledged, such a copy is on its way to A's RCV.NXT, for a minute and 400 ticks, or
+/// B has a record again, or the path is a step further on its way to be open, or a segment is harmed, or an end is dead; it is never late.
 pub fn each_first_sign_comes()
     ensures { EachFirstSignComes }
 {}
 
-/// A law: a wait for the first sign of Multipath TCP goes on on path 0 of a mild connection, while no end of it is dead, until something is
-/// counted, and it is never late (RFC 8684, section 3.1).
+/// A law: a wait for the first sign of Multipath TCP goes on on path 0 of a mild connection over one path, while no end of it is dead, until the path
+/// is a step further on its way to be open, or a segment is harmed, and it is never late (RFC 8684, section 3.1).
 ///
-/// B is to hear both keys, by A's first piece (`each_first_piece_comes`), or A its first DSS, by B's DATA_FIN (`each_first_sign_comes`); where B
-/// has a record that is awaited (`senders_are_awaited`). As a round is over the wait begins, for a minute and the longest time there and back.
+/// B is to hear both keys, by A's first piece (`each_first_piece_comes`), or A its first DSS, by B's first piece (`each_sign_piece_comes`), or its
+/// DATA_FIN, where B has no record (`each_first_sign_comes`). As a round is over the wait begins, for a minute and 800 ticks.
 pub fn first_signs_are_awaited()
     ensures { FirstSignsAreAwaited }
 {}
 
-/// A law: while path 0 of a mild connection opens, and no end of it is dead, a SYN is awaited, or the answer to B's SYN/ACK that comes again,
-/// until something is counted (RFC 9293, section 3.5).
+/// A law: while path 0 of a mild connection over one path opens, and no end of it is dead, a SYN is awaited, or the answer to B's SYN/ACK that comes
+/// again, until the path is a step further on its way to be open, or a segment is harmed (RFC 9293, section 3.5).
 ///
 /// As a round is over with an end that opens, or B half-open and A past the handshake, the wait begins (`each_syn_comes`,
-/// `each_syn_ack_is_answered`), for a minute and the longest time there and back; it is never late. Where A's end has finished all of its stream
+/// `each_syn_ack_is_answered`), for a minute and 800 ticks; it is never late. Where A's end has finished all of its stream
 /// is with the peer. At each moment an end of a path opens so, or both are past the handshake, or A's waits for its tick, or one is past it whose
 /// peer hasn't its SYN (`which`). On path 0, while neither of its ends is dead, an end opens so, or both are past the handshake (`living`): no
 /// end goes further than its peer's SYN lets it.
@@ -346,7 +347,7 @@ pub fn openings_are_awaited()
 /// segment, or an end dies.
 ///
 /// An open end without a record of which anything is outstanding waits for such an answer, or for the peer's window (`in_time`). Where a turn
-/// is over it asks for the answer, within a minute and the longest time there and back, and no round ends past that. That the peer wants the
+/// is over it asks for the answer, within a minute and 800 ticks, and no round ends past that. That the peer wants the
 /// place where it sends is a premise; one thing may lead it awry (`open_ends_hardly_go_awry`).
 pub fn open_asks_go_on()
     ensures goes_on { OpenAsksGoOn }
@@ -365,7 +366,7 @@ pub fn open_asks_are_answered()
 /// counted, and it is never late.
 ///
 /// So it is while the peer sent no more than the end's window has room for: nothing leads the exchange awry then, between two moments at which
-/// path 0 is open. As a round begins, such a wait begins for an end without a record, for a minute and the longest time there and back.
+/// path 0 is open. As a round begins, such a wait begins for an end without a record, for a minute and 800 ticks.
 pub fn answers_are_awaited_always()
     ensures { AnswersAreAwaitedAlways }
 {}
@@ -400,7 +401,7 @@ pub fn shut_windows_have_room()
 
 /// A law: a window that is shut as a round is over opens in time, or something is counted.
 ///
-/// Such a wait begins with the next round, for a minute and the longest time there and back, and goes on by each turn
+/// Such a wait begins with the next round, for a minute and 800 ticks, and goes on by each turn
 /// (`windows_are_awaited_always`). So it is in a mild connection over one path with buffers of 32 bytes at least.
 pub fn shut_windows_open_in_time()
     ensures { ShutWindowsOpenInTime }
@@ -519,7 +520,7 @@ pub fn mild_scripts_end_as_they_begin()
 /// A path is whole where at both ends both SYNs are acknowledged, neither end is dead, and both may send a DSS (RFC 8684, section 3.1). If it
 /// is still whole after those rounds, no end died, and both files are delivered (`octets`, `values`). It is said of mild scripts, by which no
 /// option is taken away, no payload is altered and no side closes at once, and of fewer than 2^64 - 1 turns. Enough rounds are so many that all
-/// is acknowledged of which there can be news, one after the other, each within a greatest timeout, the longest time there and back, and four
+/// is acknowledged of which there can be news, one after the other, each within a greatest timeout, 800 ticks there and back, and four
 /// rounds; and as many more for each segment that is harmed.
 pub fn whole_paths_deliver()
     ensures ends_octets { BriefPathsEnd octets long_patience }
@@ -566,12 +567,13 @@ pub fn b_is_idle_before()
 /// is lost, late or repeated (`octets`, `values`).
 ///
 /// It is said of mild scripts, by which no option is taken away, no payload is altered and no side closes at once, and of fewer than 2^64 - 1 turns:
-/// the link counts the segments of each side below that. After half of these rounds the path is whole, or all of both streams is with the peers, or
-/// an end died (`opens`); then they go on as in `whole_paths_deliver` (`delivers`), whose rounds are enough twice. Both are said of connections over
-/// one path with buffers of 4,096 octets at least.
+/// the link counts the segments of each side below that. Within 3,055 rounds, and 611 for each segment that is harmed, the path is whole, or all of
+/// both streams is with the peers, or an end died (`opens`): five steps lead there, and each takes a greatest timeout of a minute and eleven rounds
+/// at most, unless a segment is harmed. Then they go on as in `whole_paths_deliver` (`delivers`). Both are said of connections over one path with
+/// buffers of 4,096 octets at least.
 pub fn one_path_ends()
-    ensures opens { OpensWithin (for_all_news news_within) }
-    ensures delivers { DeliversWithin (for_all_news news_within) }
+    ensures opens { OpensWithin opening_allowance }
+    ensures delivers { DeliversWithin opening_allowance (for_all_news news_within) }
     ensures octets { OneBriefPathEnds octets opening_patience }
     ensures values { OneBriefPathEnds values opening_patience }
 {}

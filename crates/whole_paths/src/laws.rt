@@ -290,12 +290,11 @@ pub fn what_wants_an_answer_is_owed_one()
     ensures values { WhatWantsAnAnswerIsOwedOne values }
 {}
 
-/// A law: an acknowledgement that an end owes comes to the peer within the longest time that a segment is under way, unless the script harms it.
+/// A law: an acknowledgement that an end owes comes to the peer within 400 ticks, twice the longest delay, unless it is harmed.
 ///
 /// By each turn the end owes it still and the tick stays by which it comes, or its link took a segment of the end, which acknowledges all
-/// that came to the end, and a copy of that is under way; or the copy was what arrives next; or the script has a line less by which a segment
-/// is lost or late; or its direction loses it, by the word drawn for it or before a full queue; or the end answers by a reset or is dead, or
-/// the path dies by a line. No event comes before the end has answered (`each_copy_is_answered_at_once`), so that the clock stands till then.
+/// that came to the end, and a copy of that is under way; or the copy was what arrives next; or the segment is harmed, so that no copy of it comes
+/// within 400 ticks; or the end answers by a reset or is dead, or the path dies by a line. No event comes before the end has answered (`each_copy_is_answered_at_once`), so that the clock stands till then.
 pub fn what_is_owed_comes()
     ensures octets { WhatIsOwedComes octets }
     ensures values { WhatIsOwedComes values }
@@ -595,42 +594,39 @@ pub fn what_is_in_hand_is_acknowledged()
     ensures values { WhatIsInHandIsAcknowledged values }
 {}
 
-/// A law: the first record of an end that isn't acknowledged comes to the peer within a minute and the longest time that a segment is under
-/// way, unless the script harms it.
+/// A law: the first record of an end that isn't acknowledged comes to the peer within a minute and 400 ticks, twice the longest delay, unless it
+/// is harmed.
 ///
-/// The longest time is the link's delay, the ticks in which a full queue is handed on, and the greatest jitter.
 /// Where a turn is over its timer runs, for a minute at most (`timers_run_out`). From then on, by each turn, its timer runs still, or it is
 /// to be sent again, or a copy of it is under way, and the tick stays by which a copy comes; or a copy was what arrives next; or there is news
-/// (`no_timer_is_put_off`), or the script has a line less by which a segment is lost or late; or its direction loses it, by the word drawn
-/// for it or before a full queue; or the end is dead, or the path dies by a line. By `nothing_is_overdue` the clock can't pass that tick
+/// (`no_timer_is_put_off`), or its segment is harmed, so that no copy of it comes within 400 ticks; or the end is dead, or the path dies by a line. By `nothing_is_overdue` the clock can't pass that tick
 /// before one of these comes. So it is with the first 2^64 - 2 segments of a side.
 pub fn what_waits_comes()
     ensures octets { WhatWaitsComes octets }
     ensures values { WhatWaitsComes values }
 {}
 
-/// A law: the first record that isn't acknowledged is acknowledged within a minute and the longest time that a segment is under way there and
-/// back, unless the script harms a segment of the exchange, or there is news (RFC 9293, section 3.10.7.4).
+/// A law: the first record that isn't acknowledged is acknowledged within a minute and 400 ticks there and back, unless a segment of the exchange
+/// is harmed, or there is news (RFC 9293, section 3.10.7.4).
 ///
 /// Where a turn is over such an exchange begins. By each turn it goes on in its order, and the tick stays: a copy of the record comes to the
 /// peer, which takes its octets in order, with their mapping, or had them before; all of it is in hand there, and is passed; an acknowledgement
 /// goes back that says as much; and SND.UNA is at the record's end then, or past it. Once the clock is past the tick it is so (`in_time`). That
 /// is said of data on the path that opens the connection, where no line takes options away or alters payload. Or there is news, octets of the
-/// peer's come in order, a segment is lost or late, or an end dies (`IsHeldUp`); or an end doesn't go by the mappings of pieces, or goes on to
+/// peer's come in order, a segment is harmed, or an end dies (`IsHeldUp`); or an end doesn't go by the mappings of pieces, or goes on to
 /// a reset (`IsAstray`).
 pub fn each_record_is_acknowledged()
     ensures { EachRecordIsAcknowledged }
 {}
 
-/// A law: an end without a record asks its peer again, and that comes within a minute and the longest time that a segment is under way,
-/// unless the script harms it.
+/// A law: an end without a record asks its peer again, and that comes within a minute and 400 ticks, twice the longest delay, unless it is
+/// harmed.
 ///
 /// An end without a record waits for the Data ACK of bytes or of a DATA_FIN, for a window, or for what answers its third MP_JOIN or
 /// MP_FASTCLOSE (RFC 8684, sections 3.2, 3.3 and 3.5). Where a turn is over its timer runs, for a minute at most (`timers_run_out`). From
 /// then on, by each turn, its timer runs still, or it is to send again, or a copy of that is under way, and the tick stays by which a copy
 /// comes; or a copy was what arrives next; or the end has a record again, which comes by the same tick (`what_waits_comes`); or there is
-/// news (`timers_run_on`), or nothing is outstanding any longer; or the script has a line less by which a segment is lost or late; or its
-/// direction loses it; or the end is dead, or the path dies by a line. So it is with the first 2^64 - 2 segments of a side. On the path
+/// news (`timers_run_on`), or nothing is outstanding any longer; or the segment is harmed; or the end is dead, or the path dies by a line. So it is with the first 2^64 - 2 segments of a side. On the path
 /// that opens the connection a copy of an acknowledgement is taken in the window, and answered before RCV.NXT (`comes`), as a probe is
 /// (`arrives`).
 pub fn what_is_asked_comes()
@@ -646,7 +642,7 @@ pub fn what_is_asked_comes()
 /// By each turn the exchange goes on in its order, and the tick stays by which the answer comes: the end's DATA_FIN or probe comes to the
 /// peer (`what_is_asked_comes`), which takes it, or answers it as a copy that came before; an acknowledgement goes back whose Data ACK is
 /// at the place that the peer's reassembly book wants as it sends, or past it; and the end hears it, in its turn. Where a turn is over such
-/// an exchange begins, within a minute and the longest time there and back, and once the clock is past its tick the Data ACK is heard
+/// an exchange begins, within a minute and 800 ticks there and back, and once the clock is past its tick the Data ACK is heard
 /// (`in_time`). That is said of a path where no line takes options away or alters payload. Or the end has a record again,
 /// or nothing of it is outstanding; or there is news, octets of the peer's come in order, a segment is lost or late, or an end dies
 /// (`IsHeldUp`); or an end isn't open or doesn't go by Data ACKs (`IsAwry`).
@@ -666,7 +662,7 @@ pub fn each_probe_is_answered()
     ensures { EachProbeIsAnswered }
 {}
 
-/// A law: a window that an end without a record waits for comes within a minute and the longest time that a segment is under way there and
+/// A law: a window that an end without a record waits for comes within a minute and 800 ticks there and
 /// back, where the peer's book takes so much, unless the script harms a segment of the exchange (RFC 9293, section 3.8.6.1).
 ///
 /// Where a turn is over, and the side may not send up to a place past the edge of its send book, the wait for it begins. By each turn it goes
@@ -765,8 +761,8 @@ pub fn clear_ends_are_past()
 /// A law: the SYN of A on path 0 comes to B while that listens, and the SYN/ACK of B to A while A waits for it, whatever is lost: an end goes
 /// further then (RFC 9293, section 3.5).
 ///
-/// Where a turn is over a copy of it comes within a minute and the longest time on its way (`begin`, `end`). By each turn that stays so, or an end
-/// is further, or the exchange is held up by what counts (`goes_on`).
+/// Where a turn is over a copy of it comes within a minute and 400 ticks (`begin`, `end`). By each turn that stays so, or an end is further, or the
+/// exchange is held up (`goes_on`).
 pub fn each_syn_comes()
     ensures { EachSynComes }
 {}
@@ -774,8 +770,8 @@ pub fn each_syn_comes()
 /// A law: A's first piece comes to B with both keys, whatever is lost, while neither end of path 0 may send a DSS yet, and nothing came to B behind
 /// the SYN: B hears them in its turn, and may send a DSS by then (RFC 8684, section 3.1).
 ///
-/// Where a turn is over it comes within a minute and the longest time on its way (`begin`, `end`). By each turn of a mild connection that stays so,
-/// or something counts, or the exchange is held up (`goes_on`).
+/// Where a turn is over it comes within a minute and 400 ticks (`begin`, `end`). By each turn of a mild connection that stays so, or the path is a
+/// step further on its way to be open, or a segment is harmed, or an end is dead (`goes_on`).
 pub fn each_first_piece_comes()
     ensures { EachFirstPieceComes }
 {}
@@ -783,9 +779,8 @@ pub fn each_first_piece_comes()
 /// A law: the SYN/ACK of B on path 0 comes again to A's end that is past the handshake, which acknowledges it, and B hears that, whatever is
 /// lost (RFC 9293, sections 3.5 and 3.10.7.4).
 ///
-/// So a half-open end opens though the third segment was lost. Where a turn is over that is to come within a minute and the longest time there
-/// and back (`begin`, `end`). By each turn of a mild connection it stays so, or an end is further, or there is news or else something
-/// that counts; or A sent its FIN, so that all of its stream is with the peer (`goes_on`, `what_is_finished_is_there`).
+/// So a half-open end opens though the third segment was lost. Where a turn is over that is to come within a minute and 400 ticks there and back
+/// (`begin`, `end`). By each turn of a mild connection it stays so, or B's end is further, or the exchange is held up; or A sent its FIN, so that all of its stream is with the peer (`goes_on`, `what_is_finished_is_there`).
 pub fn each_syn_ack_is_answered()
     ensures { EachSynAckIsAnswered }
 {}

@@ -6,7 +6,7 @@
 //! leaves a link by arriving alone, as it was sent (`copies_arrive_as_sent`), or as the path dies (`a_copy_leaves_by_arriving`). Whoever
 //! waits for an answer has a timer that runs (`who_waits_has_a_timer`), for a minute at most (`timers_run_out`), and no event is passed by
 //! (`nothing_is_overdue`); news alone puts it off (`no_timer_is_put_off`, `timers_run_on`), and as it runs out the first record goes again
-//! (`what_runs_out_goes_again`). What is lost comes again within a minute and the longest time on its way (`what_waits_comes`), and what
+//! (`what_runs_out_goes_again`). What is lost comes again within a minute and 400 ticks (`what_waits_comes`), and what
 //! comes is kept until it is passed (`what_comes_is_kept`, `what_is_told_is_known`), and is passed and answered in its turn
 //! (`each_piece_comes_in_order`, `what_is_in_order_is_passed`, `what_is_in_hand_is_acknowledged`, `each_copy_is_answered_at_once`), by a
 //! segment that acknowledges all of it (`each_segment_says_what_came`) and nothing that didn't come (`what_is_acknowledged_came`), as
@@ -25,19 +25,25 @@ mod delivery_laws;
 mod expiry_laws;
 mod laws;
 mod opening_laws;
+mod window_laws;
 
 pub use debt_laws::checked_records_are_passed_whole;
 pub use debt_laws::debts_go_on;
 pub use debt_laws::directions_are_mended;
 pub use debt_laws::directions_go_on;
+pub use debt_laws::each_grant_is_full;
 pub use debt_laws::few_as_it_opens_are_few;
 pub use debt_laws::fin_debts_go_on;
+pub use debt_laws::fins_are_heard;
+pub use debt_laws::fins_are_mended;
+pub use debt_laws::fins_stand_on;
 pub use debt_laws::harms_alone_are_owed;
 pub use debt_laws::lost_records_are_awaited;
 pub use debt_laws::lost_records_are_first;
 pub use debt_laws::lost_records_are_mended;
 pub use debt_laws::numbers_agree;
 pub use debt_laws::paths_open_by_clearing;
+pub use debt_laws::records_are_passed_whole;
 pub use debt_laws::what_is_reached_is_first;
 pub use debt_laws::what_runs_out_is_mended;
 pub use delivery_laws::a_segment_is_read;
@@ -191,5 +197,12 @@ pub use laws::who_waits_has_a_timer;
 pub use laws::writers_go_on;
 pub use opening_laws::a_has_the_key_first;
 pub use opening_laws::each_first_piece_comes_soon;
+pub use opening_laws::each_sign_piece_comes;
 pub use opening_laws::each_syn_ack_is_answered_soon;
 pub use opening_laws::each_syn_comes_soon;
+pub use opening_laws::paths_open_owing_records;
+pub use window_laws::fitting_files_are_never_shut;
+pub use window_laws::what_comes_opens_the_window;
+pub use window_laws::what_is_told_goes_on;
+pub use window_laws::who_asks_owes;
+pub use window_laws::windows_are_assured;

@@ -1,7 +1,11 @@
 //! How path 0 of a mild connection opens, as clauses of functions that do nothing.
 ghost use Rattle.whole_paths.specs.AnswersSoon.{EachSynAckIsAnsweredSoon};
 ghost use Rattle.whole_paths.specs.Clear.{AHasTheKeyFirst};
+ghost use Rattle.path_core.specs.Octets.{octets};
+ghost use Rattle.path_core.specs.Values.{values};
+ghost use Rattle.whole_paths.specs.EarlyRecords.{EarlyNeverFalls, EarlyOverOctets, OpensOwingRecords};
 ghost use Rattle.whole_paths.specs.FirstPiecesSoon.{EachFirstPieceComesSoon};
+ghost use Rattle.whole_paths.specs.SignPieces.{EachSignPieceComes};
 ghost use Rattle.whole_paths.specs.SynsSoon.{EachSynComesSoon};
 
 /// A law: a SYN that an end sends as it opens is harmed, or comes within 400 ticks (RFC 9293, section 3.5).
@@ -33,4 +37,24 @@ pub fn each_first_piece_comes_soon()
 /// While A treats the SYN/ACK B's end may send none. So it is on path 0 of a mild connection, at every moment at which no end is dead.
 pub fn a_has_the_key_first()
     ensures { AHasTheKeyFirst }
+{}
+
+/// A law: B's first piece comes to A on path 0 of a mild connection, whatever is lost, where B may send a DSS and A may send none yet, and shows A its
+/// first DSS, by which A may send one (RFC 8684, section 3.1).
+///
+/// As a turn is over it comes within a minute and 400 ticks (`begin`). By each turn that stays so, or the path is a step further on its way to be
+/// open, or a segment is harmed, or an end is dead (`goes_on`).
+pub fn each_sign_piece_comes()
+    ensures { EachSignPieceComes }
+{}
+
+/// A law: as path 0 opens no more is owed along either direction than A's end has records (RFC 8684, section 3.1).
+///
+/// Each of them may be lost: a segment that overtakes A's first piece comes to an end that has no key of A's, and drops its payload. How many there
+/// are is counted by the first moment at which B's end may send a DSS (`early_values`, `early_octets`: that never falls; `over_octets`).
+pub fn paths_open_owing_records()
+    ensures owing { OpensOwingRecords }
+    ensures early_values { EarlyNeverFalls values }
+    ensures early_octets { EarlyNeverFalls octets }
+    ensures over_octets { EarlyOverOctets }
 {}

@@ -11,4 +11,4 @@ pub returns-clause-values : goal.returns-clause-values
 returns-clause-values c = ends.one_path_ends
 
 pub returns-clause-delivers : goal.returns-clause-delivers
-returns-clause-delivers c = ends.delivers_within
+returns-clause-delivers c = ends.all_news_deliver

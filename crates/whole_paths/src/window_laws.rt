@@ -1,0 +1,54 @@
+//! How an end is told its window, over one path of a mild connection, as clauses of functions that do nothing.
+ghost use Rattle.whole_paths.specs.AnswersAssure.{EachAnswerAssures, WhatComesOpensTheWindow};
+ghost use Rattle.whole_paths.specs.AsksOwed.{WhoAsksOwes};
+ghost use Rattle.whole_paths.specs.FilesFit.{FittingFilesAreNeverShut};
+ghost use Rattle.whole_paths.specs.ToldEdges.{WhatIsToldGoesOn};
+ghost use Rattle.whole_paths.specs.WindowsAssured.{FourRoundsAssure, WindowsAreAssured};
+
+/// A law: a window that a bare segment tells comes within 400 ticks, or the segment is harmed, though more be sent behind it (RFC 8684, section 3.3.5).
+///
+/// By each turn over one path of a mild connection, where the peer's end may send a DSS: the side may send up to the place still, or is told so by the
+/// same tick, by the bare segment or one that overtakes it, which tells as much (`by_turn`). What is told is 31 bytes less than the peer knows that its
+/// book takes. In four rounds the side may send so far (`rounds`).
+pub fn windows_are_assured()
+    ensures by_turn { WindowsAreAssured }
+    ensures rounds { FourRoundsAssure }
+{}
+
+/// A law: where a side's file and a full segment fit into the window that the side is told with the first SYN, it may always send a full segment's
+/// payload past what was read (RFC 9293, section 3.8.6).
+///
+/// So it is over one path of a mild connection as the path is open and a round is over. The window of a SYN is what the peer buffers, 65,535 octets at
+/// most; and a window never shrinks.
+pub fn fitting_files_are_never_shut()
+    ensures { FittingFilesAreNeverShut }
+{}
+
+/// A law: what an end told its peer of its window is no more than its side's reassembly book told it, and it tells a window that has grown by half of
+/// its buffer, or by two segments, as a turn begins (RFC 9293, section 3.8.6).
+///
+/// By each turn on path 0: how far the end was told that its book takes bytes stays, and the edge that it told last stays, or lies below that; or the
+/// end asks its book, as a turn begins, and then tells the window next unless it hasn't grown so; or it asks behind a copy; or it dies, or is reset.
+pub fn what_is_told_goes_on()
+    ensures { WhatIsToldGoesOn }
+{}
+
+/// A law: what comes in order to an end is answered with its window, so that four rounds later the peer may send up to the end's buffer, but for 31 bytes,
+/// past what was read (RFC 9293, sections 3.8.6 and 3.10.7.4).
+///
+/// It is said over one path of a mild connection. By each turn an acknowledgement that is owed is owed still, or is harmed, or assures the peer a place 31
+/// bytes before what the end's reassembly book takes, within 400 ticks (`by_turn`). So it is by turns in which none of the end's segments is harmed, as
+/// the path stays open; or all of the peer's stream is there (`rounds`). Windows are told in steps of 32 bytes.
+pub fn what_comes_opens_the_window()
+    ensures by_turn { EachAnswerAssures }
+    ensures rounds { WhatComesOpensTheWindow }
+{}
+
+/// A law: as an end of path 0 of a mild connection asks its side's reassembly book behind a copy what is to be acknowledged, it owes an acknowledgement
+/// (RFC 9293, section 3.10.7.4).
+///
+/// Nothing is told to the book of a copy without octets that says no DATA_FIN. So how far an end may tell its window changes only as a turn begins, and
+/// before an acknowledgement goes.
+pub fn who_asks_owes()
+    ensures { WhoAsksOwes }
+{}
