@@ -237,6 +237,7 @@ pub mod ReadSegments
 pub mod EndRounds
 pub mod UnitRounds
 pub mod PatientPaths
+pub mod WindowKinds
 pub mod QuietOpenings
 pub mod ShortWaits
 pub mod UnderWay

@@ -148,6 +148,7 @@ pub mod UnitRounds
 pub mod RisesOwed
 pub mod ToldStays
 pub mod PatientPaths
+pub mod WindowKinds
 pub mod QuietOpenings
 pub mod ShortWaits
 pub mod Rising
