@@ -17,11 +17,11 @@ use Rattle.whole_paths.specs.News.{one_if}
 use Rattle.whole_paths.specs.OneDebt.{MendsAfter, OneIsMendedAfter, OwesOneOf}
 use Rattle.whole_paths.specs.OnePathScripts.{BeginsWithOnePath}
 use Rattle.whole_paths.specs.OpenFirst.{HasJustOpened}
-use Rattle.whole_paths.specs.PatientPaths.{harms_and_early, with_ends}
+use Rattle.whole_paths.specs.PatientPaths.{harms_and_early}
 use Rattle.whole_paths.specs.SharpCourses.{PaysForHarms}
 use Rattle.whole_paths.specs.SharpPaths.{OwesAll, RestIsMended}
 use Rattle.whole_paths.specs.UnitRounds.{IsAllWell, WellRounds}
-use Rattle.whole_paths.specs.WindowKinds.{MendsDirections, MendsFins, MendsOthers, MendsWindow, MendsWindows, OwesDirections, OwesFins, OwesOthers, OwesWindow, OwesWindows, PathsEndByWindows, WindowsAreMended, WindowsStand}
+use Rattle.whole_paths.specs.WindowKinds.{MendsDirections, MendsFins, MendsOthers, MendsWindow, MendsWindows, OwesDirections, OwesFins, OwesOthers, OwesWindow, OwesWindows, PathsEndByWindows, WindowsAreMended, WindowsStand, with_all}
 use Rattle.whole_paths.proofs.Counts.{counts_itself, debts_are_mended_by_more, event_up, one_at_most}
 use Rattle.whole_paths.proofs.Courses.{harmed_append}
 use Rattle.whole_paths.proofs.DebtKinds.{kinds_are_few_together, kinds_are_mended_together}
@@ -35,7 +35,7 @@ use Rattle.whole_paths.proofs.OpenFirst.{few_along}
 use Rattle.whole_paths.proofs.QuietOpenings.{lost_early_never_falls, opens_owing_few}
 use Rattle.whole_paths.proofs.SharpPaths.{sharp_paths_end_so}
 
-pub pays : PaysForHarms (harms_and_early values)
+pays : PaysForHarms (harms_and_early values)
 pays = record {
   up = λ start turns more. (let first = lost_early_never_falls start turns more in let harms = harmed_append values 0 turns more (opened_world start) in omega (arith, first, harms));
   covers = λ start turns. omega arith;
@@ -45,10 +45,6 @@ pays = record {
 rounds_so : (start : Start) (Well More : List Turn → Type 0) → ((turns : List Turn) → Well turns → More turns) → (n : ℕ) (v u : List Turn) → WellRounds start Well n v u → WellRounds start More n v u
 rounds_so start Well More so zero v u r = (r.0, so v r.1)
 rounds_so start Well More so (suc n) v u r = (r.0, (rounds_so start Well More so n v r.0 r.1.0, (r.1.1.0, so u r.1.1.1)))
-
--- the events that are counted: the ends of both files, and one from the beginning on
-abbrev pub with_all : Start → List Turn → ℕ
-with_all start turns = 1 + with_ends start turns
 
 module _ (Also : Start → PathPlan → Type 0) (Holds : Start → Side → List Turn → Type 0) (Waits : Start → Side → ℕ → List Turn → Type 0) (mends : WindowsAreMended Also Holds Waits)
     (start : Start) (plan : PathPlan) (most : ℕ) (one : BeginsWithOnePath start plan) (also : Also start plan) where
@@ -157,7 +153,7 @@ module _ (Also : Start → PathPlan → Type 0) (Holds : Start → Side → List
     windows_stand : WindowsStand Also Holds Waits start turns
     windows_stand = record { holds = holds; well = well }
 
-  pub rest : RestIsMended start plan most (harms_and_early values start) count (OwesOthers Also Holds Waits start) (MendsOthers Also Holds Waits start)
+  rest : RestIsMended start plan most (harms_and_early values start) count (OwesOthers Also Holds Waits start) (MendsOthers Also Holds Waits start)
   rest = record {
     counts = counts;
     opens = few_first;

@@ -14,13 +14,20 @@ use Rattle.whole_paths.specs.Debts.{MendsSoon}
 use Rattle.whole_paths.specs.Delivery.{IsAllThere}
 use Rattle.whole_paths.specs.DirectionWaits.{MendsAlong}
 use Rattle.whole_paths.specs.Directions.{OwesAlong}
+use Rattle.whole_paths.specs.FinDebts.{all_is_acked}
 use Rattle.whole_paths.specs.FinsMended.{MendsFin, OwesFin}
+use Rattle.whole_paths.specs.News.{one_if}
 use Rattle.whole_paths.specs.OnePathScripts.{BeginsWithOnePath, EndsBy}
 use Rattle.whole_paths.specs.OneDebt.{MendsAfter, OneIsMendedAfter, OwesOneOf}
 use Rattle.whole_paths.specs.PatientPaths.{harms_and_early}
 use Rattle.whole_paths.specs.SegmentRounds.{read_after}
 use Rattle.whole_paths.specs.SharpCourses.{sharp_allowance}
 use Rattle.whole_paths.specs.UnitRounds.{IsAllWell, WellRounds}
+
+-- What counts as a harm: what is paid for, an event that has come from the beginning on, and for either side the moment from which on all bytes of its
+-- file are acknowledged.
+abbrev pub with_all : Start → List Turn → ℕ
+with_all start turns = 1 + one_if (all_is_acked start A turns) + one_if (all_is_acked start B turns) + harms_and_early values start turns
 
 -- the debts along both directions: they are mended first
 abbrev pub OwesDirections : Start → ℕ → List Turn → Type 0
