@@ -117,6 +117,7 @@ pub mod WindowsAssured
 pub mod FilesFit
 pub mod AnswersAssure
 pub mod AsksOwed
+pub mod OfferedTaken
 pub mod ToldEdges
 pub mod Writers
 pub mod EndedStreams
@@ -145,6 +146,7 @@ pub mod EndRounds
 pub mod UnitRounds
 pub mod RisesOwed
 pub mod ToldStays
+pub mod PatientPaths
 pub mod ShortWaits
 pub mod Rising
 pub mod FirstSigns
