@@ -205,6 +205,7 @@ pub use opening_laws::each_syn_ack_is_answered_soon;
 pub use opening_laws::each_syn_comes_soon;
 pub use opening_laws::paths_open_owing_records;
 pub use patience_laws::patient_paths_deliver;
+pub use window_laws::each_turn_asks_its_window;
 pub use window_laws::fitting_files_are_never_shut;
 pub use window_laws::what_comes_opens_the_window;
 pub use window_laws::what_is_told_goes_on;
