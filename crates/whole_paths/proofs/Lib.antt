@@ -282,3 +282,4 @@ pub mod WholePieces
 pub mod Opened
 pub mod SignPieces
 pub mod EarlyRecords
+pub mod ProbeWaits
