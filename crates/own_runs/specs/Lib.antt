@@ -2,10 +2,12 @@ pub mod Arrivals
 pub mod Counting
 pub mod Fitting
 pub mod Granting
+pub mod Handshakes
 pub mod KeysShown
 pub mod Packets
 pub mod Runs
 pub mod Segments
 pub mod Sending
 pub mod Traces
+pub mod WholeKept
 pub mod WholeSegments

@@ -173,6 +173,8 @@ pub mod WindowsAssured
 pub mod FilesFit
 pub mod AnswersAssure
 pub mod AsksOwed
+pub mod OfferedTaken
+pub mod TurnsBegin
 pub mod ToldEdges
 pub mod WindowRounds
 pub mod Unharmed
@@ -279,6 +281,8 @@ pub mod OldRecords
 pub mod PassedWhole
 pub mod Uncut
 pub mod WholePieces
+pub mod DataPast
+pub mod OpenQuietly
 pub mod Opened
 pub mod SignPieces
 pub mod EarlyRecords

@@ -1,8 +1,9 @@
 -- Where both files fit the first window, nothing is to be mended but records, acknowledgements and DATA_FINs; so whole paths end in time.
-use Rattle.std.proofs.Common.{◌≡◌, sym, subst, ap, inr, ℕ, ◌+◌, ◌-◌, ◌*◌, ◌<◌, ◌≤◌, arith, List, [], ◌∷◌, ◌++◌, length}
+use Rattle.std.proofs.Common.{◌≡◌, sym, subst, ap, inr, ℕ, ◌+◌, ◌≤◌, arith, List, [], ◌∷◌, ◌++◌, length}
 use Rattle.std.proofs.lemmas.List.{length-append}
 use Rattle.sides.specs.declared.side.Side.{Side}
 use Rattle.sides.specs.declared.side.Side.TheVariants.{A, B}
+use Rattle.actor_desk.specs.Words.{pick}
 use Rattle.path_core.specs.Octets.{octets}
 use Rattle.path_core.specs.Values.{values}
 use Rattle.world_laws.specs.Openings.{PathPlan, Start, opened_world, plan_of, plans_from, start_of}
@@ -13,7 +14,7 @@ use Rattle.whole_paths.specs.Counts.{Counts, CountsAsMuch, spare}
 use Rattle.whole_paths.specs.Debts.{DebtsAreMendedBy, FewAreOwedBy, MendsSoon, OwesAtMostBy, long_wait}
 use Rattle.whole_paths.specs.Directions.{OwesAlong}
 use Rattle.whole_paths.specs.FinDebts.{FinStandsAfter, all_is_acked}
-use Rattle.whole_paths.specs.Finish.{patience, rounds_in}
+use Rattle.whole_paths.specs.Finish.{patience}
 use Rattle.whole_paths.specs.FinsMended.{CountsFins, MendsFin, OwesFin}
 use Rattle.whole_paths.specs.Mending.{IsBegunTurn}
 use Rattle.whole_paths.specs.Mild.{IsMildStart}
@@ -23,7 +24,7 @@ use Rattle.whole_paths.specs.OpenCourses.{IsOpenAfter}
 use Rattle.whole_paths.specs.OpenFirst.{HasJustOpened}
 use Rattle.whole_paths.specs.OpeningCourses.{opening_allowance}
 use Rattle.whole_paths.specs.PatientPaths.{FewLossesFinishPatiently, FitFirstWindows, MendsFins, OwesFins, PatientPathEnds, PatientPathsEnd, harms_and_early, with_ends}
-use Rattle.whole_paths.specs.SegmentRounds.{Rounds, read_after}
+use Rattle.whole_paths.specs.SegmentRounds.{Rounds}
 use Rattle.whole_paths.specs.SharpCourses.{PaysForHarms, most_units, price, price_by, sharp_allowance}
 use Rattle.whole_paths.specs.SharpPaths.{OwesAll, RestIsMended}
 use Rattle.whole_paths.proofs.Counts.{counts_itself, debts_are_mended_by_more, event_up, one_at_most}
@@ -99,10 +100,10 @@ module _ (start : Start) (plan : PathPlan) (most : ℕ) (one : BeginsWithOnePath
       of_other n k none A = who_owes_no_fin_stands start A turns (subst (λ d. OwesFin start A d turns) (let low = k.few_one in omega (arith, low, none)) k.owes_one)
       of_other n k none B = who_owes_no_fin_stands start B turns (subst (λ d. OwesFin start B d turns) (let low = k.few_other in omega (arith, low, none)) k.owes_other)
 
-  windows : (s : Side) (v u : List Turn) → Rounds start 6 v u → read_after start s v + (plan.mss - 28) ≤ (written_by s (reached values start u)).edge
+  windows : (s : Side) (v u : List Turn) → Rounds start 6 v u → length (pick s start.file_a start.file_b) ≤ (written_by s (reached values start u)).edge
   windows s v u rounds =
       let b = between start 5 v u rounds in
-      fitting_files_are_never_shut start plan s one (fit s) v u (subst (IsOpenAfter start) (sym b.is) (open_last start v b.more b.stays_open)) (over_after start 5 v u rounds)
+      fitting_files_are_never_shut start plan s one (fit s) u (subst (IsOpenAfter start) (sym b.is) (open_last start v b.more b.stays_open)) (over_after start 5 v u rounds)
 
   rest : RestIsMended start plan most (harms_and_early values start) count (OwesFins start) (MendsFins start)
   rest = record {
@@ -112,7 +113,7 @@ module _ (start : Start) (plan : PathPlan) (most : ℕ) (one : BeginsWithOnePath
         one.mild counts.harms (mended A) (mended B);
     few = kinds_are_few_together start plan most count (OwesFin start A) (OwesFin start B) (few A) (few B);
     hears = record {
-      windows = λ s v u rounds. inr (windows s v u (rounds_of start (OwesAll start (OwesFins start) 0) 6 v u rounds));
+      windows = λ s v u rounds. inr (let all = windows s v u (rounds_of start (OwesAll start (OwesFins start) 0) 6 v u rounds) in omega (arith, all));
       fins = λ s v u rounds sent. ends_are_heard start plan (OwesAll start (OwesFins start) 0) one stand s v u rounds sent;
     };
   }

@@ -19,7 +19,7 @@ use Rattle.whole_paths.specs.PaidEnds.{FewLossesFinishBy, OnePathEndsBy}
 
 -- both files do
 abbrev pub FitFirstWindows : Start → PathPlan → Type 0
-FitFirstWindows start plan = (s : Side) → FitsFirstWindow start plan s
+FitFirstWindows start plan = (s : Side) → FitsFirstWindow start s
 
 -- What is paid for: each segment that is harmed, and each record of A's that its end has as B's end may send a DSS first.
 abbrev pub harms_and_early : {C : Type 0} → Codec C → Count
