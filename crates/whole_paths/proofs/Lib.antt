@@ -287,3 +287,4 @@ pub mod OpenQuietly
 pub mod Opened
 pub mod SignPieces
 pub mod EarlyRecords
+pub mod ProbeWaits
