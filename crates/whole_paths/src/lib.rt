@@ -47,6 +47,7 @@ pub use debt_laws::paths_open_by_clearing;
 pub use debt_laws::records_are_passed_whole;
 pub use debt_laws::what_is_reached_is_first;
 pub use debt_laws::what_runs_out_is_mended;
+pub use debt_laws::who_stalls_is_shut;
 pub use delivery_laws::a_segment_is_read;
 pub use delivery_laws::a_unit_is_made;
 pub use delivery_laws::all_comes_up_to_lost;
