@@ -1,23 +1,23 @@
 -- What a stream of the judge has seen behind a segment with mappings: the place of each position of its payload that is mapped there. And a Data ACK
 -- of places that were seen is no fault.
-use Rattle.std.proofs.Common.{◌≡◌, refl, sym, ap, ◌∙◌, subst, ℕ, zero, suc, ◌⊎◌, inl, inr, ⊎_elim, ◌&&◌, ◌+◌, ◌-◌, ◌%◌, ◌^◌, ◌<◌, ◌≤◌, ◌==◌, nat_lt, Bool, true, false, if◌then◌else◌, Option, Some, None, option_map, Ok, Err, List, [], ◌∷◌, arith}
+use Rattle.std.proofs.Common.{◌≡◌, refl, sym, ap, ◌∙◌, subst, ℕ, zero, suc, ◌⊎◌, inl, inr, ⊎_elim, ◌&&◌, ◌+◌, ◌-◌, ◌%◌, ◌^◌, ◌<◌, ◌≤◌, ◌==◌, nat_lt, Bool, true, false, if◌then◌else◌, Option, Some, None, option_map, List, [], ◌∷◌, arith}
 use Rattle.std.specs.Prelude.{All, is_some, option_and_then, slice_get}
 use Rattle.std.specs.Option.{IfSome, option_or}
-use Rattle.std.proofs.lemmas.Bool.{cases_lt, eq-eqb, false≢true, le-leb, le-ltb, lt-ltb, ne_eqb, or_right}
+use Rattle.std.proofs.lemmas.Bool.{cases_lt, eq-eqb, false≢true, le-leb, lt-ltb, ne_eqb, or_right}
 use Rattle.std.proofs.lemmas.List.Elements.{All-head, All-nil, All-tail}
 use Rattle.sides.specs.Side.{peer}
 use Rattle.mptcp_options.specs.Value.{OptionValue}
-use Rattle.mptcp_options.specs.declared.dss.DataNumber.{DataNumber}
-use Rattle.judge_rules.specs.Acks.{ack_by, ack_place, behind_fin, not_below}
+use Rattle.judge_rules.specs.Acks.{behind_fin}
 use Rattle.judge_rules.specs.Mappings as mapping
 use Rattle.judge_rules.specs.Mappings.{mapped_octets, mapped_place, natural, offer_of}
 use Rattle.judge_rules.specs.Numbers.{place_near}
-use Rattle.judge_rules.specs.declared.acks.AckFacts.{AckFacts}
 use Rattle.judge_rules.specs.declared.acks.ToldPlace.{ToldPlace}
-use Rattle.judge_rules.specs.declared.finding.Finding.TheVariants.{Falls, NotSeen}
 use Rattle.judge_rules.specs.declared.mappings.Offer.{Offer}
 use Rattle.first_runs.specs.Runs.{Told, image_in, told_by}
-use Rattle.judge_laws.proofs.Going.{acked_each_goes, failed_each_goes}
+use Rattle.judge_laws.proofs.Going.{acked_each_goes, failed_each_goes, steps}
+use Rattle.judge_laws.proofs.GoesOn.{goes_same}
+use Rattle.judge_laws.proofs.Positions.{tail_so}
+use Rattle.judge_laws.specs.GoesOn.{GoesOn}
 use Rattle.judge_laws.proofs.Shown.{from_goes}
 use Rattle.seen_connections.specs.declared.connections.Keys.{Keys}
 use Rattle.seen_octets.specs.declared.octet.Octet.{Octet}
@@ -25,7 +25,7 @@ use Rattle.seen_octets.specs.Places.{lowest_unseen, whole}
 use Rattle.seen_streams.specs.Acks.{Acked, ended_by_fin}
 use Rattle.seen_streams.specs.Content.{as_part, at_place, comes, earlier, is_between, shown, shown_from, with_payload}
 use Rattle.seen_streams.specs.Mapped as mapped
-use Rattle.seen_streams.specs.Mapped.{Mapped, finite, finite_at, finite_by, finite_fault, finite_learnt, mapped_at, octets_of, one_more, run_of, told_mapping, with_places}
+use Rattle.seen_streams.specs.Mapped.{Mapped, fin_after, finite, finite_at, finite_by, finite_fault, finite_learnt, mapped_at, octets_of, one_more, run_of, told_mapping, with_places}
 use Rattle.seen_streams.specs.State.{LaneValue, StreamValue, is_of, line_place, place_of}
 use Rattle.seen_streams.specs.Sums.{is_whole, tried_if_whole, tried_sum, tried_sums, with_sums}
 use Rattle.seen_streams.specs.declared.told.Teller.{Teller}
@@ -33,7 +33,7 @@ use Rattle.seen_streams.specs.declared.told.ToldMapping.{ToldMapping}
 use Rattle.seen_streams.specs.declared.told.Waiting.{Waiting}
 use Rattle.rule_book.specs.Facts.{Facts, first_of, payload_at}
 use Rattle.rule_book.specs.Stream.{acked_each, behind_acks, behind_payload, fin_taken, judged_at, mapped_each, mapped_one, mapped_with, summed, told_in, within_each}
-use Rattle.own_runs.proofs.FinePositions.{NumberIs, near_so}
+use Rattle.own_runs.proofs.FinePositions.{near_so}
 use Rattle.own_runs.proofs.OwnPositions.{same_position}
 use Rattle.own_runs.proofs.MapPositions.{Fine, StreamFine, Holds, LaneFine, OfferIs, OffersWell, Sit, Sits, Summed, fault_so, mapped_so, offer_so, within}
 use Rattle.first_runs.specs.declared.run.Run.{Run}
@@ -105,18 +105,6 @@ behind_all limit place s few h = by (cases_lt limit place)
         ap (λ (o : Option ToldPlace). behind_fin o (whole s.seen 0)) fin.1 ∙ ap (λ (b : Bool). if b then whole s.seen 0 + 1 else whole s.seen 0) (eq-eqb fin.0.place (whole s.seen 0) same) in
         omega (arith, end, all, upto)
 
--- it isn't below the highest one before
-pub ack_so : (facts : AckFacts) (number : DataNumber) (place : ℕ) → NumberIs facts.first number place → facts.top < 2 ^ 31 → place < 2 ^ 31
-    → place ≤ behind_fin facts.fin facts.whole → IfSome facts.highest (λ highest. highest ≤ place) → ack_place facts number ≡ Ok place
-ack_so facts number place is few small behind on =
-    ap (ack_by facts number) (near_so facts.first facts.top place number is few small)
-    ∙ ap (λ (b : Bool). if b then Err (NotSeen place (behind_fin facts.fin facts.whole)) else not_below facts.highest place) (le-ltb (behind_fin facts.fin facts.whole) place behind)
-    ∙ highest facts.highest on
-  where
-    highest : (o : Option ℕ) → IfSome o (λ highest. highest ≤ place) → not_below o place ≡ Ok place
-    highest None on = refl
-    highest (Some after) on = ap (λ (b : Bool). if b then Err (Falls place after) else Ok place) (le-ltb place after on)
-
 -- ---- payload
 
 here : (q : ℕ) → is_of q 1 q ≡ true
@@ -186,10 +174,33 @@ abbrev pub IsCover : ℕ → ℕ → Option Offer → Type 0
 IsCover position p None = ⊥
 IsCover position p (Some offer) = (position ≤ p) × (p < position + mapped_octets offer)
 
--- by one of the options
+-- of one of the options
+abbrev pub AnyOf : (OptionValue → Type 0) → List OptionValue → Type 0
+AnyOf R [] = ⊥
+AnyOf R (option ∷ options) = R option ⊎ AnyOf R options
+
 abbrev pub IsCovered : ℕ → ℕ → ℕ → List OptionValue → Type 0
-IsCovered first position p [] = ⊥
-IsCovered first position p (option ∷ options) = IsCover position p (offer_of first option) ⊎ IsCovered first position p options
+IsCovered first position p options = AnyOf (λ option. IsCover position p (offer_of first option)) options
+
+-- an offer with the DATA_FIN
+abbrev pub EndsOffer : Option Offer → Type 0
+EndsOffer None = ⊥
+EndsOffer (Some offer) = offer.fin ≡ true
+
+abbrev pub EndsIn : ℕ → List OptionValue → Type 0
+EndsIn first options = AnyOf (λ option. EndsOffer (offer_of first option)) options
+
+abbrev IsEnded : Mapped → Type 0
+IsEnded x = is_some x.stream.fin ≡ true
+
+still_ended : (fin : Option ToldPlace) (told : Bool) (end packet : ℕ) → is_some fin ≡ true → is_some (fin_after fin told end packet) ≡ true
+still_ended (Some place) told end packet some = refl
+still_ended None told end packet some = absurd (false≢true some)
+
+now_ended : (fin : Option ToldPlace) (told : Bool) (end packet : ℕ) → told ≡ true → is_some (fin_after fin told end packet) ≡ true
+now_ended (Some place) told end packet is = refl
+now_ended None true end packet is = refl
+now_ended None false end packet is = absurd (false≢true is)
 
 abbrev IsPlaced : ℕ → LaneValue → Type 0
 IsPlaced p lane = is_some (lane.placed p) ≡ true
@@ -210,9 +221,9 @@ now_placed p run lane low high =
     by None = refl
     by (Some told) = refl
 
-module _ (limit : ℕ) (few : limit < 2 ^ 31) (content : ℕ → ℕ) (first : ℕ) (where_at : ℕ → ℕ) where
+module _ (limit : ℕ) (few : limit < 2 ^ 31) (content : ℕ → ℕ) (first : ℕ) (where_at : ℕ → ℕ) (most high : ℕ) where
   abbrev AllHold : Mapped → Type 0
-  AllHold x = Holds limit few content first where_at x
+  AllHold x = Holds limit few content first where_at most high x
 
   -- all below a place was seen, and the DATA_FIN was told where the place is behind it
   pub seen_so : (s : StreamValue) → StreamFine limit few content s → (place : ℕ) → ((q : ℕ) → q < place → q < limit → s.seen q ≡ true) → place ≤ limit + 1
@@ -233,22 +244,22 @@ module _ (limit : ℕ) (few : limit < 2 ^ 31) (content : ℕ → ℕ) (first : �
       (ne_eqb offer.length 0 (λ none. let some = o.some in omega (arith, some, none)))
       ∙ ap (λ (p : Option ℕ). finite_at p teller offer position (one_more state)) place
       ∙ ap (λ (f : Option Broke). finite_by f teller.packet (told_mapping offer position o.place) (one_more state))
-      (fault_so limit few content first where_at teller (one_more state).stream state.lane fine offer o.place o.ends position (sits o.sits))
+      (fault_so limit few content first where_at most high teller (one_more state).stream state.lane fine offer o.place o.ends position (sits o.sits))
     where
-      h : Fine limit few content first where_at state.stream state.lane
+      h : Fine limit few content first where_at most high state.stream state.lane
       h = all.0
 
-      fine : Fine limit few content first where_at (one_more state).stream state.lane
-      fine = (record { infinite = h.0.infinite; fin = h.0.fin; top = h.0.top; octets = h.0.octets; below = h.0.below; untold = h.0.untold }, h.1)
+      fine : Fine limit few content first where_at most high (one_more state).stream state.lane
+      fine = (record { infinite = h.0.infinite; fin = h.0.fin; top = h.0.top; octets = h.0.octets; below = h.0.below; there = h.0.there; untold = h.0.untold }, h.1)
 
       sits : (mapped_octets offer ≡ 0) ⊎ ((offer.relative % 2 ^ 32 ≡ near % 2 ^ 32) × Sit where_at near o.place (mapped_octets offer))
-          → Sits limit few content first where_at offer (mapping.position_near near offer.relative) o.place
+          → Sits limit few content first where_at most high offer (mapping.position_near near offer.relative) o.place
       sits (inl none) = inl none
       sits (inr both) = inr (near, same_position near offer.relative both.0, both.1)
 
       place : mapped_place teller.first state.stream.top offer ≡ Some o.place
       place =
-          let top = h.0.top in let upto = within limit few content first where_at teller state.stream state.lane h offer o.place o.ends in
+          let top = h.0.top in let upto = within limit few content first where_at most high teller state.stream state.lane h offer o.place o.ends in
           ap (option_and_then (λ place. if nat_lt (place + mapped_octets offer) (2 ^ 62) then Some place else None))
           (ap (λ (n : ℕ). place_near n state.stream.top offer.number) is ∙ near_so first state.stream.top o.place offer.number o.number (omega (arith, top, few)) (omega (arith, upto, few)))
           ∙ ap (λ (b : Bool). if b then Some o.place else None) (lt-ltb (o.place + mapped_octets offer) (2 ^ 62) (omega (arith, upto, few)))
@@ -284,7 +295,7 @@ module _ (limit : ℕ) (few : limit < 2 ^ 31) (content : ℕ → ℕ) (first : �
     each_kept (option ∷ options) state all holds h =
         let o = own_offer option (All-head (OffersWell first limit content where_at near) option options all) in
         each_kept options (mapped_one teller near (offer_of teller.first option) state) (All-tail (OffersWell first limit content where_at near) option options all)
-        (offer_so limit few content first where_at teller is near (offer_of teller.first option) state o holds) (one_kept (offer_of teller.first option) state o holds h)
+        (offer_so limit few content first where_at most high teller is near (offer_of teller.first option) state o holds) (one_kept (offer_of teller.first option) state o holds h)
 
     each_placed : (options : List OptionValue) (state : Mapped) → All (OffersWell first limit content where_at near) options → AllHold state → IsCovered first near p options
         → IsPlaced p (mapped_each teller near options state).lane
@@ -293,21 +304,48 @@ module _ (limit : ℕ) (few : limit < 2 ^ 31) (content : ℕ → ℕ) (first : �
         let o = own_offer option (All-head (OffersWell first limit content where_at near) option options all) in
         let next = mapped_one teller near (offer_of teller.first option) state in
         let rest = All-tail (OffersWell first limit content where_at near) option options all in
-        let held = offer_so limit few content first where_at teller is near (offer_of teller.first option) state o holds in
+        let held = offer_so limit few content first where_at most high teller is near (offer_of teller.first option) state o holds in
         ⊎_elim
         (λ here. each_kept options next rest held (one_placed (offer_of teller.first option) state o holds (subst (λ (n : ℕ). IsCover near p (offer_of n option)) (sym is) here)))
         (λ later. each_placed options next rest held later) covered
 
+    -- ---- the DATA_FIN
+
+    one_still : (offer : Option Offer) (state : Mapped) → IfSome offer (OfferIs first limit content where_at near) → AllHold state → IsEnded state → IsEnded (mapped_one teller near offer state)
+    one_still None state o all h = h
+    one_still (Some offer) state o all h =
+        subst (λ (x : Mapped). IsEnded x) (sym (mapped_is teller is offer near state o all)) (still_ended state.stream.fin offer.fin (o.place + mapped_octets offer) teller.packet h)
+
+    one_ended : (offer : Option Offer) (state : Mapped) → IfSome offer (OfferIs first limit content where_at near) → AllHold state → EndsOffer offer → IsEnded (mapped_one teller near offer state)
+    one_ended None state o all ends = absurd ends
+    one_ended (Some offer) state o all ends =
+        subst (λ (x : Mapped). IsEnded x) (sym (mapped_is teller is offer near state o all)) (now_ended state.stream.fin offer.fin (o.place + mapped_octets offer) teller.packet ends)
+
+    each_still : (options : List OptionValue) (state : Mapped) → All (OffersWell first limit content where_at near) options → AllHold state → IsEnded state → IsEnded (mapped_each teller near options state)
+    each_still [] state all holds h = h
+    each_still (option ∷ options) state all holds h =
+        let o = own_offer option (All-head (OffersWell first limit content where_at near) option options all) in
+        each_still options (mapped_one teller near (offer_of teller.first option) state) (All-tail (OffersWell first limit content where_at near) option options all)
+        (offer_so limit few content first where_at most high teller is near (offer_of teller.first option) state o holds) (one_still (offer_of teller.first option) state o holds h)
+
+    each_ended : (options : List OptionValue) (state : Mapped) → All (OffersWell first limit content where_at near) options → AllHold state → EndsIn first options → IsEnded (mapped_each teller near options state)
+    each_ended [] state all holds ends = absurd ends
+    each_ended (option ∷ options) state all holds ends =
+        let o = own_offer option (All-head (OffersWell first limit content where_at near) option options all) in
+        let next = mapped_one teller near (offer_of teller.first option) state in
+        let rest = All-tail (OffersWell first limit content where_at near) option options all in
+        let held = offer_so limit few content first where_at most high teller is near (offer_of teller.first option) state o holds in
+        ⊎_elim
+        (λ here. each_still options next rest held (one_ended (offer_of teller.first option) state o holds (subst (λ (n : ℕ). EndsOffer (offer_of n option)) (sym is) here)))
+        (λ later. each_ended options next rest held later) ends
+
   -- ---- all of a segment
 
-  -- a position of its payload that one of its options maps
-  pub judged_seen : (facts : Facts) (position : ℕ) (options : List OptionValue) (keys : Keys) (peers s : StreamValue) (lane : LaneValue) (p : ℕ) → first_of facts.side keys ≡ Some first
-      → All (OffersWell first limit content where_at position) options → Fine limit few content first where_at s lane → IsCovered first position p options
-      → 1 ≤ p → position ≤ p → p < (payload_at facts position).to → (judged_at facts position options keys peers s lane).stream.seen (where_at p) ≡ true
-  judged_seen facts position options keys peers s lane p known all fine covered some low high =
-      acks_seen facts (first_of (peer facts.side) keys) peers options (where_at p) (summed facts (first_of facts.side keys) told.learnt (behind_payload facts position peers.acknowledged told))
-      (summed_seen facts (first_of facts.side keys) told.learnt (where_at p) (behind_payload facts position peers.acknowledged told)
-      (payload_seen facts position peers.acknowledged told p (where_at p) some low high place))
+  -- behind one that tells the DATA_FIN the stream has it
+  pub judged_ended : (facts : Facts) (position : ℕ) (options : List OptionValue) (keys : Keys) (peers s : StreamValue) (lane : LaneValue) → first_of facts.side keys ≡ Some first
+      → All (OffersWell first limit content where_at position) options → Fine limit few content first where_at most high s lane → EndsIn first options
+      → is_some (judged_at facts position options keys peers s lane).stream.fin ≡ true
+  judged_ended facts position options keys peers s lane known all fine ends = by told.stream.fin refl ended
     where
       before : Mapped
       before = record { stream = s; lane = fin_taken facts position lane; learnt = []; has_line = false }
@@ -315,12 +353,43 @@ module _ (limit : ℕ) (few : limit < 2 ^ 31) (content : ℕ → ℕ) (first : �
       told : Mapped
       told = mapped_with facts (first_of facts.side keys) position options before
 
-      lane_fine : (b : Bool) → LaneFine limit few content first where_at (if b then with_fin (position + facts.seen.payload_len) lane else lane)
-      lane_fine true = record { line = fine.1.line; placed = fine.1.placed; octets = fine.1.octets; waiting = fine.1.waiting }
+      lane_fine : (b : Bool) → LaneFine limit few content first where_at most high (if b then with_fin (position + facts.seen.payload_len) lane else lane)
+      lane_fine true = record { line = fine.1.line; placed = fine.1.placed; octets = fine.1.octets; there = fine.1.there; waiting = fine.1.waiting; acked = fine.1.acked; top = fine.1.top }
+      lane_fine false = fine.1
+
+      ended : IsEnded told
+      ended =
+          subst (λ (x : Mapped). IsEnded x) (sym (ap (λ (f : Option ℕ). mapped_with facts f position options before) known))
+          (each_ended (told_in facts first) refl position 0 options before all ((fine.0, lane_fine facts.seen.segment.head.fin), All-nil (Summed limit few content first where_at most high)) ends)
+
+      goes : GoesOn told.stream (judged_at facts position options keys peers s lane).stream
+      goes = tail_so facts position options keys peers s lane (steps (first_of facts.side keys) told.stream) (goes_same told.stream)
+
+      by : (o : Option ToldPlace) → told.stream.fin ≡ o → is_some o ≡ true → is_some (judged_at facts position options keys peers s lane).stream.fin ≡ true
+      by None e some = absurd (false≢true some)
+      by (Some fin) e some = ap is_some (goes.fin fin e)
+
+  -- a position of its payload that one of its options maps
+  pub judged_seen : (facts : Facts) (position : ℕ) (options : List OptionValue) (keys : Keys) (peers s : StreamValue) (lane : LaneValue) (p : ℕ) → first_of facts.side keys ≡ Some first
+      → All (OffersWell first limit content where_at position) options → Fine limit few content first where_at most high s lane → IsCovered first position p options
+      → 1 ≤ p → position ≤ p → p < (payload_at facts position).to → (judged_at facts position options keys peers s lane).stream.seen (where_at p) ≡ true
+  judged_seen facts position options keys peers s lane p known all fine covered some low under =
+      acks_seen facts (first_of (peer facts.side) keys) peers options (where_at p) (summed facts (first_of facts.side keys) told.learnt (behind_payload facts position peers.acknowledged told))
+      (summed_seen facts (first_of facts.side keys) told.learnt (where_at p) (behind_payload facts position peers.acknowledged told)
+      (payload_seen facts position peers.acknowledged told p (where_at p) some low under place))
+    where
+      before : Mapped
+      before = record { stream = s; lane = fin_taken facts position lane; learnt = []; has_line = false }
+
+      told : Mapped
+      told = mapped_with facts (first_of facts.side keys) position options before
+
+      lane_fine : (b : Bool) → LaneFine limit few content first where_at most high (if b then with_fin (position + facts.seen.payload_len) lane else lane)
+      lane_fine true = record { line = fine.1.line; placed = fine.1.placed; octets = fine.1.octets; there = fine.1.there; waiting = fine.1.waiting; acked = fine.1.acked; top = fine.1.top }
       lane_fine false = fine.1
 
       begun : AllHold before
-      begun = ((fine.0, lane_fine facts.seen.segment.head.fin), All-nil (Summed limit few content first where_at))
+      begun = ((fine.0, lane_fine facts.seen.segment.head.fin), All-nil (Summed limit few content first where_at most high))
 
       each : told ≡ mapped_each (told_in facts first) position options before
       each = ap (λ (f : Option ℕ). mapped_with facts f position options before) known
@@ -329,7 +398,7 @@ module _ (limit : ℕ) (few : limit < 2 ^ 31) (content : ℕ → ℕ) (first : �
       placed = subst (λ (x : Mapped). IsPlaced p x.lane) (sym each) (each_placed (told_in facts first) refl position p options before all begun covered)
 
       held : AllHold told
-      held = mapped_so limit few content first where_at facts (first_of facts.side keys) (subst (λ (o : Option ℕ). IfSome o (λ n. n ≡ first)) (sym known) refl) position options before all begun
+      held = mapped_so limit few content first where_at most high facts (first_of facts.side keys) (subst (λ (o : Option ℕ). IfSome o (λ n. n ≡ first)) (sym known) refl) position options before all begun
 
       image : (o : Option Told) → is_some o ≡ true → IfSome o (λ told. (told.image ≡ where_at p) × (told.image < limit))
           → option_or (option_map (λ (told : Told). told.image) o) (line_place told.lane.line p) ≡ Some (where_at p)

@@ -47,7 +47,7 @@ use Rattle.world_laws.specs.Promises.{IsPlain}
 use Rattle.world_laws.specs.StampedBooks.{answer_to}
 use Rattle.world_laws.specs.Worlds.{Turn, WorldState, after_turn, begins, crew_after, greatest, world_run}
 use Rattle.world_laws.specs.declared.member.Member.TheVariants.{App, Path}
-use Rattle.own_runs.proofs.DutiesFew.{IsNoEvent, duty_free, is_free, is_rare, settled_free}
+use Rattle.own_runs.proofs.DutiesFew.{IsNoEvent, duty_free, is_free, is_rare, joins_none, settled_free}
 
 -- B sends once more what isn't acknowledged
 abbrev pub is_again : Duty → Bool
@@ -186,7 +186,7 @@ takes_again : (r : Reply) (p : PathState Carried) → Holds p → Again p → Ag
 takes_again r p holds (inl free) = by p.agenda refl
   where
     other : (d : Duty) → IsNoEvent d → Again (settled (answered values d r p).agenda (answered values d r p))
-    other d none = settles (answered values d r p) (inl (duty_free is_again rare p free d r none))
+    other d none = settles (answered values d r p) (inl (duty_free is_again rare p free d r none (joins_none is_again rare (λ s. (refl, refl)) d)))
 
     by : (ds : List Duty) → p.agenda ≡ ds → Again (settled (answers values ds r p).agenda (answers values ds r p))
     by [] same = settles p (inl free)

@@ -37,7 +37,7 @@ use Rattle.world_laws.proofs.Writes.Paths.{passes_no_more, writes_no_more}
 use Rattle.world_laws.proofs.Writes.Steps.{both_ends, unwritten}
 use Rattle.world_laws.specs.Writes.{EndView, EndWrites, Only, OnlyAt, PathView, Writes, side_of, writes}
 use Rattle.own_runs.proofs.AnswersAsked.{now_is}
-use Rattle.own_runs.proofs.DutiesFew.{IsNoEvent, duty_free}
+use Rattle.own_runs.proofs.DutiesFew.{IsNoEvent, duty_free, joins_none}
 use Rattle.own_runs.proofs.EndPaths.{settled_key, takes_key}
 use Rattle.own_runs.proofs.HeardKnows.{HeardKnows, happens_so, none_heard, rare, treats}
 use Rattle.own_runs.proofs.KeyedPieces.{HasKey}
@@ -158,7 +158,7 @@ takes_back r p holds first free = by p.agenda refl free
 
     other : (d : Duty) → IsNoEvent d → treats d ≡ false → (settled (answered values d r p).agenda (answered values d r p)).a.modes.clear ≡ true
         → (p.a.modes.clear ≡ true) ⊎ (HasKey p.a ⊎ HasKey (settled (answered values d r p).agenda (answered values d r p)).a)
-    other d none free_d = settles (answered values d r p) (duty_free treats rare p free d r none) (answered_back d r p none free_d)
+    other d none free_d = settles (answered values d r p) (duty_free treats rare p free d r none (joins_none treats rare (λ s. (refl, refl)) d)) (answered_back d r p none free_d)
 
     first_free : (d : Duty) (ds : List Duty) → none_heard (d ∷ ds) → treats d ≡ false
     first_free d ds none = not-true (treats d) (and_parts (not (treats d)) _ none).0

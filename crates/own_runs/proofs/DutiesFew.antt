@@ -39,15 +39,20 @@ abbrev pub is_events : StepDuty → Bool
 is_events StepDuty.Events = true
 is_events _ = false
 
--- these come by an event alone
+-- these come by an event alone, or by the answer to a SYN that asks to join
 abbrev pub is_rare : Duty → Bool
 is_rare (Duty.Ask (AskDuty.SynAnswered s)) = true
 is_rare (Duty.Ask (AskDuty.PeerKey s)) = true
 is_rare (Duty.Ask (AskDuty.Live s)) = true
 is_rare (Duty.Ask (AskDuty.Return s)) = true
+is_rare (Duty.Ask (AskDuty.JoinHeard s)) = true
 is_rare (Duty.Step (StepDuty.Heard s index)) = true
 is_rare (Duty.Send (SendDuty.Acknowledge s)) = true
 is_rare (Duty.Send (SendDuty.Resend s)) = true
+is_rare (Duty.Send (SendDuty.SynAck s)) = true
+is_rare (Duty.Send (SendDuty.Refuse s)) = true
+is_rare (Duty.Send (SendDuty.Answer s)) = true
+is_rare (Duty.Send (SendDuty.ResetAnswer s)) = true
 is_rare _ = false
 
 -- whatever isn't an event
@@ -59,6 +64,15 @@ IsNoEvent _ = Unit {0}
 module _ (m : Duty → Bool) (rare : (x : Duty) → is_rare x ≡ false → m x ≡ false) where
   abbrev pub is_free : List Duty → Bool
   is_free ds = list_all (λ d. not (m d)) ds
+
+  -- and without those of the answer to a join, where that is next
+  abbrev pub JoinsNone : Duty → Type 0
+  JoinsNone (Duty.Ask (AskDuty.JoinHeard s)) = (m (Duty.Send (SendDuty.SynAck s)) ≡ false) × (m (Duty.Send (SendDuty.Refuse s)) ≡ false)
+  JoinsNone _ = Unit {0}
+
+  pub joins_none : ((s : Side) → (m (Duty.Send (SendDuty.SynAck s)) ≡ false) × (m (Duty.Send (SendDuty.Refuse s)) ≡ false)) → (d : Duty) → JoinsNone d
+  joins_none none (Duty.Ask (AskDuty.JoinHeard s)) = none s
+  joins_none none _ = tt
 
   pub all_free : (ds : List Duty) → list_all (λ d. not (is_rare d)) ds ≡ true → is_free ds ≡ true
   all_free [] is = refl
@@ -113,13 +127,11 @@ module _ (m : Duty → Bool) (rare : (x : Duty) → is_rare x ≡ false → m x 
     leave_free A = put_free (Duty.Ask (AskDuty.Leave A)) p.agenda (rare (Duty.Ask (AskDuty.Leave A)) refl) h
     leave_free B = put_free (Duty.Ask (AskDuty.Leave B)) p.agenda (rare (Duty.Ask (AskDuty.Leave B)) refl) h
 
-    pub refuse_free : (s : Side) → is_free (replaced (Duty.Send (SendDuty.Refuse s)) p.agenda) ≡ true
-    refuse_free A = put_free (Duty.Send (SendDuty.Refuse A)) p.agenda (rare (Duty.Send (SendDuty.Refuse A)) refl) h
-    refuse_free B = put_free (Duty.Send (SendDuty.Refuse B)) p.agenda (rare (Duty.Send (SendDuty.Refuse B)) refl) h
+    pub refuse_free : (s : Side) → m (Duty.Send (SendDuty.Refuse s)) ≡ false → is_free (replaced (Duty.Send (SendDuty.Refuse s)) p.agenda) ≡ true
+    refuse_free s none = put_free (Duty.Send (SendDuty.Refuse s)) p.agenda none h
 
-    pub answer_free : (s : Side) → is_free (replaced (Duty.Send (SendDuty.SynAck s)) p.agenda) ≡ true
-    answer_free A = put_free (Duty.Send (SendDuty.SynAck A)) p.agenda (rare (Duty.Send (SendDuty.SynAck A)) refl) h
-    answer_free B = put_free (Duty.Send (SendDuty.SynAck B)) p.agenda (rare (Duty.Send (SendDuty.SynAck B)) refl) h
+    pub answer_free : (s : Side) → m (Duty.Send (SendDuty.SynAck s)) ≡ false → is_free (replaced (Duty.Send (SendDuty.SynAck s)) p.agenda) ≡ true
+    answer_free s none = put_free (Duty.Send (SendDuty.SynAck s)) p.agenda none h
 
     pub break_free : (s : Side) (reason : ℕ) (r : Reply) → is_free (answered_break values s reason r p).agenda ≡ true
     break_free s reason r = if_free (end_at s p).treated.asked _ _ (resets_free s reason) (leaves_free s)
@@ -166,11 +178,11 @@ module _ (m : Duty → Bool) (rare : (x : Duty) → is_rare x ≡ false → m x 
     opened_free s None r = fell_free s r
     opened_free s (Some keys) r = left_free
 
-    joined_free : (s : Side) (o : Option KeyPair) (asked : Option JoinSyn) (r : Reply) → is_free (join_taken s o asked r p).agenda ≡ true
-    joined_free s (Some keys) (Some asked) r = answer_free s
-    joined_free s None (Some asked) r = refuse_free s
-    joined_free s (Some keys) None r = refuse_free s
-    joined_free s None None r = refuse_free s
+    joined_free : (s : Side) (o : Option KeyPair) (asked : Option JoinSyn) (r : Reply) → JoinsNone (Duty.Ask (AskDuty.JoinHeard s)) → is_free (join_taken s o asked r p).agenda ≡ true
+    joined_free s (Some keys) (Some asked) r none = answer_free s none.0
+    joined_free s None (Some asked) r none = refuse_free s none.1
+    joined_free s (Some keys) None r none = refuse_free s none.1
+    joined_free s None None r none = refuse_free s none.1
 
     piece_free : (s : Side) (o : Option Piece) (taken : Bool) → is_free (answered_piece s o taken p).agenda ≡ true
     piece_free s None taken = breaks_free s 1
@@ -185,23 +197,23 @@ module _ (m : Duty → Bool) (rare : (x : Duty) → is_rare x ≡ false → m x 
     plain_fin_free s true = left_free
     plain_fin_free s false = breaks_free s 1
 
-    pub ask_free : (d : AskDuty) (r : Reply) → is_free (answered values (Duty.Ask d) r p).agenda ≡ true
-    ask_free AskDuty.JoinAgain r = if_free (is_never r) _ _ (leave_free A) left_free
-    ask_free (AskDuty.PlainHandshake s) r = fell_free s r
-    ask_free (AskDuty.PeerKey s) r = key_free s (key_heard (end_at s p).treated.items) r
-    ask_free (AskDuty.JoinHeard s) r = joined_free s (keys_begun r) (asked_at s p) r
-    ask_free (AskDuty.Opened s) r = opened_free s (keys_heard (end_at s p).treated.items) r
-    ask_free (AskDuty.AckHeard s) r = fell_free s r
-    ask_free (AskDuty.FailHeard s) r = fell_free s r
-    ask_free (AskDuty.PlainData s) r = fell_free s r
-    ask_free (AskDuty.CheckFailed s) r = fell_free s r
-    ask_free (AskDuty.Edge s) r = piece_free s (piece_of s p) (is_placed r)
-    ask_free (AskDuty.HeardFin s index) r = fin_free s (is_fin_set r)
-    ask_free (AskDuty.SubflowFin s) r = plain_fin_free s (is_fin_set r)
-    ask_free (AskDuty.LeaveNoted s) r = dead_free s
-    ask_free (AskDuty.Leave s) r = dead_free s
-    ask_free (AskDuty.BreakAck s reason) r = resets_free s reason
-    ask_free _ r = left_free
+    pub ask_free : (d : AskDuty) (r : Reply) → JoinsNone (Duty.Ask d) → is_free (answered values (Duty.Ask d) r p).agenda ≡ true
+    ask_free AskDuty.JoinAgain r none = if_free (is_never r) _ _ (leave_free A) left_free
+    ask_free (AskDuty.PlainHandshake s) r none = fell_free s r
+    ask_free (AskDuty.PeerKey s) r none = key_free s (key_heard (end_at s p).treated.items) r
+    ask_free (AskDuty.JoinHeard s) r none = joined_free s (keys_begun r) (asked_at s p) r none
+    ask_free (AskDuty.Opened s) r none = opened_free s (keys_heard (end_at s p).treated.items) r
+    ask_free (AskDuty.AckHeard s) r none = fell_free s r
+    ask_free (AskDuty.FailHeard s) r none = fell_free s r
+    ask_free (AskDuty.PlainData s) r none = fell_free s r
+    ask_free (AskDuty.CheckFailed s) r none = fell_free s r
+    ask_free (AskDuty.Edge s) r none = piece_free s (piece_of s p) (is_placed r)
+    ask_free (AskDuty.HeardFin s index) r none = fin_free s (is_fin_set r)
+    ask_free (AskDuty.SubflowFin s) r none = plain_fin_free s (is_fin_set r)
+    ask_free (AskDuty.LeaveNoted s) r none = dead_free s
+    ask_free (AskDuty.Leave s) r none = dead_free s
+    ask_free (AskDuty.BreakAck s reason) r none = resets_free s reason
+    ask_free _ r none = left_free
 
     pub send_free : (d : SendDuty) (r : Reply) → is_free (answered values (Duty.Send d) r p).agenda ≡ true
     send_free (SendDuty.Notice s) r = h
@@ -218,12 +230,12 @@ module _ (m : Duty → Bool) (rare : (x : Duty) → is_rare x ≡ false → m x 
     step_free (StepDuty.PlainAck s) r none = if_free (breaks_by_ack p.profile (end_at s p)) _ _ (break_free s 6 r) (fell_free s r)
     step_free (StepDuty.Unmapped s) r none = break_free s 6 r
 
-    pub duty_free : (d : Duty) (r : Reply) → IsNoEvent d → is_free (answered values d r p).agenda ≡ true
-    duty_free (Duty.Ask d) r none = ask_free d r
-    duty_free (Duty.Step d) r none = step_free d r none
-    duty_free (Duty.Send d) r none = send_free d r
-    duty_free (Duty.Silent d) r none = left_free
-    duty_free Duty.End r none = refl
+    pub duty_free : (d : Duty) (r : Reply) → IsNoEvent d → JoinsNone d → is_free (answered values d r p).agenda ≡ true
+    duty_free (Duty.Ask d) r none joins = ask_free d r joins
+    duty_free (Duty.Step d) r none joins = step_free d r none
+    duty_free (Duty.Send d) r none joins = send_free d r
+    duty_free (Duty.Silent d) r none joins = left_free
+    duty_free Duty.End r none joins = refl
 
     -- what stands is the rest of it
     pub settled_free : (ds : List Duty) (q : PathState Carried) → is_free ds ≡ true → is_free (settled ds q).agenda ≡ true

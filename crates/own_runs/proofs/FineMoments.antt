@@ -90,7 +90,7 @@ place_at None p = 0
 place_at (Some l) p = place_on l p
 
 -- a mapping that was told on such a lane, with the number of place 0
-abbrev MappedOn : (ℕ → ℕ) → ℕ → Option Lane → PathMapping ℕ → Type 0
+abbrev pub MappedOn : (ℕ → ℕ) → ℕ → Option Lane → PathMapping ℕ → Type 0
 MappedOn octet first lane (Bytes place position len fin checksum) =
     Sit (place_at lane) position place len
     × IfSome checksum (λ sum. sum ≡ dss_checksum (header first place (relative_number position) len) (contents (λ p. octet (place_at lane p)) position len))
@@ -98,7 +98,7 @@ MappedOn octet first lane (End place checksum) = IfSome checksum (λ sum. sum �
 MappedOn octet first lane (Infinite place position) = Unit {0}
 
 -- a payload at a position
-abbrev BorneOn : (ℕ → ℕ) → Option Lane → ℕ → List ℕ → Type 0
+abbrev pub BorneOn : (ℕ → ℕ) → Option Lane → ℕ → List ℕ → Type 0
 BorneOn octet lane position payload = (position + length payload < 2 ^ 31) × Bears (λ p. octet (place_at lane p)) position payload
 
 module _ (start : Start) (last : Duo) (path : ℕ) where
@@ -114,7 +114,7 @@ module _ (start : Start) (last : Duo) (path : ℕ) where
 
   -- what a segment maps and bears
   abbrev pub Offers : Side → PlainSegment → Type 0
-  Offers s sg = AllFine (file_len start) IsMapped s sg.options × Carries BearsMapped s sg
+  Offers s sg = AllFine (file_len start) IsMapped ⊥ s sg.options × Carries BearsMapped s sg
 
 -- ---- a path at a moment
 
@@ -243,7 +243,7 @@ module _ (start : Start) (turns : List Turn) (plain : IsPlain start) (whole : Is
               ap (λ (number : ℕ). dss_checksum (record { number = number; relative = 0; length = 1; checksum = 0 }) []) (whole_so start n there.plan s place)
 
       -- a piece that A sends as long as it may send no DSS
-      begins_so : (r : Record) → IsPiece c s out.alters out.sent out.datas r → FirstFine (file_len start) (IsMapped start last n) c s e.modes.clear r
+      begins_so : (r : Record) → IsPiece c s out.alters out.sent out.datas r → FirstFine (file_len start) (IsMapped start last n) ⊥ c s e.modes.clear r
       begins_so r is own unclear one =
           let place = place_numbered c s r.mapping.number in
           let len = r.mapping.length in
@@ -253,7 +253,7 @@ module _ (start : Start) (turns : List Turn) (plain : IsPlain start) (whole : Is
           (told_so place 1 len r.mapping.checksum has (subst (λ (p : ℕ). IsSummed c s out.sent place p len r.mapping.checksum) one is.summed))
 
       kind_so : (kind : RecordKind) (r : Record) → KindShows c s out.alters out.sent out.datas out.fins kind r → RecordKindTells c s kind r
-          → RecordFine (file_len start) (IsMapped start last n) c s e.modes.clear kind r
+          → RecordFine (file_len start) (IsMapped start last n) ⊥ c s e.modes.clear kind r
       kind_so Syn r is kept = tt
       kind_so Fin r is kept = tt
       kind_so Data r is kept = (
@@ -306,9 +306,9 @@ module _ (start : Start) (turns : List Turn) (plain : IsPlain start) (whole : Is
               → Carries (BearsMapped start last n) s (record_said c s r e)
           by r is borne has = of_kind r.kind r is borne has
 
-      unfailed : (o : Option ℕ) → IfSome o (λ _. out.alters ≡ true) → o ≡ None
-      unfailed None may = refl
-      unfailed (Some place) may = absurd (both_ways out.alters unaltered may)
+      unfailed : (o : Option ℕ) → IfSome o (λ _. out.alters ≡ true) → IfSome o (λ _. ⊥)
+      unfailed None may = tt
+      unfailed (Some place) may = both_ways out.alters unaltered may
 
       known_so : IfSome e.sending.known_end (λ k. k ≡ file_len start s)
       known_so = subst (λ (o : Option ℕ). IfSome o (λ k. k ≡ file_len start s)) shown.sender.same_end (by out.known_end hold.ends.told)
@@ -317,11 +317,11 @@ module _ (start : Start) (turns : List Turn) (plain : IsPlain start) (whole : Is
           by None is = tt
           by (Some k) is = ends k is
 
-      end_so : EndFine (file_len start) (IsMapped start last n) c s e × RecordsCarry (BearsMapped start last n) c s e
+      end_so : EndFine (file_len start) (IsMapped start last n) ⊥ c s e × RecordsCarry (BearsMapped start last n) c s e
       end_so = (
         record {
-          identity = identity;
-          infinite = own_none;
+          identity = λ is. false≢true (sym identity ∙ is);
+          infinite = subst (λ (o : Option InfiniteMapping). IfSome o (λ _. ⊥)) (sym own_none) tt;
           told = unfailed e.modes.failed_mapping shown.pairs.4;
           telling = unfailed e.treated.failed_mapping shown.pairs.5;
           known = known_so;
@@ -339,7 +339,7 @@ module _ (start : Start) (turns : List Turn) (plain : IsPlain start) (whole : Is
         by true whole is = let same : length b.written ≡ k = cc in sym same ∙ ap length (whole refl)
         by false whole is = cc
 
-    fine : (s : Side) → EndFine (file_len start) (IsMapped start last n) c s (end_at s p) × RecordsCarry (BearsMapped start last n) c s (end_at s p)
+    fine : (s : Side) → EndFine (file_len start) (IsMapped start last n) ⊥ c s (end_at s p) × RecordsCarry (BearsMapped start last n) c s (end_at s p)
     fine A =
         let hold = holds.ab.lanes.each n n there.ab (omega arith) there.ab_there in
         let later = grows.ab n there.ab there.ab_there in
@@ -355,17 +355,17 @@ module _ (start : Start) (turns : List Turn) (plain : IsPlain start) (whole : Is
     offers : PathOffers start last p
     offers = subst (λ (k : ℕ). IfSome (first_sends p.agenda p) (λ t. Offers start last k t.from (segment_sent p t))) (sym there.numbered) (by (first_sends p.agenda p) maps carries)
       where
-        maps : IfSome (first_sends p.agenda p) (λ t. AllFine (file_len start) (IsMapped start last n) t.from (segment_sent p t).options)
+        maps : IfSome (first_sends p.agenda p) (λ t. AllFine (file_len start) (IsMapped start last n) ⊥ t.from (segment_sent p t).options)
         maps =
-            first_fine_sent (file_len start) (IsMapped start last n) p
-            (λ s. subst (λ (d : Profile). EndFine (file_len start) (IsMapped start last n) d s (end_at s p)) (sym there.shows.profile) (fine s).0) p.agenda
+            first_fine_sent (file_len start) (IsMapped start last n) ⊥ p
+            (λ s. subst (λ (d : Profile). EndFine (file_len start) (IsMapped start last n) ⊥ d s (end_at s p)) (sym there.shows.profile) (fine s).0) p.agenda
 
         carries : IfSome (first_sends p.agenda p) (λ t. Carries (BearsMapped start last n) t.from (segment_sent p t))
         carries =
             first_carries (BearsMapped start last n) p
             (λ s. subst (λ (d : Profile). RecordsCarry (BearsMapped start last n) d s (end_at s p)) (sym there.shows.profile) (fine s).1) p.agenda
 
-        by : (o : Option ToSend) → IfSome o (λ t. AllFine (file_len start) (IsMapped start last n) t.from (segment_sent p t).options)
+        by : (o : Option ToSend) → IfSome o (λ t. AllFine (file_len start) (IsMapped start last n) ⊥ t.from (segment_sent p t).options)
             → IfSome o (λ t. Carries (BearsMapped start last n) t.from (segment_sent p t)) → IfSome o (λ t. Offers start last n t.from (segment_sent p t))
         by None one other = tt
         by (Some t) one other = (one, other)

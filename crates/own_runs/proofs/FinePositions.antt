@@ -1,7 +1,7 @@
 -- The place that a data number means, and where a mapping ends.
 use Rattle.std.proofs.Common.{◌≡◌, ap, ◌∙◌, ℕ, ◌+◌, ◌-◌, ◌%◌, ◌^◌, ◌<◌, ◌≤◌, pos, Bool, true, false, if◌then◌else◌, Option, Some, None, arith}
-use Rattle.std.specs.Prelude.{◌-ℤ◌}
-use Rattle.std.proofs.lemmas.Bool.{lt-ltb}
+use Rattle.std.specs.Prelude.{◌-ℤ◌, nat_le, option_and_then}
+use Rattle.std.proofs.lemmas.Bool.{le-leb, lt-ltb}
 use Rattle.std.proofs.lemmas.Int.{ints}
 use Rattle.seq_units.specs.Number.{IsNear, below, position_near}
 use Rattle.seq_units.proofs.ReadBack.{position_near-number_of_32, position_near-number_of_64}
@@ -9,6 +9,8 @@ use Rattle.mptcp_options.specs.declared.dss.DataNumber.{DataNumber}
 use Rattle.mptcp_options.specs.declared.dss.DataNumber.TheVariants.{Low, Whole}
 use Rattle.mptcp_options.specs.Value.{OptionValue, Fail}
 use Rattle.judge_rules.specs.Numbers.{place_near}
+use Rattle.seen_streams.specs.Positions.{position_of}
+use Rattle.seen_streams.specs.State.{LaneValue}
 
 -- ---- the place that a number means
 
@@ -21,7 +23,7 @@ under : (o : Option ℕ) (place : ℕ) → o ≡ Some place → place < 2 ^ 62 �
 under o place is few = ap (below (2 ^ 62)) is ∙ ap (λ (b : Bool). if b then Some place else None) (lt-ltb place (2 ^ 62) few)
 
 -- below half the numbers each is near the other
-close : (expected place : ℕ) → expected < 2 ^ 31 → place < 2 ^ 31 → IsNear (2 ^ 32) (pos place -ℤ pos expected)
+pub close : (expected place : ℕ) → expected < 2 ^ 31 → place < 2 ^ 31 → IsNear (2 ^ 32) (pos place -ℤ pos expected)
 close expected place few small = record { behind = omega (arith, ints, few, small); ahead = omega (arith, ints, few, small) }
 
 close_64 : (expected place : ℕ) → expected < 2 ^ 31 → place < 2 ^ 31 → IsNear (2 ^ 64) (pos place -ℤ pos expected)
@@ -35,6 +37,13 @@ near_so first expected place (Low number) is few small =
     under (position_near (2 ^ 32) (first % 2 ^ 32) expected number) place
     (ap (position_near (2 ^ 32) (first % 2 ^ 32) expected) (let same : number ≡ (first % 2 ^ 32 + place) % 2 ^ 32 = omega (arith, is) in same)
     ∙ position_near-number_of_32 (first % 2 ^ 32) expected place (close expected place few small)) (omega (arith, small))
+
+-- so is a segment's position near those before it
+pub position_so : (base : ℕ) (lane : LaneValue) (seq len at : ℕ) → seq ≡ (base + at) % 2 ^ 32 → lane.top < 2 ^ 31 → at + len < 2 ^ 31 → position_of base lane seq len ≡ Some at
+position_so base lane seq len at is low short =
+    ap (option_and_then (λ position. if nat_le (position + len) (2 ^ 61) then Some position else None))
+    (ap (position_near (2 ^ 32) base lane.top) is ∙ position_near-number_of_32 base lane.top at (close lane.top at low (omega (arith, short))))
+    ∙ ap (λ (b : Bool). if b then Some at else None) (le-leb (at + len) (2 ^ 61) (omega (arith, short)))
 
 -- ---- a mapping
 

@@ -34,7 +34,7 @@ use Rattle.world_laws.proofs.Whole.Ends.{Unmet, parts_of}
 use Rattle.world_laws.proofs.Whole.Happening.{Holds}
 use Rattle.world_laws.proofs.Whole.Paths.{PathIs}
 use Rattle.own_runs.proofs.AnswersAsked.{now_is}
-use Rattle.own_runs.proofs.DutiesFew.{IsNoEvent, duty_free, is_free, is_rare, settled_free}
+use Rattle.own_runs.proofs.DutiesFew.{IsNoEvent, duty_free, is_free, is_rare, joins_none, settled_free}
 use Rattle.own_runs.proofs.EndPaths.{takes_key}
 use Rattle.own_runs.proofs.KeyedPieces.{HasKey}
 
@@ -153,7 +153,7 @@ takes_none r p holds free = by p.agenda refl
     settles q none = settled_free treats rare q none q.agenda q none
 
     other : (d : Duty) → IsNoEvent d → none_heard (settled (answered values d r p).agenda (answered values d r p)).agenda ⊎ HasKey p.a
-    other d none = inl (settles (answered values d r p) (duty_free treats rare p free d r none))
+    other d none = inl (settles (answered values d r p) (duty_free treats rare p free d r none (joins_none treats rare (λ s. (refl, refl)) d)))
 
     by : (ds : List Duty) → p.agenda ≡ ds → none_heard (settled (answers values ds r p).agenda (answers values ds r p)).agenda ⊎ HasKey p.a
     by [] same = inl (settles p free)

@@ -13,7 +13,7 @@ use Rattle.path_core.specs.State.{PathState, left}
 use Rattle.path_core.specs.Values.{Carried, values}
 use Rattle.sides.specs.declared.side.Side.{Side}
 use Rattle.world_laws.proofs.Keys.AnswerHeardFirst.{is_calm, is_key_duty}
-use Rattle.own_runs.proofs.DutiesFew.{answer_free, ask_free, dead_free, failing_free, fell_free, is_rare, leave_free, leaves_free, left_free, refuse_free, resets_free, stopped_free, told_free}
+use Rattle.own_runs.proofs.DutiesFew.{answer_free, ask_free, dead_free, failing_free, fell_free, is_rare, joins_none, leave_free, leaves_free, left_free, refuse_free, resets_free, stopped_free, told_free}
 
 pub rare : (x : Duty) → is_rare x ≡ false → is_key_duty x ≡ false
 rare (Duty.Ask (AskDuty.SynAnswered s)) is = absurd (false≢true (sym is))
@@ -40,10 +40,10 @@ module _ (p : PathState Carried) (h : is_calm p.agenda ≡ true) where
   leave_calm s = leave_free is_key_duty rare p h s
 
   pub refuse_calm : (s : Side) → is_calm (replaced (Duty.Send (SendDuty.Refuse s)) p.agenda) ≡ true
-  refuse_calm s = refuse_free is_key_duty rare p h s
+  refuse_calm s = refuse_free is_key_duty rare p h s refl
 
   pub answer_calm : (s : Side) → is_calm (replaced (Duty.Send (SendDuty.SynAck s)) p.agenda) ≡ true
-  answer_calm s = answer_free is_key_duty rare p h s
+  answer_calm s = answer_free is_key_duty rare p h s refl
 
   pub told_calm : (s : Side) (acked : Bool) → is_calm (if acked then replaced (Duty.Ask (AskDuty.AckHeard s)) p.agenda else left p) ≡ true
   told_calm s acked = told_free is_key_duty rare p h s acked
@@ -55,4 +55,4 @@ module _ (p : PathState Carried) (h : is_calm p.agenda ≡ true) where
   stopped_calm s b = stopped_free is_key_duty rare p h s b
 
   pub ask_calm : (d : AskDuty) (r : Reply) → is_calm (answered values (Duty.Ask d) r p).agenda ≡ true
-  ask_calm d r = ask_free is_key_duty rare p h d r
+  ask_calm d r = ask_free is_key_duty rare p h d r (joins_none is_key_duty rare (λ s. (refl, refl)) (Duty.Ask d))

@@ -112,7 +112,7 @@ says_none joined window os none = none_heard (flat_map (items_in joined A window
 
 -- ---- what a copy means
 
-acked_so : (o : Option ℕ) (n : ℕ) → acknowledged_in (option_map (λ (k : ℕ). At k) o) ≡ Some n → o ≡ Some n
+pub acked_so : (o : Option ℕ) (n : ℕ) → acknowledged_in (option_map (λ (k : ℕ). At k) o) ≡ Some n → o ≡ Some n
 acked_so None n is = cc
 acked_so (Some k) n is = is
 
@@ -121,7 +121,7 @@ none_so None is = refl
 none_so (Some k) is = absurd (false≢true is)
 
 -- a copy that an opening end takes as the answer acknowledges this
-accepts_acked : (c : Copy) (s : EndState) (n : ℕ) → s.state ≡ EndPhase.SynSent → meaning_of c s ≡ Meaning.Accepts n → c.acknowledged ≡ Some n
+pub accepts_acked : (c : Copy) (s : EndState) (n : ℕ) → s.state ≡ EndPhase.SynSent → meaning_of c s ≡ Meaning.Accepts n → c.acknowledged ≡ Some n
 accepts_acked c s n opens is = limited (is_at_limit s) (sym (ap (λ (state : EndPhase). meaning_at state c s) opens) ∙ is)
   where
     answers : (k : ℕ) (rst syn : Bool) → (if rst then Meaning.Kills else (if syn then Meaning.Accepts k else Meaning.Ignored)) ≡ Meaning.Accepts n → k ≡ n

@@ -38,7 +38,7 @@ use Rattle.subflow_tcp.specs.declared.dues.Due.{Due}
 use Rattle.subflow_tcp.specs.declared.verdicts.Meaning.{Meaning}
 use Rattle.world_laws.proofs.Falls.Verdicts.{fell_cases}
 use Rattle.world_laws.proofs.Keys.AnswerHeardFirst.{Fits, a_template, b_template, fits, is_accepts, is_calm, is_key_duty}
-use Rattle.own_runs.proofs.DutiesFew.{IsNoEvent, duty_free, settled_free}
+use Rattle.own_runs.proofs.DutiesFew.{IsNoEvent, duty_free, joins_none, settled_free}
 use Rattle.own_runs.proofs.KeyDuties.{rare}
 
 -- what follows
@@ -148,7 +148,7 @@ pub takes_next : (r : Reply) (p : PathState Carried) → KeyNext p → KeyNext (
 takes_next r p (inl calm) = by p.agenda refl
   where
     other : (d : Duty) → IsNoEvent d → KeyNext (settled (answered values d r p).agenda (answered values d r p))
-    other d none = settles (answered values d r p) (inl (duty_free is_key_duty rare p calm d r none))
+    other d none = settles (answered values d r p) (inl (duty_free is_key_duty rare p calm d r none (joins_none is_key_duty rare (λ s. (refl, refl)) d)))
 
     by : (ds : List Duty) → p.agenda ≡ ds → KeyNext (settled (answers values ds r p).agenda (answers values ds r p))
     by [] same = settles p (inl calm)

@@ -46,7 +46,7 @@ use Rattle.world_laws.specs.declared.member.Member.TheVariants.{App, Path}
 use Rattle.actor_desk.specs.Books.{books_in}
 use Rattle.actor_desk.specs.Desk.{SixBooks}
 use Rattle.own_runs.proofs.EndPaths.{next_key, takes_key}
-use Rattle.own_runs.proofs.RecordsKept.{Kept, lasts, next_kept, takes_a}
+use Rattle.own_runs.proofs.RecordsKept.{Kept, lasts, next_kept, takes_at}
 
 -- octets that were granted need this
 abbrev pub KindNeeds : Type 0 → RecordKind → Type 0
@@ -157,7 +157,7 @@ module _ (start : Start) where
   takes_so r six (App a) upright knows h = tt
   takes_so r six (Path p) upright knows h =
       let K : Type 0 = MayBear (takes values r p) in
-      takes_a (Needs K) (any K) (ends_so K) r p (λ ds same none grant granted. takes_may r p (asks_keyed six p ds upright knows same none)) (Every-map (more (MayBear p) K (takes_may r p)) h)
+      takes_at (Needs K) (any K) (ends_so K) A r p (λ ds same none grant granted. takes_may r p (asks_keyed six p ds upright knows same none)) (Every-map (more (MayBear p) K (takes_may r p)) h)
 
   next_so : (m : Actor Carried) → MemberKeyed m → MemberKeyed (member_next m)
   next_so (App a) h = tt

@@ -51,7 +51,7 @@ maps_one (Capable flag_a flag_c NoKey) is = absurd (false≢true is)
 maps_one (Capable flag_a flag_c (Sender sender)) is = absurd (false≢true is)
 maps_one _ is = absurd (false≢true is)
 
-maps_some : (os : List PlainOption) → list_any maps_key os ≡ true → list_any shows_keys os ≡ true
+pub maps_some : (os : List PlainOption) → list_any maps_key os ≡ true → list_any shows_keys os ≡ true
 maps_some [] is = absurd (false≢true is)
 maps_some (o ∷ os) is = ⊎_elim (λ here. here_so o (maps_one o here)) (λ later. later_so (shows_keys o) (maps_some os later)) (or_cases (maps_key o) (list_any maps_key os) is)
   where
@@ -137,7 +137,7 @@ module _ (start : Start) (plain : IsPlain start) (whole : IsWhole start) (fit : 
   member_shows (Path p) speaks bears upright again known knows =
       path_shown p (path_shows start p speaks (record { bears = bears; upright = upright; again = again; answers = known.answers; stand = knows.settled }))
 
-  shows_at : WorldAlso KeysShownSo (world_run octets more_turns (opened_world start))
+  pub shows_at : WorldAlso KeysShownSo (world_run octets more_turns (opened_world start))
   shows_at =
       subst (λ (w : WorldState (List ℕ)). WorldAlso KeysShownSo w) (sym (run_fresh start more_turns plain.size fit))
       (λ i c at.

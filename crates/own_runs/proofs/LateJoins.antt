@@ -218,10 +218,10 @@ module _ (start : Start) where
 
   -- ---- turns
 
-  abbrev Learns : Type 0 → Type 0 → WorldState Carried → Type 0
+  abbrev pub Learns : Type 0 → Type 0 → WorldState Carried → Type 0
   Learns U T w = WorldLearns start.key_a start.key_b U T w
 
-  more_learns : (U T V W : Type 0) (w : WorldState Carried) → (U → V) → (T → W) → Learns U T w → Learns V W w
+  pub more_learns : (U T V W : Type 0) (w : WorldState Carried) → (U → V) → (T → W) → Learns U T w → Learns V W w
   more_learns U T V W w u t h = record {
     met = h.met;
     crew = λ actor c at. more_member U T V W u t c.member (h.crew actor c at);
@@ -240,7 +240,7 @@ module _ (start : Start) where
     abbrev Also : ℕ → Side → PlainSegment → Type 0
     Also number s sg = ComesBehind U T number s sg × (sg ≡ segment_sent p t)
 
-    shown_same : segment_sent (shown_path p) t ≡ segment_sent p t
+    pub shown_same : segment_sent (shown_path p) t ≡ segment_sent p t
     shown_same = ap (said_by t.kind p.profile t.from) (sym (end_shown t.from p))
 
     also_so : first_sends p.agenda p ≡ Some t → ComesBehind U T (path_of p) t.from (segment_sent p t) → PathAlso Also (shown_path p)
@@ -291,11 +291,20 @@ module _ (start : Start) where
     numbered : (p : PathState Carried) (s : PathSpeaks start p) → is_joined p.profile ≡ nat_lt 0 (path_of p)
     numbered p s = ap is_joined s.4 ∙ ap (nat_lt 0) (sym s.3)
 
-    zero_so : (p : PathState Carried) → PathSpeaks start p → is_joined p.profile ≡ false → path_of p ≡ 0
+    pub zero_so : (p : PathState Carried) → PathSpeaks start p → is_joined p.profile ≡ false → path_of p ≡ 0
     zero_so p s first = by (path_of p) (sym (numbered p s) ∙ first)
       where
         by : (n : ℕ) → nat_lt 0 n ≡ false → n ≡ 0
         by n none = let low = ltb-false 0 n none in omega (arith, low)
+
+    -- what it sends comes behind what it needs
+    pub segment_so : (p : PathState Carried) → PathSpeaks start p → PathKnown (books_in w.books) p → MemberLearns U T (Path p) → (t : ToSend) → first_sends p.agenda p ≡ Some t → ComesBehind U T (path_of p) t.from (segment_sent p t)
+    segment_so p said tells learns t next =
+        let spoken_t = subst (λ (o : Option ToSend). IfSome o (λ u. Spoken start said.0 p.profile u.from (end_at u.from p) (segment_sent p u))) next said.5 in
+        comes U T (books_in w.books) h.book joined_key p tells learns.1 learns.0.born (path_of p) t
+        (subst (λ (o : Option ToSend). SendAcks p tells.answers learns.0.born o) next (first_acks p tells.answers learns.0.born p.agenda)) (numbered p said)
+        (subst (λ (n : ℕ). Spoken start n p.profile t.from (end_at t.from p) (segment_sent p t)) (sym said.3) spoken_t)
+        (subst (λ (o : Option ToSend). IfSome o (λ u. Every (JoinsBy (books_in w.books) u.from) (segment_sent p u).options)) next tells.joins)
 
     -- a path's step
     path_step : (i : ℕ) (c : ActorCrew Carried) (p : PathState Carried) → slice_get w.crew i ≡ Some c → c.member ≡ Path p → PathSpeaks start p → PathKnown (books_in w.books) p
@@ -305,21 +314,13 @@ module _ (start : Start) where
         turn_says : (P : PlainSegment → Type 0) (side : Side) → TurnSays side P (Turn.Step i) w → MemberSays side P (Path p)
         turn_says P side s = subst (λ (m : Actor Carried). MemberSays side P m) is (subst (ActorSays side P) there s)
 
-        segment_so : (t : ToSend) → first_sends p.agenda p ≡ Some t → ComesBehind U T (path_of p) t.from (segment_sent p t)
-        segment_so t next =
-            let spoken_t = subst (λ (o : Option ToSend). IfSome o (λ u. Spoken start said.0 p.profile u.from (end_at u.from p) (segment_sent p u))) next said.5 in
-            comes U T (books_in w.books) h.book joined_key p tells learns.1 learns.0.born (path_of p) t
-            (subst (λ (o : Option ToSend). SendAcks p tells.answers learns.0.born o) next (first_acks p tells.answers learns.0.born p.agenda)) (numbered p said)
-            (subst (λ (n : ℕ). Spoken start n p.profile t.from (end_at t.from p) (segment_sent p t)) (sym said.3) spoken_t)
-            (subst (λ (o : Option ToSend). IfSome o (λ u. Every (JoinsBy (books_in w.books) u.from) (segment_sent p u).options)) next tells.joins)
-
         by : (o : Option ToSend) → first_sends p.agenda p ≡ o → AllBehind U T (option_to_list (sent_by (shown_path p)) ++ rest)
         by None next =
             subst (λ (o : Option Sent). AllBehind U T (option_to_list o ++ rest))
             (sym (ap (λ (o : Option ToSend). option_map (sent_as (shown_path p)) (option_map (departing_as (shown_path p)) o)) (first_same p.agenda p ∙ next)))
             (go U T (quiet (Turn.Step i) (λ s. none_next IsAlone A p next (turn_says IsAlone A s)) (λ s. none_next IsAnswer B p next (turn_says IsAnswer B s))))
         by (Some t) next =
-            let s = spoken U T p t rest next said (segment_so t next) in
+            let s = spoken U T p t rest next said (segment_so p said tells learns t next) in
             subst (λ (o : Option Sent). AllBehind U T (option_to_list o ++ rest)) (sym (sent_is U T p t rest next))
             (both U T p t rest s
             (go _ _ (more_learns _ _ _ _ (after_turn values (Turn.Step i) w)
@@ -327,7 +328,7 @@ module _ (start : Start) where
             (λ was. ⊎_elim (λ u. inl u) (λ k. inr (says_next IsAnswer B p t s.segment next s.also.1 (zero_so p said) (turn_says IsAnswer B k))) was)
             (turn_learns start.key_a start.key_b U T w h (Turn.Step i)))))
 
-    map_at : {X Y : Type 0} → (f : X → Y) (xs : List X) (i : ℕ) → slice_get (map f xs) i ≡ option_map f (slice_get xs i)
+    pub map_at : {X Y : Type 0} → (f : X → Y) (xs : List X) (i : ℕ) → slice_get (map f xs) i ≡ option_map f (slice_get xs i)
     map_at f [] i = refl
     map_at f (y ∷ xs) zero = refl
     map_at f (y ∷ xs) (suc i) = map_at f xs i

@@ -1,27 +1,28 @@
 -- Mappings that give each position its place, and payload that gives each place its octet: what a side's stream and lane are where each of its
 -- segments is such, ends within the stream, and tells right checksums. Then none of them breaks a rule on mappings and what they map.
-use Rattle.std.proofs.Common.{◌≡◌, refl, sym, ap, ◌∙◌, subst, ℕ, ℤ, zero, suc, ltb, ◌⊎◌, inl, inr, nat_le, ◌&&◌, ◌+◌, ◌-◌, ◌%◌, ◌^◌, ◌<◌, ◌≤◌, ◌==◌, nat_lt, max, pos, negsuc, not, Bool, true, false, if◌then◌else◌, Option, Some, None, option_map, Result, Ok, Err, List, [], ◌∷◌, length, take, drop, arith}
+use Rattle.std.proofs.Common.{◌≡◌, refl, sym, ap, ◌∙◌, subst, ℕ, ℤ, zero, suc, ltb, ◌⊎◌, inl, inr, ⊎_elim, nat_le, ◌&&◌, ◌+◌, ◌-◌, ◌%◌, ◌^◌, ◌<◌, ◌≤◌, ◌==◌, nat_lt, max, pos, negsuc, not, Bool, true, false, if◌then◌else◌, Option, Some, None, option_map, Result, Ok, Err, List, [], ◌∷◌, length, drop, arith}
 use mir.Val.{sel}
-use Rattle.std.specs.Prelude.{All, IfSome, int_lt, is_some, option_and_then, unwrap_or, get_or, ◌||◌, ◌++◌, ◌+ℤ◌}
+use Rattle.std.specs.Prelude.{All, IfSome, IsSomeAnd, int_lt, is_some, option_and_then, unwrap_or, get_or, ◌||◌, ◌++◌, ◌+ℤ◌}
 use Rattle.std.specs.List.{slice_get}
 use Rattle.std.specs.Int.{from_bool, int_rem_euclid}
 use Rattle.std.specs.Option.{option_or}
-use Rattle.std.proofs.lemmas.Bool.{and_parts, eq-eqb, false≢true, le-ltb, leb-true, lt-ltb, ltb-true, ne_eqb}
+use Rattle.std.proofs.lemmas.Bool.{and_parts, eq-eqb, false≢true, le-ltb, leb-true, lt-ltb, ltb-true, ne_eqb, or_cases, or_left, or_right}
 use Rattle.std.proofs.lemmas.Int.{int_rem_euclid_is, ints}
-use Rattle.std.proofs.lemmas.List.{get_or-drop, get_or-take, length-drop, length-take}
 use Rattle.std.proofs.lemmas.List.Elements.{All-append, All-cons, All-filter, All-head, All-nil, All-tail}
-use Rattle.std.proofs.lemmas.Option.{get_or_from_slice_get, slice_get_within}
+use Rattle.std.proofs.lemmas.Option.{slice_get-get_or}
 use Rattle.sides.specs.Side.{peer}
 use Rattle.dss_checksum.specs.Checksum.{dss_checksum}
 use Rattle.mptcp_options.specs.Value.{OptionValue, Dss, Fail}
+use Rattle.mptcp_options.specs.declared.dss.DataNumber.{DataNumber}
 use Rattle.judge_rules.specs.declared.acks.ToldPlace.{ToldPlace}
 use Rattle.judge_rules.specs.declared.finding.Finding.{Finding}
-use Rattle.judge_rules.specs.declared.finding.Finding.TheVariants.{BeyondFin, MappedBeyond, NoPosition, OtherFin, OtherPlace, WrongSum}
+use Rattle.judge_rules.specs.declared.finding.Finding.TheVariants.{BeyondFin, Falls, MappedBeyond, NoPosition, NotSeen, OtherFin, OtherPlace, WrongSum}
 use Rattle.judge_rules.specs.declared.finding.Rule.{Rule}
 use Rattle.judge_rules.specs.declared.finding.Rule.TheVariants as rule
 use Rattle.judge_rules.specs.declared.mappings.Line.{Line}
 use Rattle.judge_rules.specs.declared.mappings.Offer.{Offer}
-use Rattle.judge_rules.specs.Acks.{ack_place}
+use Rattle.judge_rules.specs.Acks.{ack_by, ack_place, behind_fin, not_below}
+use Rattle.judge_rules.specs.declared.acks.AckFacts.{AckFacts}
 use Rattle.judge_rules.specs.Clashes.{clash_by, first_clash}
 use Rattle.judge_rules.specs.Mappings.{fin_fault, fin_told, is_too_early, mapped_octets, mapped_place, natural, offer_of}
 use Rattle.judge_rules.specs.Mappings as mapping
@@ -30,8 +31,9 @@ use Rattle.seq_units.specs.declared.mapping.Mapping.{Mapping}
 use Rattle.seen_connections.specs.declared.connections.Keys.{Keys}
 use Rattle.seen_octets.specs.declared.octet.Octet.{Octet}
 use Rattle.seen_octets.specs.declared.octet.OtherOctet.{OtherOctet}
-use Rattle.seen_octets.specs.Octets.{all_held, octet_by}
+use Rattle.seen_octets.specs.Octets.{all_held, has_place, octet_by}
 use Rattle.seen_octets.specs.Others.{first_other, other_by}
+use Rattle.seen_octets.specs.Places.{whole}
 use Rattle.seen_streams.specs.declared.told.Broke.{Broke}
 use Rattle.seen_streams.specs.declared.told.Infinite.{Infinite}
 use Rattle.seen_streams.specs.declared.told.Teller.{Teller}
@@ -51,10 +53,11 @@ use Rattle.first_runs.specs.Runs.{Told, image_in, told_by}
 use Rattle.seen_streams.specs.Mapped.{octets_of, run_of, with_places}
 use Rattle.seen_streams.specs.Sums.{still_waiting}
 use Rattle.own_runs.proofs.OwnPositions.{same_position}
+use Rattle.own_runs.proofs.PayloadHeld.{has_all, held_all, none_left, part_is, stays_held}
 use Rattle.own_runs.proofs.FinePositions.{EndsAt, NumberIs, TellsNoFail, near_so}
 use Rattle.own_runs.proofs.Telling.{Untold, others_keep}
 
--- the rules on mappings and what they map, on the end of a stream, and that on MP_FAIL
+-- the rules on mappings and what they map, on the end of a stream, on Data ACKs, and that on MP_FAIL
 abbrev pub is_mapping : Rule → Bool
 is_mapping rule.Mapping = true
 is_mapping rule.PlaceContent = true
@@ -62,6 +65,7 @@ is_mapping rule.DssSum = true
 is_mapping rule.DataFin = true
 is_mapping rule.Infinite = true
 is_mapping rule.Fail = true
+is_mapping rule.DataAck = true
 is_mapping _ = false
 
 -- the positions from one on have the places from another one on
@@ -97,7 +101,7 @@ abbrev pub OffersWell : ℕ → ℕ → (ℕ → ℕ) → (ℕ → ℕ) → ℕ 
 OffersWell first limit content where_at position option = IfSome (offer_of first option) (OfferIs first limit content where_at position)
 
 -- the relative number of the position that it means
-relative_so : (at relative : ℕ) → relative < 2 ^ 32 → natural (int_rem_euclid (mapping.position_near at relative) (pos (2 ^ 32))) ≡ relative
+pub relative_so : (at relative : ℕ) → relative < 2 ^ 32 → natural (int_rem_euclid (mapping.position_near at relative) (pos (2 ^ 32))) ≡ relative
 relative_so at relative low = by ((relative + (2 ^ 32 - at % 2 ^ 32)) % 2 ^ 32) refl (ltb ((relative + (2 ^ 32 - at % 2 ^ 32)) % 2 ^ 32) (2 ^ 31))
   where
     by : (n : ℕ) → n ≡ (relative + (2 ^ 32 - at % 2 ^ 32)) % 2 ^ 32 → (b : Bool)
@@ -108,47 +112,37 @@ relative_so at relative low = by ((relative + (2 ^ 32 - at % 2 ^ 32)) % 2 ^ 32) 
         ap natural (int_rem_euclid_is (pos at +ℤ negsuc (2 ^ 32 - suc n)) (pos (2 ^ 32)) (2 ^ 32) 1 (at + n) (omega arith) refl (omega (arith, ints, is)))
         ∙ omega (arith, low, is)
 
-none_left : (n : ℕ) → (let none : List ℕ = [] in drop n none ≡ none)
-none_left zero = refl
-none_left (suc n) = refl
-
--- the octets of a part are those of the whole
-part_is : (skip n : ℕ) (octets : List ℕ) (j : ℕ) → j < length (drop skip (take n octets))
-    → (skip + j < length octets) × (get_or (drop skip (take n octets)) j 0 ≡ get_or octets (skip + j) 0)
-part_is skip n octets j below =
-    let left = length-drop skip (take n octets) in
-    let taken = length-take n octets in
-    (omega (arith, below, left, taken), get_or-drop skip (take n octets) j 0 ∙ get_or-take n octets (skip + j) 0 (omega (arith, below, left, taken)))
-
-contents_none : (at : ℕ → ℕ) (n p q : ℕ) → n ≡ 0 → contents at p n ≡ contents at q n
+pub contents_none : (at : ℕ → ℕ) (n p q : ℕ) → n ≡ 0 → contents at p n ≡ contents at q n
 contents_none at zero p q none = refl
 contents_none at (suc n) p q none = absurd (omega (arith, none))
 
 -- `content` is the octet of each place
 module _ (limit : ℕ) (few : limit < 2 ^ 31) (content : ℕ → ℕ) where
-  -- no infinite mapping was told, nothing is mapped or seen beyond the end, where the DATA_FIN stands, each place has its octet, and no such rule was
-  -- broken
+  -- no infinite mapping was told, nothing is mapped or seen beyond the end, where the DATA_FIN stands, each place that was seen has its octet, and no
+  -- such rule was broken
   pub record StreamFine (s : StreamValue) : Type 0 where
     pub infinite : s.infinite ≡ None
     pub fin : IfSome s.fin (λ told. told.place ≡ limit)
     pub top : s.top ≤ limit
     pub octets : (q : ℕ) → IfSome (s.octet q) (λ o. (q < limit) × (o.octet ≡ content q))
     pub below : (q : ℕ) → s.seen q ≡ true → q < limit
+    pub there : (q : ℕ) → s.seen q ≡ true → is_some (s.octet q) ≡ true
     pub untold : Untold is_mapping s.broken
 
   tell_so : (r : Rule) (packet : ℕ) (fault : FaultValue) (s : StreamValue) → is_mapping r ≡ false → StreamFine s
       → StreamFine (record s { broken = with_broken (record { rule = r; packet = packet; fault = fault }) s.broken })
   tell_so r packet fault s other h =
-      record { infinite = h.infinite; fin = h.fin; top = h.top; octets = h.octets; below = h.below; untold = others_keep is_mapping r packet fault s.broken other h.untold }
+      record { infinite = h.infinite; fin = h.fin; top = h.top; octets = h.octets; below = h.below; there = h.there; untold = others_keep is_mapping r packet fault s.broken other h.untold }
 
   found_so : (r : Rule) (packet : ℕ) (finding : Option Finding) (s : StreamValue) → is_mapping r ≡ false → StreamFine s
       → StreamFine (record s { broken = with_found r packet finding s.broken })
-  found_so r packet None s other h = record { infinite = h.infinite; fin = h.fin; top = h.top; octets = h.octets; below = h.below; untold = h.untold }
+  found_so r packet None s other h = record { infinite = h.infinite; fin = h.fin; top = h.top; octets = h.octets; below = h.below; there = h.there; untold = h.untold }
   found_so r packet (Some finding) s other h = tell_so r packet (Found finding) s other h
 
-  -- where the positions of a lane have these places, and place 0 this number: no infinite mapping was told on it, its positions have their
-  -- octets, and the mappings that wait for them have their checksums
-  module _ (first : ℕ) (where_at : ℕ → ℕ) where
+  -- where the positions of a lane have these places, and place 0 this number: no infinite mapping was told on it, its positions that were seen
+  -- have their octets, and the mappings that wait for them have their checksums; of the other stream no more was acknowledged on it than up
+  -- to a place, and what was sent on it ends up to a position
+  module _ (first : ℕ) (where_at : ℕ → ℕ) (most high : ℕ) where
     -- the octet of a position
     abbrev pub at : ℕ → ℕ
     at p = content (where_at p)
@@ -166,7 +160,10 @@ module _ (limit : ℕ) (few : limit < 2 ^ 31) (content : ℕ → ℕ) where
       pub line : l.line ≡ None
       pub placed : (p : ℕ) → IfSome (l.placed p) (λ told. (told.image ≡ where_at p) × (told.image < limit))
       pub octets : (p : ℕ) → IfSome (l.octet p) (λ o. o.octet ≡ at p)
+      pub there : (p : ℕ) → l.seen p ≡ true → is_some (l.octet p) ≡ true
       pub waiting : All Waits l.waiting
+      pub acked : l.acknowledged ≤ most
+      pub top : l.top ≤ high
 
     abbrev pub Fine : StreamValue → LaneValue → Type 0
     Fine s l = StreamFine s × LaneFine l
@@ -280,7 +277,10 @@ module _ (limit : ℕ) (few : limit < 2 ^ 31) (content : ℕ → ℕ) where
     places_so l packet mapping upto sits h = record {
       line = h.line;
       octets = h.octets;
+      there = h.there;
       waiting = h.waiting;
+      acked = h.acked;
+      top = h.top;
       placed = λ p. either p (l.placed p) (h.placed p) (told_by (run_of packet mapping) p) (told p);
     }
       where
@@ -330,6 +330,7 @@ module _ (limit : ℕ) (few : limit < 2 ^ 31) (content : ℕ → ℕ) where
               top = top_learnt teller state.stream state.lane h offer place ends;
               octets = h.0.octets;
               below = h.0.below;
+              there = h.0.there;
               untold = h.0.untold;
             },
             places_so state.lane teller.packet (told_mapping offer position place) (within teller state.stream state.lane h offer place ends) sits h.1,
@@ -355,7 +356,7 @@ module _ (limit : ℕ) (few : limit < 2 ^ 31) (content : ℕ → ℕ) where
         sits (inr both) = inr (near, same_position near offer.relative both.0, both.1)
 
         fine : Holds (one_more state)
-        fine = ((record { infinite = h.0.infinite; fin = h.0.fin; top = h.0.top; octets = h.0.octets; below = h.0.below; untold = h.0.untold }, h.1), all.1)
+        fine = ((record { infinite = h.0.infinite; fin = h.0.fin; top = h.0.top; octets = h.0.octets; below = h.0.below; there = h.0.there; untold = h.0.untold }, h.1), all.1)
 
         octets_same : (mapped_octets offer ≡ 0) ⊎ ((offer.relative % 2 ^ 32 ≡ near % 2 ^ 32) × Sit where_at near o.place (mapped_octets offer))
             → contents at near (mapped_octets offer) ≡ contents at (natural (mapping.position_near near offer.relative)) (mapped_octets offer)
@@ -414,6 +415,7 @@ module _ (limit : ℕ) (few : limit < 2 ^ 31) (content : ℕ → ℕ) where
       top = h.0.top;
       octets = h.0.octets;
       below = h.0.below;
+      there = h.0.there;
       untold = h.0.untold;
     }
 
@@ -477,9 +479,16 @@ module _ (limit : ℕ) (few : limit < 2 ^ 31) (content : ℕ → ℕ) where
             omega (arith, from, to, low)
         by false seen false new either = absurd (false≢true either)
 
+    -- and what is seen is there
+    shown_there : (packet place : ℕ) (octet : Option ℕ) (s : StreamValue) → is_some octet ≡ true → StreamFine s → (q : ℕ) → s.seen q || is_of place 1 q ≡ true
+        → is_some (option_or (s.octet q) (octet_by place (as_part octet) packet q)) ≡ true
+    shown_there packet place None s some h q is = absurd (false≢true some)
+    shown_there packet place (Some x) s some h q is =
+        stays_held (s.octet q) (s.seen q) (is_of place 1 q) (record { octet = get_or (x ∷ []) (q - place) 0; teller = packet }) (h.there q) is
+
     -- what comes to a position is its octet, and its place is that which it has
     abbrev Comes : ℕ → Option (Option ℕ) → Type 0
-    Comes p come = IfSome come (λ octet. IfSome octet (λ x. x ≡ at p))
+    Comes p come = IfSome come (λ octet. IsSomeAnd octet (λ x. x ≡ at p))
 
     place_so : (acknowledged packet p : ℕ) (comes : Option (Option ℕ)) (place : Option ℕ) (s : StreamValue) → Comes p comes → IfSome place (λ q. (q ≡ where_at p) × (q < limit))
         → StreamFine s → StreamFine (at_place acknowledged packet comes place s)
@@ -487,15 +496,20 @@ module _ (limit : ℕ) (few : limit < 2 ^ 31) (content : ℕ → ℕ) where
     place_so acknowledged packet p (Some octet) None s come sits h = h
     place_so acknowledged packet p (Some octet) (Some place) s come sits h =
         let is = right octet come in
+        let some = comes_some octet come in
         let it : StreamFine (record s { broken = with_found rule.PlaceContent packet (content_fault acknowledged s.octet place (as_part octet)) s.broken }) =
         subst (λ (o : Option Finding). StreamFine (record s { broken = with_found rule.PlaceContent packet o s.broken })) (sym (content_none acknowledged place octet s h is)) (same s h) in
-        record { infinite = it.infinite; fin = it.fin; top = it.top; octets = shown_octet packet place octet s sits.1 h is; below = shown_below place s sits.1 h; untold = it.untold }
+        record { infinite = it.infinite; fin = it.fin; top = it.top; octets = shown_octet packet place octet s sits.1 h is; below = shown_below place s sits.1 h; there = shown_there packet place octet s some h; untold = it.untold }
       where
         same : (s : StreamValue) → StreamFine s → StreamFine (record s { broken = s.broken })
-        same s h = record { infinite = h.infinite; fin = h.fin; top = h.top; octets = h.octets; below = h.below; untold = h.untold }
+        same s h = record { infinite = h.infinite; fin = h.fin; top = h.top; octets = h.octets; below = h.below; there = h.there; untold = h.untold }
 
-        right : (octet : Option ℕ) → IfSome octet (λ x. x ≡ at p) → IfSome octet (λ x. x ≡ content place)
-        right None is = tt
+        comes_some : (octet : Option ℕ) → IsSomeAnd octet (λ x. x ≡ at p) → is_some octet ≡ true
+        comes_some None is = absurd is
+        comes_some (Some x) is = refl
+
+        right : (octet : Option ℕ) → IsSomeAnd octet (λ x. x ≡ at p) → IfSome octet (λ x. x ≡ content place)
+        right None is = absurd is
         right (Some x) is = is ∙ ap content (sym sits.0)
 
     shown_so : (place : ℕ → Option ℕ) (comes : ℕ → Option (Option ℕ)) (acknowledged packet p n : ℕ) (s : StreamValue) → ((q : ℕ) → Comes q (comes q))
@@ -543,7 +557,7 @@ module _ (limit : ℕ) (few : limit < 2 ^ 31) (content : ℕ → ℕ) where
         else Some (WrongSum m.place m.length waiting.packet (expected_sum first octet m) (unwrap_or m.checksum 0)))
         (eq-eqb (expected_sum first octet m) (unwrap_or m.checksum 0) expected) in
         subst (λ (o : Option Finding). StreamFine (record s { sums = counted s.sums; broken = with_found rule.DssSum packet o s.broken })) (sym none)
-        (record { infinite = h.infinite; fin = h.fin; top = h.top; octets = h.octets; below = h.below; untold = h.untold })
+        (record { infinite = h.infinite; fin = h.fin; top = h.top; octets = h.octets; below = h.below; there = h.there; untold = h.untold })
     tried_if_so false packet octet is waiting s whole waits h = h
 
     tried_so : (packet : ℕ) (octet : ℕ → Option Octet) → ((p : ℕ) → IfSome (octet p) (λ o. o.octet ≡ at p)) → (waiting : List Waiting) (s : StreamValue) → All Waits waiting → StreamFine s
@@ -565,7 +579,10 @@ module _ (limit : ℕ) (few : limit < 2 ^ 31) (content : ℕ → ℕ) where
           line = h.line;
           placed = h.placed;
           octets = h.octets;
+          there = h.there;
           waiting = All-append Waits l.waiting (one ∷ []) h.waiting (All-cons Waits one [] right (All-nil Waits));
+          acked = h.acked;
+          top = h.top;
         }
 
         told : (known : Bool) → unwrap_or m.checksum 0 ≡ sum_of m → LaneFine (if known then l else record l {
@@ -603,30 +620,52 @@ module _ (limit : ℕ) (few : limit < 2 ^ 31) (content : ℕ → ℕ) where
           line = fine.line;
           placed = fine.placed;
           octets = fine.octets;
+          there = fine.there;
           waiting = All-filter (λ waiting. not (is_whole l.octet waiting)) Waits l.waiting fine.waiting;
+          acked = fine.acked;
+          top = fine.top;
         }
 
     -- ---- Data ACKs and MP_FAIL
 
-    acked_by_so : (place : Result ℕ Finding) (packet : ℕ) (acked : Acked) → Fine acked.stream acked.lane → Fine (acked_by place packet acked).stream (acked_by place packet acked).lane
-    acked_by_so (Err finding) packet acked h = (tell_so rule.DataAck packet (Found finding) acked.stream refl h.0, h.1)
-    acked_by_so (Ok place) packet acked h = (
-      record { infinite = h.0.infinite; fin = h.0.fin; top = h.0.top; octets = h.0.octets; below = h.0.below; untold = h.0.untold },
-      record { line = h.1.line; placed = h.1.placed; octets = h.1.octets; waiting = h.1.waiting },
-    )
+    -- a Data ACK up to that place, which was seen
+    abbrev pub AckIs : ℕ → StreamValue → OptionValue → Type 0
+    AckIs known peers (Dss (Some number) mapping fin) =
+        NumberIs known number most × (peers.top < 2 ^ 31) × (most < 2 ^ 31) × (most ≤ behind_fin peers.fin (whole peers.seen 0))
+    AckIs known peers _ = Unit {0}
 
-    acked_one_so : (facts : Facts) (known : ℕ) (peers : StreamValue) (option : OptionValue) (acked : Acked) → Fine acked.stream acked.lane
+    -- it isn't below the highest one before
+    ack_so : (facts : AckFacts) (number : DataNumber) → NumberIs facts.first number most → facts.top < 2 ^ 31 → most < 2 ^ 31
+        → most ≤ behind_fin facts.fin facts.whole → IfSome facts.highest (λ highest. highest ≤ most) → ack_place facts number ≡ Ok most
+    ack_so facts number is few small behind on =
+        ap (ack_by facts number) (near_so facts.first facts.top most number is few small)
+        ∙ ap (λ (b : Bool). if b then Err (NotSeen most (behind_fin facts.fin facts.whole)) else not_below facts.highest most) (le-ltb (behind_fin facts.fin facts.whole) most behind)
+        ∙ highest facts.highest on
+      where
+        highest : (o : Option ℕ) → IfSome o (λ highest. highest ≤ most) → not_below o most ≡ Ok most
+        highest None on = refl
+        highest (Some after) on = ap (λ (b : Bool). if b then Err (Falls most after) else Ok most) (le-ltb most after on)
+
+    acked_one_so : (facts : Facts) (known : ℕ) (peers : StreamValue) (option : OptionValue) (acked : Acked) → AckIs known peers option → Fine acked.stream acked.lane
         → Fine (acked_one facts known peers option acked).stream (acked_one facts known peers option acked).lane
-    acked_one_so facts known peers (Dss (Some number) mapping fin) acked h =
-        acked_by_so (ack_place (ack_facts facts.at_sender known peers acked.lane) number) facts.packet (ack_counted acked)
-        (record { infinite = h.0.infinite; fin = h.0.fin; top = h.0.top; octets = h.0.octets; below = h.0.below; untold = h.0.untold }, h.1)
-    acked_one_so facts known peers option acked h = h
+    acked_one_so facts known peers (Dss (Some number) mapping fin) acked is h =
+        subst (λ (r : Result ℕ Finding). Fine (acked_by r facts.packet (ack_counted acked)).stream (acked_by r facts.packet (ack_counted acked)).lane)
+        (sym (ack_so (ack_facts facts.at_sender known peers acked.lane) number is.0 is.1 is.2 is.3 (on facts.at_sender))) (
+          record { infinite = h.0.infinite; fin = h.0.fin; top = h.0.top; octets = h.0.octets; below = h.0.below; there = h.0.there; untold = h.0.untold },
+          record { line = h.1.line; placed = h.1.placed; octets = h.1.octets; there = h.1.there; waiting = h.1.waiting; acked = (let low = h.1.acked in omega (arith, low)); top = h.1.top },
+        )
+      where
+        on : (b : Bool) → IfSome (if b then Some acked.lane.acknowledged else None) (λ highest. highest ≤ most)
+        on true = h.1.acked
+        on false = tt
+    acked_one_so facts known peers option acked is h = h
 
-    acked_so : (facts : Facts) (known : ℕ) (peers : StreamValue) (options : List OptionValue) (acked : Acked) → Fine acked.stream acked.lane
+    acked_so : (facts : Facts) (known : ℕ) (peers : StreamValue) (options : List OptionValue) (acked : Acked) → All (AckIs known peers) options → Fine acked.stream acked.lane
         → Fine (acked_each facts known peers options acked).stream (acked_each facts known peers options acked).lane
-    acked_so facts known peers [] acked h = h
-    acked_so facts known peers (option ∷ options) acked h =
-        acked_so facts known peers options (acked_one facts known peers option acked) (acked_one_so facts known peers option acked h)
+    acked_so facts known peers [] acked all h = h
+    acked_so facts known peers (option ∷ options) acked all h =
+        acked_so facts known peers options (acked_one facts known peers option acked) (All-tail (AckIs known peers) option options all)
+        (acked_one_so facts known peers option acked (All-head (AckIs known peers) option options all) h)
 
     failed_one_so : (packet first : ℕ) (peers : StreamValue) (option : OptionValue) (s : StreamValue) → TellsNoFail option → StreamFine s
         → StreamFine (failed_one packet first peers option s)
@@ -641,17 +680,17 @@ module _ (limit : ℕ) (few : limit < 2 ^ 31) (content : ℕ → ℕ) where
         (failed_one_so packet first peers option s (All-head TellsNoFail option options calm) h)
 
     acks_so : (facts : Facts) (known : Option ℕ) (peers : StreamValue) (options : List OptionValue) (acked : Acked) → All TellsNoFail options
-        → Fine acked.stream acked.lane
+        → IfSome known (λ n. All (AckIs n peers) options) → Fine acked.stream acked.lane
         → Fine (behind_acks facts known peers options acked).stream (behind_acks facts known peers options acked).lane
-    acks_so facts None peers options acked calm h = h
-    acks_so facts (Some known) peers options acked calm h =
-        let it = acked_so facts known peers options acked h in
+    acks_so facts None peers options acked calm acks h = h
+    acks_so facts (Some known) peers options acked calm acks h =
+        let it = acked_so facts known peers options acked acks h in
         (failed_so facts.packet known peers options (acked_each facts known peers options acked).stream calm it.0, it.1)
 
     -- ---- all of a segment
 
     -- the octets of a payload, and those that came before
-    module _ (facts : Facts) (position : ℕ) (bears : Bears at position facts.seen.segment.payload) where
+    module _ (facts : Facts) (position : ℕ) (bears : Bears at position facts.seen.segment.payload) (whole : facts.seen.payload_len ≡ length facts.seen.segment.payload) where
       abbrev payload : PayloadValue
       payload = payload_at facts position
 
@@ -679,62 +718,77 @@ module _ (limit : ℕ) (few : limit < 2 ^ 31) (content : ℕ → ℕ) where
           by (Some o) is = is
           by None is = by_payload packet p
 
-      comes_so : (mapped : Mapped) (l : LaneValue) → ((p : ℕ) → IfSome (l.octet p) (λ o. o.octet ≡ at p)) → (p : ℕ) → Comes p (comes payload mapped l p)
-      comes_so mapped l octets p =
-          by (nat_le payload.from p) (nat_lt p payload.to) (is_mapped_by mapped.learnt mapped.has_line l.line p && l.seen p) refl
+      with_there : (packet : ℕ) (l : LaneValue) → LaneFine l → (p : ℕ) → (with_payload payload packet l).seen p ≡ true → is_some ((with_payload payload packet l).octet p) ≡ true
+      with_there packet l h p is =
+          stays_held (l.octet p) (l.seen p) (has_place payload.from payload.held p) (record { octet = get_or payload.held (p - payload.from) 0; teller = packet }) (h.there p)
+          (⊎_elim (or_left (l.seen p) (has_place payload.from payload.held p))
+          (λ now. or_right (l.seen p) (has_place payload.from payload.held p) (has_all facts.seen.segment.head.rst facts.seen.payload_len position facts.seen.segment.payload whole p now))
+          (or_cases (l.seen p) (nat_le payload.from p && nat_lt p payload.to) is))
+
+      comes_so : (mapped : Mapped) (l : LaneValue) → ((p : ℕ) → IfSome (l.octet p) (λ o. o.octet ≡ at p)) → ((p : ℕ) → l.seen p ≡ true → is_some (l.octet p) ≡ true)
+          → (p : ℕ) → Comes p (comes payload mapped l p)
+      comes_so mapped l octets there p =
+          by (nat_le payload.from p) (nat_lt p payload.to) (is_mapped_by mapped.learnt mapped.has_line l.line p && l.seen p) refl refl refl
         where
-          now : (o : Option ℕ) → slice_get payload.held (p - payload.from) ≡ o → nat_le payload.from p ≡ true → IfSome o (λ x. x ≡ at p)
-          now None is low = tt
-          now (Some x) is low =
-              let from = leb-true payload.from p low in
-              sym (get_or_from_slice_get payload.held (p - payload.from) x 0 is)
-              ∙ held_is (p - payload.from) (slice_get_within payload.held (p - payload.from) x is)
-              ∙ ap at (let same : payload.from + (p - payload.from) ≡ p = omega (arith, from) in same)
+          now : nat_le payload.from p ≡ true → nat_lt p payload.to ≡ true → IsSomeAnd (slice_get payload.held (p - payload.from)) (λ x. x ≡ at p)
+          now is less =
+              let low = leb-true payload.from p is in
+              let all = held_all facts.seen.segment.head.rst facts.seen.payload_len position facts.seen.segment.payload whole p low (ltb-true p payload.to less) in
+              subst (λ (o : Option ℕ). IsSomeAnd o (λ x. x ≡ at p)) (sym (slice_get-get_or payload.held (p - payload.from) 0 all))
+              (held_is (p - payload.from) all ∙ ap at (let same : payload.from + (p - payload.from) ≡ p = omega (arith, low) in same))
 
-          before : (o : Option Octet) → IfSome o (λ o. o.octet ≡ at p) → IfSome (option_map (λ (octet : Octet). octet.octet) o) (λ x. x ≡ at p)
-          before None is = tt
-          before (Some o) is = is
+          before : (o : Option Octet) → IfSome o (λ o. o.octet ≡ at p) → is_some o ≡ true → IsSomeAnd (option_map (λ (octet : Octet). octet.octet) o) (λ x. x ≡ at p)
+          before None is some = absurd (false≢true some)
+          before (Some o) is some = is
 
-          by : (low high mapped : Bool) → nat_le payload.from p ≡ low
-              → Comes p (if low && high then Some (slice_get payload.held (p - payload.from)) else (if mapped then Some (octet_of l p) else None))
-          by true true mapped is = now (slice_get payload.held (p - payload.from)) refl is
-          by true false true is = before (l.octet p) (octets p)
-          by true false false is = tt
-          by false high true is = before (l.octet p) (octets p)
-          by false high false is = tt
+          was : is_mapped_by mapped.learnt mapped.has_line l.line p && l.seen p ≡ true → IsSomeAnd (octet_of l p) (λ x. x ≡ at p)
+          was m = before (l.octet p) (octets p) (there p (and_parts (is_mapped_by mapped.learnt mapped.has_line l.line p) (l.seen p) m).1)
+
+          by : (low high m : Bool) → nat_le payload.from p ≡ low → nat_lt p payload.to ≡ high → is_mapped_by mapped.learnt mapped.has_line l.line p && l.seen p ≡ m
+              → Comes p (if low && high then Some (slice_get payload.held (p - payload.from)) else (if m then Some (octet_of l p) else None))
+          by true true m is less told = now is less
+          by true false true is less told = was told
+          by true false false is less told = tt
+          by false high true is less told = was told
+          by false high false is less told = tt
 
     payload_so : (facts : Facts) (position acknowledged : ℕ) (mapped : Mapped) → Bears at position facts.seen.segment.payload
+        → facts.seen.payload_len ≡ length facts.seen.segment.payload → (payload_at facts position).to ≤ high
         → Fine mapped.stream mapped.lane
         → Fine (behind_payload facts position acknowledged mapped).stream (behind_payload facts position acknowledged mapped).lane
-    payload_so facts position acknowledged mapped bears h =
+    payload_so facts position acknowledged mapped bears whole ends h =
         let payload = payload_at facts position in
         let lane = with_payload payload facts.packet mapped.lane in
-        let octets = with_octets facts position bears facts.packet mapped.lane h.1 in
+        let octets = with_octets facts position bears whole facts.packet mapped.lane h.1 in
+        let there = with_there facts position bears whole facts.packet mapped.lane h.1 in
         let fine : LaneFine lane = record {
           line = h.1.line;
           placed = h.1.placed;
           octets = octets;
+          there = there;
           waiting = h.1.waiting;
+          acked = h.1.acked;
+          top = let low = h.1.top in omega (arith, low, ends);
         } in
         let s = within_each facts position mapped.learnt mapped.stream in (
           shown_so (place_of lane) (comes payload mapped lane) acknowledged facts.packet 1 (lane.top - 1) (ended_by_fin mapped.lane facts.packet s)
-              (comes_so facts position bears mapped lane octets) (place_is lane fine)
+              (comes_so facts position bears whole mapped lane octets there) (place_is lane fine)
               (ended_so facts.packet s mapped.lane (within_so facts position mapped.learnt mapped.stream h.0, h.1)),
           fine,
         )
 
     pub at_so : (facts : Facts) (position : ℕ) (options : List OptionValue) (keys : Keys) (peers s : StreamValue) (l : LaneValue) → IfSome (first_of facts.side keys) (λ n. n ≡ first)
-        → All (OffersWell first limit content where_at position) options → All TellsNoFail options
-        → Bears at position facts.seen.segment.payload → Fine s l
+        → All (OffersWell first limit content where_at position) options → All TellsNoFail options → IfSome (first_of (peer facts.side) keys) (λ n. All (AckIs n peers) options)
+        → Bears at position facts.seen.segment.payload → facts.seen.payload_len ≡ length facts.seen.segment.payload → (payload_at facts position).to ≤ high → Fine s l
         → Fine (judged_at facts position options keys peers s l).stream (judged_at facts position options keys peers s l).lane
-    at_so facts position options keys peers s l is all calm bears h =
+    at_so facts position options keys peers s l is all calm acks bears whole ends h =
         let before : Mapped = record { stream = s; lane = fin_taken facts position l; learnt = []; has_line = false } in
         let mapped = mapped_with facts (first_of facts.side keys) position options before in
         let held = mapped_so facts (first_of facts.side keys) is position options before all ((h.0, fin_lane facts.seen.segment.head.fin), All-nil Summed) in
         let paid = behind_payload facts position peers.acknowledged mapped in
-        acks_so facts (first_of (peer facts.side) keys) peers options (summed facts (first_of facts.side keys) mapped.learnt paid) calm
-        (summed_so facts (first_of facts.side keys) is mapped.learnt paid held.1 (payload_so facts position peers.acknowledged mapped bears held.0))
+        acks_so facts (first_of (peer facts.side) keys) peers options (summed facts (first_of facts.side keys) mapped.learnt paid) calm acks
+        (summed_so facts (first_of facts.side keys) is mapped.learnt paid held.1 (payload_so facts position peers.acknowledged mapped bears whole ends held.0))
       where
         fin_lane : (b : Bool) → LaneFine (if b then with_fin (position + facts.seen.payload_len) l else l)
-        fin_lane true = record { line = h.1.line; placed = h.1.placed; octets = h.1.octets; waiting = h.1.waiting }
+        fin_lane true = record { line = h.1.line; placed = h.1.placed; octets = h.1.octets; there = h.1.there; waiting = h.1.waiting; acked = h.1.acked; top = h.1.top }
         fin_lane false = h.1

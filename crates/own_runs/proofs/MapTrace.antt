@@ -1,64 +1,43 @@
 -- In the capture of a run whose script alters nothing and takes no options away each position has one place, each place the octet of its side's
 -- file, and each checksum is right.
-use Rattle.std.proofs.Common.{◌≡◌, refl, sym, ap, ◌∙◌, subst, ℕ, zero, suc, ◌⊎◌, ◌+◌, ◌-◌, ◌%◌, ◌^◌, ◌<◌, ◌≤◌, true, false, Option, Some, None, option_map, Ok, Result, inl, inr, ⊎_elim, List, [], ◌∷◌, ◌++◌, length, length-append, append-nil, map, arith}
+use Rattle.std.proofs.Common.{◌≡◌, refl, sym, ap, ◌∙◌, subst, ℕ, zero, suc, ◌⊎◌, ◌+◌, ◌-◌, ◌%◌, ◌^◌, ◌<◌, ◌≤◌, true, false, Option, Some, None, inl, inr, ⊎_elim, List, [], ◌∷◌, ◌++◌, length, map, arith}
 use Rattle.std.specs.Prelude.{All, IfSome, get_or}
 use Rattle.std.specs.Int.{from_bool}
 use Rattle.std.specs.List.{list_any}
 use Rattle.std.proofs.lemmas.Bool.{false≢true, or_cases}
-use Rattle.std.proofs.lemmas.List.Elements.{All-cons, All-head, All-nil, All-tail}
-use Rattle.capture_reader.specs.Captured.{Captured}
+use Rattle.std.proofs.lemmas.List.Elements.{All-cons, All-nil}
 use Rattle.capture_reader.specs.Seen.{Seen}
-use Rattle.capture_reader.specs.Steps.{◌>>=◌}
-use Rattle.capture_verdict.specs.Judging.{judged_capture, judged_packets}
-use Rattle.capture_verdict.specs.Sent.{IsSent}
 use Rattle.dss_checksum.specs.Checksum.{dss_checksum}
-use Rattle.judge_laws.specs.GoesOn.{stream_in}
 use Rattle.judge_rules.specs.Mappings.{offer_of}
 use Rattle.judge_rules.specs.Numbers.{first_number}
-use Rattle.judge_rules.specs.declared.acks.ToldPlace.{ToldPlace}
-use Rattle.judge_rules.specs.declared.finding.Rule.{Rule}
 use Rattle.link_trace.specs.declared.sent.Sent.{Sent}
 use Rattle.mptcp_options.specs.Value.{OptionValue}
 use Rattle.mptcp_options.specs.declared.capable.CapableKeys.TheVariants.{Both, NoKey, Sender, WithData}
 use Rattle.octet_text.specs.Prefix.{IsPrefix}
-use Rattle.path_core.specs.Octets.{octets}
 use Rattle.path_segments.specs.Options.{PlainOption, relative_number, said_option}
 use Rattle.path_segments.specs.declared.segment.PathMapping.TheVariants.{Bytes, End, Infinite}
 use Rattle.path_segments.specs.declared.segment.PathOption.TheVariants.{Capable, Dss, Fail}
 use Rattle.path_segments.specs.declared.spelling.Spelling.{Spelling}
-use Rattle.rule_book.specs.Judged.{nothing_judged}
-use Rattle.rule_book.specs.State.{JudgedValue}
-use Rattle.run_trace.specs.Trace.{trace_of}
-use Rattle.seen_octets.specs.declared.octet.Octet.{Octet}
-use Rattle.seen_streams.specs.State.{StreamValue}
 use Rattle.segment_wire.specs.Segment.{Segment}
 use Rattle.sides.specs.Side.{peer}
 use Rattle.sides.specs.declared.side.Side.TheVariants.{A, B}
 use Rattle.sides.specs.declared.side.Side.{Side}
 use Rattle.stream_lanes.specs.Duo.{Duo}
 use Rattle.stream_lanes.specs.Words.{Every}
-use Rattle.world_laws.specs.NeverFalls.{IsWhole}
-use Rattle.world_laws.specs.Openings.{PathPlan, Start, opened_world, path_begins}
-use Rattle.world_laws.specs.Promises.{IsPlain, NumbersFit}
-use Rattle.world_laws.specs.Worlds.{Turn, world_run}
-use Rattle.own_runs.specs.Runs.{DataFinsEndTheFiles, NoWholeRunBreaks, StreamsBeginTheFiles, WholeStreamsAreTheFiles, capture_of, file_of}
-use Rattle.own_runs.specs.Fitting.{RunFits}
-use Rattle.own_runs.specs.Traces.{FitsCapture, packet_for}
-use Rattle.own_runs.proofs.Fitting.{traces_fit}
+use Rattle.world_laws.specs.Openings.{PathPlan, Start, path_begins}
+use Rattle.world_laws.specs.Promises.{NumbersFit}
 use Rattle.own_runs.proofs.AckPositions.{IsCover, IsCovered}
 use Rattle.own_runs.proofs.Bearing.{Carries, maps_octets}
-use Rattle.own_runs.proofs.FineMoments.{BearsMapped, IsMapped, Offered, content, file_len, lane_of, place_at, whole_offers}
+use Rattle.own_runs.proofs.FineMoments.{BearsMapped, IsMapped, Offered, content, file_len, lane_of, place_at}
 use Rattle.own_runs.proofs.FinePositions.{TellsNoFail}
-use Rattle.own_runs.proofs.Kept.{all_on, same_judged}
-use Rattle.own_runs.proofs.MapKept.{FinePacket, IsFine, stream_fine}
-use Rattle.own_runs.proofs.MapPositions.{Bears, OffersWell, Sit, StreamFine, contents, header, is_mapping}
-use Rattle.own_runs.proofs.Moments.{IsSpoken, WorldAlso, trace_spoken}
+use Rattle.own_runs.proofs.MapKept.{IsFine}
+use Rattle.own_runs.proofs.MapPositions.{Bears, OffersWell, Sit, contents, header}
+use Rattle.own_runs.proofs.Moments.{IsSpoken}
 use Rattle.own_runs.proofs.Numbered.{first_low, number_so}
 use Rattle.own_runs.proofs.Offering.{AllFine, OptionFine}
 use Rattle.own_runs.proofs.Own.{IsOwn, own_initial, own_key}
-use Rattle.own_runs.proofs.OwnTrace.{found, from_is, is_own, path_is, payload_same, seen_of, segment, seq_is, values_are}
+use Rattle.own_runs.proofs.OwnTrace.{from_is, is_own, path_is, payload_same, seen_of, segment, seq_is, values_are}
 use Rattle.own_runs.proofs.Placing.{PlacedIn}
-use Rattle.own_runs.proofs.Traces.{traces_are}
 use Rattle.own_runs.proofs.Values.{drawn}
 
 -- ---- positions modulo 2^32
@@ -125,7 +104,7 @@ module _ (start : Start) (last : Duo) (path : ℕ) (plan : PathPlan) (s : Side) 
     there : (from : ℕ) → from ≡ at → p % 2 ^ 32 ≡ from % 2 ^ 32
     there from is = same ∙ ap (λ (n : ℕ). n % 2 ^ 32) (sym is)
 
-    well_so : (o : PlainOption) → PlacedIn key at octets o → OptionFine (file_len start) (IsMapped start last path) s o → Well p (said_option spelling s o)
+    pub well_so : (o : PlainOption) → PlacedIn key at octets o → OptionFine (file_len start) (IsMapped start last path) ⊥ s o → Well p (said_option spelling s o)
     well_so (Dss next None) placed is = tt
     well_so (Dss next (Some (Bytes place from len false checksum))) placed is =
         let alike = there from placed.0 in
@@ -168,7 +147,7 @@ module _ (start : Start) (last : Duo) (path : ℕ) (plan : PathPlan) (s : Side) 
     well_so (Fail place) placed is = absurd is
     well_so _ placed is = tt
 
-    wells_so : (options : List PlainOption) → Every (PlacedIn key at octets) options → AllFine (file_len start) (IsMapped start last path) s options
+    wells_so : (options : List PlainOption) → Every (PlacedIn key at octets) options → AllFine (file_len start) (IsMapped start last path) ⊥ s options
         → All (Well p) (map (said_option spelling s) options)
     wells_so [] placed each = All-nil (Well p)
     wells_so (o ∷ options) placed each =
@@ -176,7 +155,7 @@ module _ (start : Start) (last : Duo) (path : ℕ) (plan : PathPlan) (s : Side) 
         (wells_so options (record { each = λ i y at_y. placed.each (suc i) y at_y }) (record { each = λ i y at_y. each.each (suc i) y at_y }))
 
     -- its payload
-    borne_so : (payload : List ℕ) → length payload ≡ octets → Bears octet_of at payload → Bears (λ q. content start s (where_in last path s q)) p payload
+    pub borne_so : (payload : List ℕ) → length payload ≡ octets → Bears octet_of at payload → Bears (λ q. content start s (where_in last path s q)) p payload
     borne_so payload whole bears j below = bears j below ∙ ap octet_of (by few)
       where
         by : (octets ≡ 0) ⊎ (at + octets < 2 ^ 31) → at + j ≡ (p + j) % 2 ^ 32
@@ -204,13 +183,13 @@ module _ (start : Start) (last : Duo) (path : ℕ) (plan : PathPlan) (s : Side) 
         ⊎_elim (λ here. inl (cover_so o (placed.each 0 o refl) here)) (λ later. inr (covered_so options (record { each = λ i y at_y. placed.each (suc i) y at_y }) later))
         (or_cases (maps_octets o) (list_any maps_octets options) is)
 
-  calm_so : (o : PlainOption) → OptionFine (file_len start) (IsMapped start last path) s o → TellsNoFail (said_option spelling s o)
+  calm_so : (o : PlainOption) → OptionFine (file_len start) (IsMapped start last path) ⊥ s o → TellsNoFail (said_option spelling s o)
   calm_so (Fail place) is = is
   calm_so (Capable flag_a flag_c keys) is = tt
   calm_so (Dss next mapping) is = tt
   calm_so _ is = tt
 
-  calmly : (options : List PlainOption) → AllFine (file_len start) (IsMapped start last path) s options → All TellsNoFail (map (said_option spelling s) options)
+  calmly : (options : List PlainOption) → AllFine (file_len start) (IsMapped start last path) ⊥ s options → All TellsNoFail (map (said_option spelling s) options)
   calmly [] each = All-nil TellsNoFail
   calmly (o ∷ options) each =
       All-cons TellsNoFail (said_option spelling s o) (map (said_option spelling s) options) (calm_so o (each.each 0 o refl))
@@ -226,9 +205,6 @@ module _ (start : Start) (last : Duo) (fit : NumbersFit start) where
   abbrev Good : Seen → Type 0
   Good seen = IsFine (drawn start) (file_len start) few (content start) (where_in last) seen
 
-  abbrev Fit : Captured → Type 0
-  Fit packet = FinePacket (drawn start) (file_len start) few (content start) (where_in last) packet
-
   module _ (x : Sent) (s : IsSpoken (Offered start last) start x) (short : length x.octets ≤ 65515) where
     abbrev position : ℕ
     position = s.segment.position
@@ -243,7 +219,7 @@ module _ (start : Start) (last : Duo) (fit : NumbersFit start) where
     written = segment (Offered start last) start x s short
 
     -- its payload, if it has one
-    borne : ((length payload ≡ 0) ⊎ (position + length payload < 2 ^ 31)) × Bears (λ q. content start x.from (place_at (lane_of last x.path x.from) q)) position payload
+    pub borne : ((length payload ≡ 0) ⊎ (position + length payload < 2 ^ 31)) × Bears (λ q. content start x.from (place_at (lane_of last x.path x.from) q)) position payload
     borne = by s.also.1
       where
         by : Carries (BearsMapped start last x.path) x.from s.segment
@@ -251,7 +227,7 @@ module _ (start : Start) (last : Duo) (fit : NumbersFit start) where
         by (inl none) = let empty : length payload ≡ 0 = ap (λ (xs : List ℕ). length xs) none in (inl empty, λ j below. absurd (omega (arith, empty, below)))
         by (inr is) = (inr is.0.0, is.0.1)
 
-    good : Good (seen_of (Offered start last) start x s short)
+    pub good : Good (seen_of (Offered start last) start x s short)
     good = record {
       own = own;
       at = position;
@@ -267,6 +243,7 @@ module _ (start : Start) (last : Duo) (fit : NumbersFit start) where
           (wells_so start last x.path s.plan x.from key position (length payload) p same borne.0 s.segment.options s.spoken.placed.options s.also.0)));
       calm = subst (λ (values : List OptionValue). All TellsNoFail values) (sym (values_are (Offered start last) start x s short))
           (calmly start last x.path s.plan x.from s.segment.options s.also.0);
+      whole = refl;
       maps = λ p same j within. subst (λ (from : Side). IsCovered (first_number (own_key (drawn start) from)) p (p + j) own.values) (sym (from_is (Offered start last) start x s short))
           (subst (λ (values : List OptionValue). IsCovered (first_number (own_key (drawn start) x.from)) p (p + j) values) (sym (values_are (Offered start last) start x s short))
           (mapped p j (subst (λ (octets : List ℕ). j < length octets) (payload_same (Offered start last) start x s short) within) s.also.1));
@@ -289,98 +266,30 @@ module _ (start : Start) (last : Duo) (fit : NumbersFit start) where
         Wells : ℕ → ℕ → Side → List OptionValue → Type 0
         Wells = λ p path from values. All (OffersWell (first_number (own_key (drawn start) from)) (file_len start from) (content start from) (where_in last path from) p) values
 
-    packet_good : Fit (packet_for x)
-    packet_good = subst (λ (o : Option Seen). IfSome o Good) (sym (found (Offered start last) start x s short)) good
+    -- by its path, its sender, its position and its options
+    pub good_path : good.own.path ≡ x.path
+    unfolding good
+    good_path = path_is (Offered start last) start x s short
 
-  all_good : (trace : List Sent) → Every (IsSpoken (Offered start last) start) trace → All FitsCapture trace → All Fit (map packet_for trace)
-  all_good [] each room = All-nil Fit
-  all_good (x ∷ trace) each room =
-      All-cons Fit (packet_for x) (map packet_for trace) (packet_good x (each.each 0 x refl) (All-head FitsCapture x trace room).octets)
-      (all_good trace (record { each = λ i y at. each.each (suc i) y at }) (All-tail FitsCapture x trace room))
+    pub good_from : good.own.from ≡ x.from
+    unfolding good
+    good_from = from_is (Offered start last) start x s short
+
+    pub good_at : good.at ≡ s.segment.position
+    unfolding good
+    good_at = refl
+
+    pub good_values : good.own.values ≡ map (said_option (path_begins start x.path s.plan).profile.spelling x.from) s.segment.options
+    unfolding good
+    good_values = values_are (Offered start last) start x s short
 
 -- ---- a run
 
 -- a list whose items stand at the beginning of another one
-all_same : (xs ys : List ℕ) → ((i : ℕ) → i < length xs → (i < length ys) × (get_or xs i 0 ≡ get_or ys i 0)) → IsPrefix xs ys
+pub all_same : (xs ys : List ℕ) → ((i : ℕ) → i < length xs → (i < length ys) × (get_or xs i 0 ≡ get_or ys i 0)) → IsPrefix xs ys
 all_same [] ys each = record { rest = ys; whole_is = refl }
 all_same (x ∷ xs) [] each = absurd (let within = (each 0 (omega arith)).0 in omega (arith, within))
 all_same (x ∷ xs) (y ∷ ys) each =
     let more = all_same xs ys (λ i below. let it = each (suc i) (omega (arith, below)) in let within = it.0 in (omega (arith, within), it.1)) in
     let head : x ≡ y = (each 0 (omega arith)).1 in
     record { rest = more.rest; whole_is = ap (λ (t : List ℕ). y ∷ t) more.whole_is ∙ ap (λ (z : ℕ). z ∷ (xs ++ more.rest)) (sym head) }
-
-module _ (start : Start) (turns : List Turn) (plain : IsPlain start) (whole : IsWhole start) (fit : NumbersFit start)
-    (run : RunFits start turns)
-    (side : Side) (at : Option Side) (judged : JudgedValue) (read : judged_capture at true (capture_of start turns side) ≡ Ok judged) where
-  abbrev trace : List Sent
-  trace = trace_of turns (opened_world start)
-
-  room : All FitsCapture trace
-  room = traces_fit start turns plain.size fit run
-
-  abbrev offers : (last : Duo) × ((more later : List Turn) → more ++ later ≡ turns → WorldAlso (Offered start last) (world_run octets more (opened_world start)))
-  offers = whole_offers start turns plain whole fit
-
-  abbrev last : Duo
-  last = offers.0
-
-  spoken : Every (IsSpoken (Offered start last) start) trace
-  spoken = trace_spoken (Offered start last) start turns plain.size fit offers.1
-
-  good_packets : All (Fit start last fit) (map packet_for trace)
-  good_packets = all_good start last fit trace spoken room
-
-  same : judged_packets at true nothing_judged 1 (map packet_for trace) ≡ judged
-  same =
-      let few = fit.paths in
-      let all = traces_are side (length start.paths) trace (omega (arith, few)) (all_on (Offered start last) start trace spoken) room in
-      same_judged (judged_packets at true nothing_judged 1 (map packet_for trace)) judged
-      (sym (ap (λ (m : Result (List Captured) ℕ). m >>= λ packets. Ok (judged_packets at true nothing_judged 1 packets)) all) ∙ read)
-
-  module _ (connection : ℕ) (s : Side) (stream : StreamValue) (there : stream_in judged connection s ≡ Some stream) where
-    stands : stream_in (judged_packets at true nothing_judged 1 (map packet_for trace)) connection s ≡ Some stream
-    stands = ap (λ (j : JudgedValue). stream_in j connection s) same ∙ there
-
-    fine : StreamFine (file_len start s) (few start last fit s) (content start s) stream
-    fine = stream_fine (drawn start) (file_len start) (few start last fit) (content start) (where_in last) at (map packet_for trace) good_packets connection s stream stands
-
-    prefix : (octets : List ℕ) → IsSent stream.octet octets → IsPrefix octets (file_of start s)
-    prefix octets sent = all_same octets (file_of start s) (λ i below. by i (stream.octet i) (fine.octets i)
-        (subst (λ (k : ℕ). option_map (λ (o : Octet). o.octet) (stream.octet k) ≡ Some (get_or octets i 0)) (let same : 0 + i ≡ i = omega arith in same) (sent.held i below)))
-      where
-        some_is : {x y : ℕ} → (let one : Option ℕ = Some x in one) ≡ Some y → x ≡ y
-        some_is e = cc
-
-        by : (i : ℕ) (o : Option Octet) → IfSome o (λ o. (i < length (file_of start s)) × (o.octet ≡ get_or (file_of start s) i 0))
-            → option_map (λ (o : Octet). o.octet) o ≡ Some (get_or octets i 0) → (i < length (file_of start s)) × (get_or octets i 0 ≡ get_or (file_of start s) i 0)
-        by i None is e = cc
-        by i (Some o) is e = (is.0, sym (some_is e) ∙ is.1)
-
-    end_is : (fin : ToldPlace) → stream.fin ≡ Some fin → fin.place ≡ file_len start s
-    end_is fin is = subst (λ (o : Option ToldPlace). IfSome o (λ told. told.place ≡ file_len start s)) is fine.fin
-
-pub no_whole_run_breaks : (r : Rule) → is_mapping r ≡ true → NoWholeRunBreaks r
-no_whole_run_breaks r is start turns plain whole fit run side at judged read connection s stream there =
-    (fine start turns plain whole fit run side at judged read connection s stream there).untold r is
-
-pub streams_are : StreamsBeginTheFiles
-streams_are start turns plain whole fit run side at judged read connection s stream there = prefix start turns plain whole fit run side at judged read connection s stream there
-
-pub ends_are : DataFinsEndTheFiles
-ends_are start turns plain whole fit run side at judged read connection s stream there = end_is start turns plain whole fit run side at judged read connection s stream there
-
--- a part as long as all is all
-all_of_it : (octets file : List ℕ) → IsPrefix octets file → length octets ≡ length file → octets ≡ file
-all_of_it octets file begins same =
-    let whole = ap (λ (xs : List ℕ). length xs) begins.whole_is in
-    let both = length-append octets begins.rest in
-    sym (begins.whole_is ∙ ap (λ (rest : List ℕ). octets ++ rest) (nothing begins.rest (omega (arith, whole, both, same))) ∙ append-nil octets)
-  where
-    nothing : (xs : List ℕ) → length xs ≡ 0 → xs ≡ []
-    nothing [] none = refl
-    nothing (x ∷ xs) none = absurd (omega (arith, none))
-
-pub whole_are : WholeStreamsAreTheFiles
-whole_are start turns plain whole fit run side at judged read connection s stream there fin is octets sent same =
-    all_of_it octets (file_of start s) (prefix start turns plain whole fit run side at judged read connection s stream there octets sent)
-    (same ∙ end_is start turns plain whole fit run side at judged read connection s stream there fin is)

@@ -53,7 +53,7 @@ wants w n s = actor_wants s (slice_get w.crew (suc (suc n)))
 abbrev pub wants_at : Start → List Turn → ℕ → Side → ℕ
 wants_at start turns n s = wants (world_run values turns (opened_world start)) n s
 
-run_append : (before later : List Turn) (w : WorldState Carried) → world_run values (before ++ later) w ≡ world_run values later (world_run values before w)
+pub run_append : (before later : List Turn) (w : WorldState Carried) → world_run values (before ++ later) w ≡ world_run values later (world_run values before w)
 run_append [] later w = refl
 run_append (turn ∷ before) later w = run_append before later (after_turn values turn w)
 
@@ -139,7 +139,7 @@ module _ (start : Start) (turns : List Turn) (size : HasRoom start) (fit : Numbe
 
 -- ---- a trace
 
-octets_append : (before later : List Turn) (w : WorldState (List ℕ)) → world_run octets (before ++ later) w ≡ world_run octets later (world_run octets before w)
+pub octets_append : (before later : List Turn) (w : WorldState (List ℕ)) → world_run octets (before ++ later) w ≡ world_run octets later (world_run octets before w)
 octets_append [] later w = refl
 octets_append (turn ∷ before) later w = octets_append before later (after_turn octets turn w)
 

@@ -1,5 +1,6 @@
--- What the mappings of a side map, where it never falls back: octets of its file, and with the DATA_FIN at its end. It tells of no failure.
-use Rattle.std.proofs.Common.{◌≡◌, refl, sym, subst, ℕ, ◌+◌, ◌-◌, ◌≤◌, ◌&&◌, ◌==◌, not, Bool, true, false, if◌then◌else◌, Option, Some, None, List, [], ◌∷◌, arith}
+-- What the mappings of a side map: octets of its file, and with the DATA_FIN at its end. Where it never falls back it tells no infinite mapping, and of
+-- no failure.
+use Rattle.std.proofs.Common.{◌≡◌, refl, ℕ, ◌+◌, ◌-◌, ◌≤◌, ◌&&◌, ◌==◌, not, Bool, true, false, if◌then◌else◌, Option, Some, None, List, [], ◌∷◌, arith}
 use Rattle.std.specs.Option.{IfSome}
 use Rattle.std.proofs.lemmas.Bool.{and_parts, eqb-true, not-true}
 use Rattle.mptcp_options.specs.declared.capable.CapableKeys.TheVariants.{Sender, WithData}
@@ -12,7 +13,7 @@ use Rattle.path_agenda.specs.declared.notice.OwnNotice.{OwnNotice}
 use Rattle.path_core.specs.Choices.{is_side_a}
 use Rattle.path_core.specs.DataFin.{is_data_fin_owed}
 use Rattle.path_core.specs.DssIn.{is_clash}
-use Rattle.path_core.specs.DssOut.{bare_mapping, checksum_in, checksum_told, fail_options, fail_beside, data_fin_mapping, piece_mapping, is_first_piece, first_piece_options, piece_options, mapped_options, fin_options, infinite_or, plain_options, place_numbered}
+use Rattle.path_core.specs.DssOut.{bare_mapping, checksum_in, checksum_told, fail_options, fail_beside, data_fin_mapping, piece_mapping, is_first_piece, first_piece_options, piece_options, mapped_options, fin_options, infinite_options, infinite_or, owes_mapping, plain_options, place_numbered}
 use Rattle.path_core.specs.Emission.{ack_resent, resend_said, answer_said}
 use Rattle.path_core.specs.Emission.{first_unsent, first_record}
 use Rattle.path_core.specs.End.{PathEnd}
@@ -51,18 +52,18 @@ every_one {X} {P} x h = Every-push {xs = []} x (Every-nil P) h
 pub every_two : {X : Type 0} {P : X → Type 0} (x y : X) → P x → P y → Every P (x ∷ y ∷ [])
 every_two {X} {P} x y h g = Every-push {xs = x ∷ []} y (every_one x h) g
 
--- and each mapping has what is asked of it
-module _ (limit : Side → ℕ) (Maps : Side → PathMapping ℕ → Type 0) where
+-- and each mapping has what is asked of it; infinite mappings and MP_FAIL are told only where so much holds
+module _ (limit : Side → ℕ) (Maps : Side → PathMapping ℕ → Type 0) (Lax : Type 0) where
   -- of a side whose file has so many octets
   abbrev pub MappingFine : Side → PathMapping ℕ → Type 0
   MappingFine s (Bytes place position len fin checksum) = (1 ≤ len) × (fin ≡ false) × (place + len ≤ limit s) × Maps s (Bytes place position len fin checksum)
   MappingFine s (End place checksum) = (place ≡ limit s) × Maps s (End place checksum)
-  MappingFine s (Infinite place position) = ⊥
+  MappingFine s (Infinite place position) = Lax
 
   abbrev pub OptionFine : Side → PlainOption → Type 0
   OptionFine s (Dss next mapping) = IfSome mapping (MappingFine s)
   OptionFine s (Capable flag_a flag_c (WithData sender receiver len checksum)) = (1 ≤ len) × (len ≤ limit s) × Maps s (Bytes 0 1 len false checksum)
-  OptionFine s (Fail place) = ⊥
+  OptionFine s (Fail place) = Lax
   OptionFine s _ = Unit {0}
 
   abbrev pub AllFine : Side → List PlainOption → Type 0
@@ -79,10 +80,10 @@ module _ (limit : Side → ℕ) (Maps : Side → PathMapping ℕ → Type 0) whe
   RecordFine c s clear Fin r = Unit {0}
 
   pub record EndFine (c : Profile) (s : Side) (e : PathEnd) : Type 0 where
-    pub identity : e.modes.identity ≡ false
-    pub infinite : e.modes.own_infinite ≡ None
-    pub told : e.modes.failed_mapping ≡ None
-    pub telling : e.treated.failed_mapping ≡ None
+    pub identity : e.modes.identity ≡ true → Lax
+    pub infinite : IfSome e.modes.own_infinite (λ _. Lax)
+    pub told : IfSome e.modes.failed_mapping (λ _. Lax)
+    pub telling : IfSome e.treated.failed_mapping (λ _. Lax)
     pub known : IfSome e.sending.known_end (λ n. n ≡ limit s)
     pub ends : (place : ℕ) → place ≡ limit s → Maps s (End place (checksum_told c (checksum_in c (bare_mapping c s place 0 1) [])))
     pub records : Every (λ r. RecordFine c s e.modes.clear r.kind r) e.tcp.send.records
@@ -94,9 +95,38 @@ module _ (limit : Side → ℕ) (Maps : Side → PathMapping ℕ → Type 0) whe
   reset_fine s None = none_fine s
   reset_fine s (Some reason) = every_one (Reset false reason) tt
 
-  broken_fine : (s : Side) (reason : Option ℕ) → AllFine s (broken_options None reason)
-  broken_fine s None = none_fine s
-  broken_fine s (Some reason) = reset_fine s (Some reason)
+  fail_fine : (s : Side) (failed : Option ℕ) → IfSome failed (λ _. Lax) → AllFine s (fail_options failed)
+  fail_fine s None lax = none_fine s
+  fail_fine s (Some place) lax = every_one (Fail place) lax
+
+  broken_fine : (s : Side) (failed : Option ℕ) → IfSome failed (λ _. Lax) → (reason : Option ℕ) → AllFine s (broken_options failed reason)
+  broken_fine s failed lax None = none_fine s
+  broken_fine s failed lax (Some reason) = Every-append {xs = fail_options failed} (fail_fine s failed lax) (reset_fine s (Some reason))
+
+  -- the infinite mapping of an end that fell back
+  plain_tells : (s : Side) (position : ℕ) (e : PathEnd) → Lax → AllFine s (plain_options position e)
+  plain_tells s position e lax = by (owes_mapping e)
+    where
+      by : (b : Bool) → AllFine s (if b then Dss None (Some (Infinite (position - 1) position)) ∷ [] else [])
+      by true = every_one _ lax
+      by false = none_fine s
+
+  infinite_tells : (s : Side) (mapping : InfiniteMapping) (e : PathEnd) → Lax → AllFine s (infinite_options mapping e)
+  infinite_tells s mapping e lax = by (owes_mapping e)
+    where
+      by : (b : Bool) → AllFine s (Dss (Some e.receiving.next) (if b then Some (Infinite mapping.place mapping.position) else None) ∷ [])
+      by true = every_one _ lax
+      by false = every_one _ tt
+
+  -- by how it sends
+  either_tells : (s : Side) (position : ℕ) (options : List PlainOption) (e : PathEnd) → (e.modes.identity ≡ true → Lax) → IfSome e.modes.own_infinite (λ _. Lax) → AllFine s options
+      → AllFine s (if e.modes.identity then plain_options position e else infinite_or e.modes.own_infinite options e)
+  either_tells s position options e plain endless fine = by e.modes.identity refl e.modes.own_infinite endless
+    where
+      by : (b : Bool) → e.modes.identity ≡ b → (o : Option InfiniteMapping) → IfSome o (λ _. Lax) → AllFine s (if b then plain_options position e else infinite_or o options e)
+      by true is o lax = plain_tells s position e (plain is)
+      by false is None lax = fine
+      by false is (Some mapping) lax = infinite_tells s mapping e lax
 
   note_fine : (s : Side) (notice : OwnNotice) (e : PathEnd) → OptionFine s (notice_option notice e.modes)
   note_fine s (OwnNotice.AddAddr id) e = tt
@@ -109,11 +139,11 @@ module _ (limit : Side → ℕ) (Maps : Side → PathMapping ℕ → Type 0) whe
 
     beside_fine : (fin : Option ℕ) → AllFine s (fail_beside fin e.modes)
     beside_fine (Some fin) = none_fine s
-    beside_fine None = subst (λ (o : Option ℕ). AllFine s (fail_options (if receives_infinite e.modes.mode then None else o))) (sym h.told) (by (receives_infinite e.modes.mode))
+    beside_fine None = by (receives_infinite e.modes.mode)
       where
-        by : (b : Bool) → AllFine s (fail_options (if b then None else None))
+        by : (b : Bool) → AllFine s (fail_options (if b then None else e.modes.failed_mapping))
         by true = none_fine s
-        by false = none_fine s
+        by false = fail_fine s e.modes.failed_mapping h.told
 
     key_fine : (t : Side) (o : Option ℕ) → AllFine s (key_options c t o e)
     key_fine A (Some key) = every_one _ tt
@@ -159,18 +189,14 @@ module _ (limit : Side → ℕ) (Maps : Side → PathMapping ℕ → Type 0) whe
     first_fine None r is first = none_fine s
 
     piece_fine : (r : Record) → RecordFine c s e.modes.clear Data r → AllFine s (piece_options c s r e)
-    piece_fine r is =
-        subst (λ (b : Bool). AllFine s (if b then plain_options r.pos e else infinite_or e.modes.own_infinite (mapped_options c s r e) e)) (sym h.identity)
-        (subst (λ (o : Option InfiniteMapping). AllFine s (infinite_or o (mapped_options c s r e) e)) (sym h.infinite) (by (is_first_piece s r e) refl))
+    piece_fine r is = either_tells s r.pos (mapped_options c s r e) e h.identity h.infinite (by (is_first_piece s r e) refl)
       where
         by : (b : Bool) → is_first_piece s r e ≡ b → AllFine s (if b then first_piece_options c e.modes.peer_key r e else Dss (Some e.receiving.next) (Some (piece_mapping c s r)) ∷ [])
         by true first = first_fine e.modes.peer_key r is first
         by false first = every_one _ (is.0, refl, is.1, is.2)
 
     fin_fine : (position : ℕ) → AllFine s (fin_options position e)
-    fin_fine position =
-        subst (λ (b : Bool). AllFine s (if b then plain_options position e else infinite_or e.modes.own_infinite (Dss (Some e.receiving.next) None ∷ []) e)) (sym h.identity)
-        (subst (λ (o : Option InfiniteMapping). AllFine s (infinite_or o (Dss (Some e.receiving.next) None ∷ []) e)) (sym h.infinite) (every_one _ tt))
+    fin_fine position = either_tells s position (Dss (Some e.receiving.next) None ∷ []) e h.identity h.infinite (every_one _ tt)
 
     kind_fine : (kind : RecordKind) (r : Record) → RecordFine c s e.modes.clear kind r → AllFine s (record_options kind c s r e)
     kind_fine Syn r is = syn_fine
@@ -200,7 +226,7 @@ module _ (limit : Side → ℕ) (Maps : Side → PathMapping ℕ → Type 0) whe
       where
         by : (b : Bool) → AllFine s (if b then [] else broken_options e.treated.failed_mapping reason)
         by true = none_fine s
-        by false = subst (λ (o : Option ℕ). AllFine s (broken_options o reason)) (sym h.telling) (broken_fine s reason)
+        by false = broken_fine s e.treated.failed_mapping h.telling reason
 
     answer_fine : AllFine s (answer_said c s e).options
     answer_fine = by e.tcp.due.syn_ack

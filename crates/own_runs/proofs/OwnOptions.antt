@@ -35,7 +35,7 @@ use Rattle.own_runs.proofs.OwnFlows.{KeysOwn, NonceIs}
 use Rattle.own_runs.proofs.Telling.{Untold}
 
 -- a verdict that tells nothing
-abbrev NoBreak : Verdict → Type 0
+abbrev pub NoBreak : Verdict → Type 0
 NoBreak (Broke finding) = ⊥
 NoBreak Kept = Unit {0}
 NoBreak PassedOver = Unit {0}
@@ -116,7 +116,7 @@ module _ (d : Drawn) (which : Rule → Bool) where
     abbrev s : Side
     s = facts.side
 
-    verdict_so : (o : Opening) (keys : CapableKeys) (known : Keys) → KeysAre d s keys → KeysOwn d known → NoBreak (judged_in o s known keys)
+    pub verdict_so : (o : Opening) (keys : CapableKeys) (known : Keys) → KeysAre d s keys → KeysOwn d known → NoBreak (judged_in o s known keys)
     verdict_so (opening.Join token nonce) keys known is k = tt
     verdict_so (opening.Capable checksums) keys known is k =
         told_so s (key_of s known) (key_of (peer s) known) keys (key_is s known k) (key_is (peer s) known k) is
@@ -136,7 +136,7 @@ module _ (d : Drawn) (which : Rule → Bool) where
         → IsKeyed path s (record state { options = state.options ++ option ∷ [] })
     stays_so option state is k = record { keys = k.keys; untold = k.untold; each = last_so option state.options is k.each }
 
-    one_so : (option : OptionValue) (state : KeyedValue) → ValueIs d path s option → IsKeyed path s state → IsKeyed path s (keyed_one facts option state)
+    pub one_so : (option : OptionValue) (state : KeyedValue) → ValueIs d path s option → IsKeyed path s state → IsKeyed path s (keyed_one facts option state)
     one_so (Capable flag_a flag_c keys) state is k =
         by_so (judged_in facts.flow.opening s state.keys keys) (Capable flag_a flag_c keys) keys state (verdict_so facts.flow.opening keys state.keys is k.keys) is is k
     one_so option state is k = stays_so option state is k

@@ -1,11 +1,9 @@
--- What each segment of a connection of ours keeps holds of each book and of what was sent on each flow, over the packets of a capture.
-use Rattle.std.proofs.Common.{◌≡◌, refl, sym, ap, ◌∙◌, subst, ℕ, ◌+◌, nat_lt, ◌||◌, Bool, true, false, not, if◌then◌else◌, Option, Some, None, List, [], ◌∷◌, ◌++◌, length}
-use Rattle.std.specs.Prelude.{All, IfSome}
+-- What a segment of a connection of ours keeps in its flow it keeps of each book and of what was sent on each flow.
+use Rattle.std.proofs.Common.{◌≡◌, refl, sym, ap, ◌∙◌, subst, ℕ, nat_lt, ◌||◌, Bool, true, false, not, if◌then◌else◌, Option, Some, None, List, [], ◌∷◌, ◌++◌, length}
+use Rattle.std.specs.Prelude.{IfSome}
 use Rattle.std.specs.List.{slice_get}
 use Rattle.std.proofs.Math.ListN.{set}
 use Rattle.std.proofs.Common.{⊎_elim, zero, suc, ◌-◌, ◌⊎◌, inl, inr}
-use Rattle.std.specs.Option.{option_map}
-use Rattle.std.proofs.lemmas.List.Elements.{All-head, All-tail}
 use Rattle.sides.specs.declared.side.Side.{Side}
 use Rattle.sides.specs.declared.side.Side.TheVariants.{A, B}
 use Rattle.sides.specs.Side.{peer}
@@ -18,12 +16,9 @@ use Rattle.seen_connections.specs.declared.flow.Belongs.{Belongs}
 use Rattle.seen_connections.specs.declared.flow.Flow.{Flow}
 use Rattle.seen_connections.specs.Connections.{SeenFlows, taken}
 use Rattle.seen_connections.specs.SameEnds.{same_end}
-use Rattle.seen_streams.specs.State.{StreamValue}
-use Rattle.rule_book.specs.Judged.{Told, empty_book, empty_lanes, grown, grown_to, judged, judged_belonging, judged_flow, judged_in_flow, judged_known, judged_place, judged_taken, nothing_judged, side_of, token_in, token_told, with_wrong_token}
-use Rattle.rule_book.specs.State.{BookValue, JudgedValue, LanesValue, stream_at}
+use Rattle.rule_book.specs.Judged.{Told, empty_book, empty_lanes, grown, grown_to, judged, judged_belonging, judged_flow, judged_in_flow, judged_known, judged_place, judged_taken, side_of, token_in, token_told, with_wrong_token}
+use Rattle.rule_book.specs.State.{BookValue, JudgedValue, LanesValue}
 use Rattle.rule_book.specs.Stream.{Left}
-use Rattle.capture_verdict.specs.Judging.{judged_if_seen, judged_packets}
-use Rattle.judge_laws.specs.GoesOn.{stream_in}
 use Rattle.judge_laws.proofs.Flows.{key_flows}
 use Rattle.judge_laws.proofs.Standing.{set_item, some_same}
 use Rattle.stream_lanes.proofs.Lists.{in_append}
@@ -31,12 +26,12 @@ use Rattle.own_runs.proofs.Openers.{openers_stay}
 use Rattle.own_runs.proofs.Own.{Drawn, IsOwn, end_of, is_a, is_opener, same_place}
 use Rattle.own_runs.proofs.OwnFlows.{Each, FlowOn, FlowsOwn, KeysOwn, each_end, each_set, key_so, place_so, taken_so}
 
-grown_each : {X : Type 0} → (P : X → Type 0) (count : ℕ) (one : X) (xs : List X) → Each P xs → P one → Each P (grown_to count one xs)
-grown_each {X} P count one xs each p = by (nat_lt (length xs) count)
+grown_each : {X : Type 0} → (P : X → Type 0) (count : ℕ) (one : X) (xs : List X) → Each P xs → (nat_lt (length xs) count ≡ true → P one) → Each P (grown_to count one xs)
+grown_each {X} P count one xs each p = by (nat_lt (length xs) count) refl
   where
-    by : (b : Bool) → Each P (if b then xs ++ one ∷ [] else xs)
-    by true = each_end P xs one each p
-    by false = each
+    by : (b : Bool) → nat_lt (length xs) count ≡ b → Each P (if b then xs ++ one ∷ [] else xs)
+    by true more = each_end P xs one each (p more)
+    by false more = each
 
 -- the sender of a segment in its flow
 pub opens_so : (d : Drawn) (seen : Seen) (own : IsOwn d seen) (flow : Flow) → FlowOn d own.path flow → same_end seen.source flow.opener ≡ is_a own.from
@@ -62,7 +57,7 @@ grown_item {X} count one xs i x = by (nat_lt (length xs) count)
     by true at = ⊎_elim (λ old. inr old) (λ new. inl (last (i - length xs) new.1)) (in_append xs (one ∷ []) i x at)
     by false at = inr at
 
-module _ (d : Drawn) (P : Seen → Type 0) (B : BookValue → Type 0) (L : ℕ → LanesValue → Type 0) where
+module _ (d : Drawn) (F : Flow → Type 0) (P : Seen → Type 0) (B : BookValue → Type 0) (L : ℕ → LanesValue → Type 0) where
   -- what a segment on a path leaves
   pub record IsLeft (path : ℕ) (told : Told) : Type 0 where
     pub keys : KeysOwn d told.keys
@@ -72,28 +67,31 @@ module _ (d : Drawn) (P : Seen → Type 0) (B : BookValue → Type 0) (L : ℕ �
   -- each segment of the connection, in its flow
   pub record SegmentsKeep : Type 0 where
     pub own : (seen : Seen) → P seen → IsOwn d seen
-    pub new_book : B empty_book
     pub new_lanes : (path : ℕ) → L path empty_lanes
     pub token : (wrong : WrongToken) (book : BookValue) → B book → B (token_told wrong book)
-    pub flow : (at : Option Side) (packet : ℕ) (seen : Seen) (p : P seen) (index : ℕ) (flow : Flow) → FlowOn d (own seen p).path flow → (belongs : Belongs)
+    pub flow : (at : Option Side) (packet : ℕ) (seen : Seen) (p : P seen) (index : ℕ) (flow : Flow) → FlowOn d (own seen p).path flow → F flow → (belongs : Belongs)
         → belongs.opener ≡ A → (keys : Keys) (left : Left) → KeysOwn d keys → B left.book → L (own seen p).path left.lanes
         → IsLeft (own seen p).path (judged_flow at packet seen index flow belongs keys left)
 
   -- lanes of a flow of a path
-  record AreBound (flows : List Flow) (i : ℕ) (lanes : LanesValue) : Type 0 where
-    path : ℕ
-    flow : Flow
-    there : slice_get flows i ≡ Some flow
-    opener : flow.opener ≡ end_of path A
-    holds : L path lanes
+  pub record AreBound (flows : List Flow) (i : ℕ) (lanes : LanesValue) : Type 0 where
+    pub path : ℕ
+    pub flow : Flow
+    pub there : slice_get flows i ≡ Some flow
+    pub opener : flow.opener ≡ end_of path A
+    pub holds : L path lanes
 
-  abbrev LanesHold : List Flow → List LanesValue → Type 0
+  abbrev pub LanesHold : List Flow → List LanesValue → Type 0
   LanesHold flows all = (i : ℕ) (lanes : LanesValue) → slice_get all i ≡ Some lanes → (lanes ≡ empty_lanes) ⊎ AreBound flows i lanes
 
-  record AllHold (state : JudgedValue) : Type 0 where
-    seen : FlowsOwn d state.seen
-    books : Each B state.books
-    lanes : LanesHold state.seen.flows state.lanes
+  pub record AllHold (state : JudgedValue) : Type 0 where
+    pub seen : FlowsOwn d state.seen
+    pub books : Each B state.books
+    pub lanes : LanesHold state.seen.flows state.lanes
+
+  -- a connection more begins with an empty book
+  abbrev pub NewBook : JudgedValue → ℕ → Seen → Type 0
+  NewBook state packet seen = nat_lt (length state.books) (length (taken state.seen packet seen true).now.connections) ≡ true → B empty_book
 
   -- a packet with a segment of the connection
   abbrev pub PacketIs : Captured → Type 0
@@ -104,9 +102,13 @@ module _ (d : Drawn) (P : Seen → Type 0) (B : BookValue → Type 0) (L : ℕ �
       abbrev own : IsOwn d seen
       own = keep.own seen p
 
+      -- a flow of its path
+      abbrev On : Flow → Type 0
+      On flow = FlowOn d own.path flow × F flow
+
       -- ---- put back
 
-      lanes_so : (index : ℕ) (flow : Flow) (f : FlowOn d own.path flow) (flows : List Flow) → slice_get flows index ≡ Some flow → (lanes : LanesValue)
+      pub lanes_so : (index : ℕ) (flow : Flow) (f : FlowOn d own.path flow) (flows : List Flow) → slice_get flows index ≡ Some flow → (lanes : LanesValue)
           → (lanes ≡ empty_lanes) ⊎ AreBound flows index lanes → L own.path lanes
       lanes_so index flow f flows there lanes (inl empty) = subst (L own.path) (sym empty) (keep.new_lanes own.path)
       lanes_so index flow f flows there lanes (inr bound) =
@@ -125,36 +127,36 @@ module _ (d : Drawn) (P : Seen → Type 0) (B : BookValue → Type 0) (L : ℕ �
       })
       set_so index flow f flows there left holds i new all each (inr other) = each i new other
 
-      known_so : (index : ℕ) (flow : Flow) (f : FlowOn d own.path flow) (belongs : Belongs) → belongs.opener ≡ A → (keys : Option Keys) (book : Option BookValue)
+      known_so : (index : ℕ) (flow : Flow) (f : On flow) (belongs : Belongs) → belongs.opener ≡ A → (keys : Option Keys) (book : Option BookValue)
           (lanes : Option LanesValue) (state : JudgedValue) → slice_get state.seen.flows index ≡ Some flow → slice_get state.seen.connections belongs.connection ≡ keys → slice_get state.books belongs.connection ≡ book
           → slice_get state.lanes index ≡ lanes → AllHold state → AllHold (judged_known at packet seen index flow belongs keys book lanes state)
       known_so index flow f belongs is (Some keys) (Some book) (Some lanes) state has_flow has_keys has_book has_lanes all =
           let left : Left = record { book = book; lanes = lanes } in
           let told = judged_flow at packet seen index flow belongs keys left in
-          let it = keep.flow at packet seen p index flow f belongs is keys left (all.seen.connections belongs.connection keys has_keys)
-          (all.books belongs.connection book has_book) (lanes_so index flow f state.seen.flows has_flow lanes (all.lanes index lanes has_lanes)) in
+          let it = keep.flow at packet seen p index flow f.0 f.1 belongs is keys left (all.seen.connections belongs.connection keys has_keys)
+          (all.books belongs.connection book has_book) (lanes_so index flow f.0 state.seen.flows has_flow lanes (all.lanes index lanes has_lanes)) in
           let flows_same = key_flows belongs.connection keys.a told.keys.a state.seen in
           record {
             seen = key_so d belongs.connection keys.a told.keys.a state.seen it.keys.a all.seen;
             books = each_set B state.books belongs.connection told.left.book all.books it.book;
             lanes = subst (λ (flows : List Flow). LanesHold flows (set state.lanes index told.left.lanes)) (sym flows_same)
-                (λ i new at. set_so index flow f state.seen.flows has_flow told.left.lanes it.lanes i new state.lanes all.lanes (set_item state.lanes index i told.left.lanes new at));
+                (λ i new at. set_so index flow f.0 state.seen.flows has_flow told.left.lanes it.lanes i new state.lanes all.lanes (set_item state.lanes index i told.left.lanes new at));
           }
       known_so index flow f belongs is (Some keys) (Some book) None state has_flow has_keys has_book has_lanes all = all
       known_so index flow f belongs is (Some keys) None lanes state has_flow has_keys has_book has_lanes all = all
       known_so index flow f belongs is None book lanes state has_flow has_keys has_book has_lanes all = all
 
-      belonging_so : (index : ℕ) (flow : Flow) (f : FlowOn d own.path flow) (belongs : Option Belongs) → IfSome belongs (λ b. b.opener ≡ A) → (state : JudgedValue)
+      belonging_so : (index : ℕ) (flow : Flow) (f : On flow) (belongs : Option Belongs) → IfSome belongs (λ b. b.opener ≡ A) → (state : JudgedValue)
           → slice_get state.seen.flows index ≡ Some flow → AllHold state → AllHold (judged_belonging at packet seen index flow belongs state)
       belonging_so index flow f None is state there all = all
       belonging_so index flow f (Some belongs) is state there all =
           known_so index flow f belongs is (slice_get state.seen.connections belongs.connection) (slice_get state.books belongs.connection) (slice_get state.lanes index)
           state there refl refl refl all
 
-      in_flow_so : (index : ℕ) (flow : Option Flow) → IfSome flow (FlowOn d own.path) → (state : JudgedValue) → slice_get state.seen.flows index ≡ flow → AllHold state
+      in_flow_so : (index : ℕ) (flow : Option Flow) → IfSome flow On → (state : JudgedValue) → slice_get state.seen.flows index ≡ flow → AllHold state
           → AllHold (judged_in_flow at packet seen index flow state)
       in_flow_so index None f state there all = all
-      in_flow_so index (Some flow) f state there all = belonging_so index flow f flow.belongs f.belongs state there all
+      in_flow_so index (Some flow) f state there all = belonging_so index flow f flow.belongs f.0.belongs state there all
 
       token_so : (book : Option BookValue) (wrong : WrongToken) (books : List BookValue) → slice_get books wrong.belongs.connection ≡ book → Each B books
           → Each B (token_in book wrong books)
@@ -171,7 +173,7 @@ module _ (d : Drawn) (P : Seen → Type 0) (B : BookValue → Type 0) (L : ℕ �
       wrong_flows None state = refl
       wrong_flows (Some wrong) state = refl
 
-      place_at : (place : Option Place) (state : JudgedValue) → IfSome place (λ p. (flow : Flow) → slice_get state.seen.flows p.flow ≡ Some flow → FlowOn d own.path flow)
+      place_at : (place : Option Place) (state : JudgedValue) → IfSome place (λ p. (flow : Flow) → slice_get state.seen.flows p.flow ≡ Some flow → On flow)
           → AllHold state → AllHold (judged_place at packet seen place state)
       place_at None state on all = all
       place_at (Some place) state on all =
@@ -180,23 +182,28 @@ module _ (d : Drawn) (P : Seen → Type 0) (B : BookValue → Type 0) (L : ℕ �
           (found (slice_get told.seen.flows place.flow) (ap (λ (x : SeenFlows). slice_get x.flows place.flow) (wrong_flows place.wrong_token state)))
           told refl (wrong_so place.wrong_token state all)
         where
-          found : (o : Option Flow) → o ≡ slice_get state.seen.flows place.flow → IfSome o (FlowOn d own.path)
+          found : (o : Option Flow) → o ≡ slice_get state.seen.flows place.flow → IfSome o On
           found None same = tt
           found (Some flow) same = on flow (sym same)
 
-      segment_so : (state : JudgedValue) → AllHold state → AllHold (judged at true state packet seen)
-      segment_so state all =
+      pub segment_so : (state : JudgedValue) → NewBook state packet seen → Each F (taken state.seen packet seen true).now.flows → AllHold state → AllHold (judged at true state packet seen)
+      segment_so state new flows all =
           subst (λ (b : Bool). AllHold (judged_taken at packet seen (taken state.seen packet seen b) state)) (sym good)
-          (place_at (taken state.seen packet seen true).place (grown now state) (place_so d state.seen packet seen own all.seen)
+          (place_at (taken state.seen packet seen true).place (grown now state) (on_place (taken state.seen packet seen true).place (place_so d state.seen packet seen own all.seen))
           (record {
             seen = taken_so d state.seen packet seen own all.seen;
-            books = grown_each B (length now.connections) empty_book state.books all.books keep.new_book;
+            books = grown_each B (length now.connections) empty_book state.books all.books new;
             lanes = λ i lanes at. ⊎_elim (λ empty. inl empty) (λ old. ⊎_elim (λ empty. inl empty) (λ bound. inr (bound_on i lanes bound)) (all.lanes i lanes old))
                 (grown_item (length now.flows) empty_lanes state.lanes i lanes at);
           }))
         where
           now : SeenFlows
           now = (taken state.seen packet seen true).now
+
+          on_place : (place : Option Place) → IfSome place (λ p. (flow : Flow) → slice_get now.flows p.flow ≡ Some flow → FlowOn d own.path flow)
+              → IfSome place (λ p. (flow : Flow) → slice_get now.flows p.flow ≡ Some flow → On flow)
+          on_place None on = tt
+          on_place (Some place) on = λ flow at. (on flow at, flows place.flow flow at)
 
           bound_on : (i : ℕ) (lanes : LanesValue) → AreBound state.seen.flows i lanes → AreBound now.flows i lanes
           bound_on i lanes bound =
@@ -205,39 +212,3 @@ module _ (d : Drawn) (P : Seen → Type 0) (B : BookValue → Type 0) (L : ℕ �
 
           good : (seen.has_good_sum || not true) ≡ true
           good = ap (λ (b : Bool). b || false) own.good
-
-    -- ---- packets
-
-    seen_so : (at : Option Side) (state : JudgedValue) (n : ℕ) (seen : Option Seen) → IfSome seen P → AllHold state → AllHold (judged_if_seen at true state n seen)
-    seen_so at state n None p all = all
-    seen_so at state n (Some seen) p all = segment_so at n seen p state all
-
-    packets_so : (at : Option Side) (state : JudgedValue) (n : ℕ) (packets : List Captured) → All PacketIs packets → AllHold state
-        → AllHold (judged_packets at true state n packets)
-    packets_so at state n [] each all = all
-    packets_so at state n (packet ∷ packets) each all =
-        packets_so at (judged_if_seen at true state n (segment_in_packet packet)) (n + 1) packets (All-tail PacketIs packet packets each)
-        (seen_so at state n (segment_in_packet packet) (All-head PacketIs packet packets each) all)
-
-    -- of each book
-    pub book_holds : (at : Option Side) (packets : List Captured) → All PacketIs packets → (connection : ℕ) (s : Side) (stream : StreamValue)
-        → stream_in (judged_packets at true nothing_judged 1 packets) connection s ≡ Some stream → (book : BookValue) × B book × (stream_at s book ≡ stream)
-    book_holds at packets each connection s stream there = by (slice_get judged_all.books connection) refl there
-      where
-        judged_all : JudgedValue
-        judged_all = judged_packets at true nothing_judged 1 packets
-
-        nothing_there : {X : Type 0} → (i : ℕ) (x : X) → slice_get [] i ≡ Some x → ⊥
-        nothing_there i x e = cc
-
-        all : AllHold judged_all
-        all = packets_so at nothing_judged 1 packets each (record {
-          seen = record { flows = λ i flow at. absurd (nothing_there i flow at); connections = λ i keys at. absurd (nothing_there i keys at); known = refl };
-          books = λ i book at. absurd (nothing_there i book at);
-          lanes = λ i lanes at. absurd (nothing_there i lanes at);
-        })
-
-        by : (book : Option BookValue) → slice_get judged_all.books connection ≡ book → option_map (stream_at s) book ≡ Some stream
-            → (book : BookValue) × B book × (stream_at s book ≡ stream)
-        by None e h = cc
-        by (Some book) e h = (book, all.books connection book e, some_same (stream_at s book) stream h)

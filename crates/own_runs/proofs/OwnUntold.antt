@@ -43,7 +43,7 @@ use Rattle.own_runs.proofs.TokenPackets.{Leaves, SegmentsTell, book_tells}
 use Rattle.own_runs.proofs.Values.{drawn}
 
 -- of both sides
-abbrev BookUntold : BookValue → Type 0
+abbrev pub BookUntold : BookValue → Type 0
 BookUntold book = (s : Side) → Untold is_option (stream_at s book).broken
 
 none_told : Untold is_option []
@@ -196,7 +196,7 @@ module _ (d : Drawn) where
         options_are : seen_options keys.checksums seen.segment.options ≡ map Readable own.values
         options_are = ap (λ (c : Bool). seen_options c seen.segment.options) k.checksums ∙ own.options
 
-  tell : SegmentsTell d BookUntold
+  pub tell : SegmentsTell d BookUntold
   tell = record {
     new_book = new_untold;
     flow = λ at packet seen own index flow f belongs is keys left k h.

@@ -1,5 +1,5 @@
 -- What holds of each record that an end may still send, whenever it was sent, holds at every moment, if it holds of each piece that is granted.
-use Rattle.std.proofs.Common.{◌≡◌, refl, sym, ap, subst, ℕ, ◌+◌, ◌&&◌, ◌==◌, nat_lt, nat_le, Bool, true, false, if◌then◌else◌, Option, Some, None, List, [], ◌∷◌}
+use Rattle.std.proofs.Common.{◌≡◌, refl, sym, ap, ◌∙◌, subst, ℕ, ◌⊎◌, inl, inr, ◌+◌, ◌&&◌, ◌==◌, nat_lt, nat_le, Bool, true, false, if◌then◌else◌, Option, Some, None, List, [], ◌∷◌}
 use Rattle.actor_desk.specs.declared.ask.Reply.{Reply}
 use Rattle.path_agenda.specs.declared.duty.AskDuty.{AskDuty}
 use Rattle.path_agenda.specs.declared.duty.Duty.{Duty}
@@ -26,6 +26,7 @@ use Rattle.path_core.specs.Values.{Carried, values}
 use Rattle.path_core.specs.declared.events.Event.{Event}
 use Rattle.path_segments.specs.Spelled.{PlainSegment}
 use Rattle.path_store.specs.declared.lines.LineAction.{LineAction}
+use Rattle.sides.specs.Side.{peer}
 use Rattle.sides.specs.declared.side.Side.TheVariants.{A, B}
 use Rattle.sides.specs.declared.side.Side.{Side}
 use Rattle.stream_lanes.proofs.Lists.{Every-push}
@@ -353,34 +354,55 @@ module _ (P : Record → Type 0) (any : (r : Record) (x : Sending) → P r → P
       all (Duty.Step (StepDuty.Look s)) = tt
       all _ = tt
 
-  -- the records of A, where what A is granted is so
-  pub takes_a : (r : Reply) (p : PathState Carried) → ((ds : List Duty) → p.agenda ≡ Duty.Step (StepDuty.Data A) ∷ ds → DutyFits (Duty.Step (StepDuty.Data A)) r p)
-      → EndKeeps p.a (takes values r p).a
-  takes_a r p fits = by p.agenda refl
+  pub kept_at : (s : Side) (p q : PathState Carried) → Kept p q → EndKeeps (end_at s p) (end_at s q)
+  kept_at A p q k = k.a
+  kept_at B p q k = k.b
+
+  -- the records of a side, where what it is granted is so
+  pub takes_at : (s : Side) (r : Reply) (p : PathState Carried) → ((ds : List Duty) → p.agenda ≡ Duty.Step (StepDuty.Data s) ∷ ds → DutyFits (Duty.Step (StepDuty.Data s)) r p)
+      → EndKeeps (end_at s p) (end_at s (takes values r p))
+  takes_at s r p fits = by p.agenda refl
     where
-      rest : (q : PathState Carried) → EndKeeps p.a q.a → EndKeeps p.a (settled q.agenda q).a
-      rest q k h = (settled_lasts Kept lasts q.agenda q).a (k h)
+      rest : (q : PathState Carried) → EndKeeps (end_at s p) (end_at s q) → EndKeeps (end_at s p) (end_at s (settled q.agenda q))
+      rest q k h = kept_at s q (settled q.agenda q) (settled_lasts Kept lasts q.agenda q) (k h)
 
-      other : (d : Duty) → DutyFits d r p → EndKeeps p.a (settled (answered values d r p).agenda (answered values d r p)).a
-      other d fit = rest (answered values d r p) (answered_kept d r p fit).a
+      other : (d : Duty) → DutyFits d r p → EndKeeps (end_at s p) (end_at s (settled (answered values d r p).agenda (answered values d r p)))
+      other d fit = rest (answered values d r p) (kept_at s p (answered values d r p) (answered_kept d r p fit))
 
-      granted : (o : Option Grant) → EndKeeps p.a (answered_grant B o r p).a
-      granted None h = h
-      granted (Some grant) h = h
+      granted : (t : Side) (o : Option Grant) → EndKeeps (end_at (peer t) p) (end_at (peer t) (answered_grant t o r p))
+      granted A None h = h
+      granted A (Some grant) h = h
+      granted B None h = h
+      granted B (Some grant) h = h
 
-      data_b : (o : Option Record) → EndKeeps p.a (answered_data values B o r p).a
-      data_b None h = granted (grant_in r) h
-      data_b (Some unsent) h = h
+      passed_by : (t : Side) (o : Option Record) → EndKeeps (end_at (peer t) p) (end_at (peer t) (answered_data values t o r p))
+      passed_by t None h = granted t (grant_in r) h
+      passed_by A (Some unsent) h = h
+      passed_by B (Some unsent) h = h
 
-      by : (ds : List Duty) → p.agenda ≡ ds → EndKeeps p.a (settled (answers values ds r p).agenda (answers values ds r p)).a
+      -- the other side's octets
+      by_data : (t : Side) (ds : List Duty) → p.agenda ≡ Duty.Step (StepDuty.Data t) ∷ ds → (s ≡ t) ⊎ (s ≡ peer t)
+          → EndKeeps (end_at s p) (end_at s (settled (answered values (Duty.Step (StepDuty.Data t)) r p).agenda (answered values (Duty.Step (StepDuty.Data t)) r p)))
+      by_data t ds same (inl own) =
+          other (Duty.Step (StepDuty.Data t)) (subst (λ (u : Side). DutyFits (Duty.Step (StepDuty.Data u)) r p) own (fits ds (same ∙ ap (λ (u : Side). Duty.Step (StepDuty.Data u) ∷ ds) (sym own))))
+      by_data t ds same (inr peers) =
+          rest (answered values (Duty.Step (StepDuty.Data t)) r p)
+          (subst (λ (u : Side). EndKeeps (end_at u p) (end_at u (answered values (Duty.Step (StepDuty.Data t)) r p))) (sym peers) (passed_by t (first_unsent (end_at t p))))
+
+      either_side : (u t : Side) → (u ≡ t) ⊎ (u ≡ peer t)
+      either_side A A = inl refl
+      either_side B B = inl refl
+      either_side A B = inr refl
+      either_side B A = inr refl
+
+      by : (ds : List Duty) → p.agenda ≡ ds → EndKeeps (end_at s p) (end_at s (settled (answers values ds r p).agenda (answers values ds r p)))
       by [] same = rest p (λ h. h)
-      by (Duty.Step (StepDuty.Data A) ∷ ds) same = other (Duty.Step (StepDuty.Data A)) (fits ds same)
-      by (Duty.Step (StepDuty.Data B) ∷ ds) same = rest (answered values (Duty.Step (StepDuty.Data B)) r p) (data_b (first_unsent p.b))
+      by (Duty.Step (StepDuty.Data t) ∷ ds) same = by_data t ds same (either_side s t)
       by (Duty.Step StepDuty.Events ∷ ds) same = other (Duty.Step StepDuty.Events) tt
-      by (Duty.Step (StepDuty.Look s) ∷ ds) same = other (Duty.Step (StepDuty.Look s)) tt
-      by (Duty.Step (StepDuty.Heard s index) ∷ ds) same = other (Duty.Step (StepDuty.Heard s index)) tt
-      by (Duty.Step (StepDuty.PlainAck s) ∷ ds) same = other (Duty.Step (StepDuty.PlainAck s)) tt
-      by (Duty.Step (StepDuty.Unmapped s) ∷ ds) same = other (Duty.Step (StepDuty.Unmapped s)) tt
+      by (Duty.Step (StepDuty.Look t) ∷ ds) same = other (Duty.Step (StepDuty.Look t)) tt
+      by (Duty.Step (StepDuty.Heard t index) ∷ ds) same = other (Duty.Step (StepDuty.Heard t index)) tt
+      by (Duty.Step (StepDuty.PlainAck t) ∷ ds) same = other (Duty.Step (StepDuty.PlainAck t)) tt
+      by (Duty.Step (StepDuty.Unmapped t) ∷ ds) same = other (Duty.Step (StepDuty.Unmapped t)) tt
       by (Duty.Ask d ∷ ds) same = other (Duty.Ask d) tt
       by (Duty.Send d ∷ ds) same = other (Duty.Send d) tt
       by (Duty.Silent d ∷ ds) same = other (Duty.Silent d) tt

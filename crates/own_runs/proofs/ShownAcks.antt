@@ -91,7 +91,19 @@ both_path Q R p x y = by (first_sends p.agenda p) x y
     by None x y = tt
     by (Some t) x y = (x, y)
 
-both_worlds : {C : Type 0} (Q R : ℕ → Side → PlainSegment → Type 0) (w : WorldState C) → WorldAlso Q w → WorldAlso R w → WorldAlso (λ n s sg. Q n s sg × R n s sg) w
+-- what holds of the next segments, told in other words
+pub world_map : {C : Type 0} (Q R : ℕ → Side → PlainSegment → Type 0) (w : WorldState C) → ((n : ℕ) (s : Side) (sg : PlainSegment) → Q n s sg → R n s sg) → WorldAlso Q w → WorldAlso R w
+world_map {C} Q R w f also i c at = by c.member (also i c at)
+  where
+    path : (p : PathState C) (o : Option ToSend) → IfSome o (λ t. Q (path_of p) t.from (segment_sent p t)) → IfSome o (λ t. R (path_of p) t.from (segment_sent p t))
+    path p None x = tt
+    path p (Some t) x = f (path_of p) t.from (segment_sent p t) x
+
+    by : (m : Actor C) → MemberAlso Q m → MemberAlso R m
+    by (App a) x = tt
+    by (Path p) x = path p (first_sends p.agenda p) x
+
+pub both_worlds : {C : Type 0} (Q R : ℕ → Side → PlainSegment → Type 0) (w : WorldState C) → WorldAlso Q w → WorldAlso R w → WorldAlso (λ n s sg. Q n s sg × R n s sg) w
 both_worlds {C} Q R w x y i c at = by c.member (x i c at) (y i c at)
   where
     by : (m : Actor C) → MemberAlso Q m → MemberAlso R m → MemberAlso (λ n s sg. Q n s sg × R n s sg) m

@@ -1,11 +1,10 @@
 -- What the judge sees of the segments that showed places of a stream, or told its end, before a Data ACK covers them.
-use Rattle.std.proofs.Common.{◌≡◌, refl, sym, ap, ◌∙◌, subst, ℕ, suc, ◌⊎◌, inl, inr, ⊎_elim, ◌+◌, ◌-◌, ◌%◌, ◌^◌, ◌<◌, ◌≤◌, ◌||◌, ◌==◌, Bool, true, false, Option, Some, None, List, [], ◌∷◌, map, length, arith}
+use Rattle.std.proofs.Common.{◌≡◌, refl, sym, ap, ◌∙◌, subst, ℕ, suc, ◌⊎◌, inl, inr, ⊎_elim, ◌+◌, ◌-◌, ◌%◌, ◌^◌, ◌<◌, ◌≤◌, ◌||◌, ◌==◌, Bool, true, false, Some, None, List, [], ◌∷◌, map, length, arith}
 use Rattle.std.specs.List.{list_any}
 use Rattle.std.proofs.lemmas.Bool.{eqb-true, false≢true, or_cases, or_left, or_right}
 use Rattle.capture_reader.specs.Seen.{Seen}
 use Rattle.judge_rules.specs.Mappings.{offer_of}
 use Rattle.judge_rules.specs.Numbers.{first_number}
-use Rattle.judge_rules.specs.declared.mappings.Offer.{Offer}
 use Rattle.link_trace.specs.declared.sent.Sent.{Sent}
 use Rattle.mptcp_options.specs.Value as wire
 use Rattle.mptcp_options.specs.Value.{OptionValue}
@@ -19,6 +18,7 @@ use Rattle.stream_lanes.specs.Duo.{Duo}
 use Rattle.world_laws.proofs.Numbers.TellSmall.{IsShort, IsStray}
 use Rattle.world_laws.specs.Openings.{Start, path_begins}
 use Rattle.world_laws.specs.Promises.{NumbersFit}
+use Rattle.own_runs.proofs.AckPositions.{EndsIn, EndsOffer}
 use Rattle.own_runs.proofs.EndMarks.{ends_stream}
 use Rattle.own_runs.proofs.EndRuns.{TellsEnd}
 use Rattle.own_runs.proofs.FineMoments.{IsMapped, Offered, content, file_len, lane_of, place_at}
@@ -33,15 +33,6 @@ use Rattle.own_runs.proofs.Values.{drawn}
 use Rattle.judge_laws.proofs.Standing.{some_same}
 
 -- ---- an option that ends a stream
-
-abbrev pub EndsOffer : Option Offer → Type 0
-EndsOffer None = ⊥
-EndsOffer (Some offer) = offer.fin ≡ true
-
--- one of these
-abbrev pub EndsIn : ℕ → List OptionValue → Type 0
-EndsIn first [] = ⊥
-EndsIn first (v ∷ values) = EndsOffer (offer_of first v) ⊎ EndsIn first values
 
 -- or that maps all from somewhere on
 abbrev pub value_ends : OptionValue → Bool
@@ -66,7 +57,7 @@ all_say spelling s (o ∷ os) is =
 
 -- where no other maps so
 module _ (start : Start) (last : Duo) (path : ℕ) (s : Side) (spelling : Spelling) (first : ℕ) where
-  one_ends : (o : PlainOption) → OptionFine (file_len start) (IsMapped start last path) s o → value_ends (said_option spelling s o) ≡ true → EndsOffer (offer_of first (said_option spelling s o))
+  one_ends : (o : PlainOption) → OptionFine (file_len start) (IsMapped start last path) ⊥ s o → value_ends (said_option spelling s o) ≡ true → EndsOffer (offer_of first (said_option spelling s o))
   one_ends (Dss next (Some (Bytes place position len false checksum))) fine is = absurd (let some = fine.0 in let none = eqb-true len 0 is in omega (arith, some, none))
   one_ends (Dss next (Some (Bytes place position len true checksum))) fine is = refl
   one_ends (Dss next (Some (End place checksum))) fine is = refl
@@ -76,7 +67,7 @@ module _ (start : Start) (last : Duo) (path : ℕ) (s : Side) (spelling : Spelli
   one_ends (Fail place) fine is = absurd fine
   one_ends _ fine is = absurd (false≢true is)
 
-  all_end : (os : List PlainOption) → AllFine (file_len start) (IsMapped start last path) s os → list_any value_ends (map (said_option spelling s) os) ≡ true
+  all_end : (os : List PlainOption) → AllFine (file_len start) (IsMapped start last path) ⊥ s os → list_any value_ends (map (said_option spelling s) os) ≡ true
       → EndsIn first (map (said_option spelling s) os)
   all_end [] fine is = absurd (false≢true is)
   all_end (o ∷ os) fine is =
@@ -130,6 +121,7 @@ module _ (start : Start) (last : Duo) (fit : NumbersFit start) where
     pub offset : ℕ
     pub within : offset < length seen.segment.payload
     pub sits : where_in last fine.own.path t (fine.at + offset) ≡ place
+    pub some : 1 ≤ fine.at + offset
 
   module _ (x : Sent) (s : IsSpoken (Offered start last) start x) (short : length x.octets ≤ 65515) (fine : Fine (seen_of (Offered start last) start x s short)) where
     -- on its path, of its side
@@ -168,6 +160,7 @@ module _ (start : Start) (last : Duo) (fit : NumbersFit start) where
           sits =
               ap (λ (path : ℕ). where_in last path t (fine.at + (suc h.position - h.covers.said.segment.position))) place_is.0
               ∙ ap (λ (p : ℕ). place_at (lane_of last x.path t) p) stands ∙ h.sits;
+          some = let is = stands in omega (arith, is);
         }
           where
             stands : (fine.at + (suc h.position - h.covers.said.segment.position)) % 2 ^ 32 ≡ suc h.position

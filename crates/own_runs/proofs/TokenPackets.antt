@@ -54,10 +54,10 @@ module _ (d : Drawn) (B : BookValue → Type 0) where
     pub flow : (at : Option Side) (packet : ℕ) (seen : Seen) (own : IsOwn d seen) (index : ℕ) (flow : Flow) → FlowOn d own.path flow → (belongs : Belongs) → belongs.opener ≡ A
         → (keys : Keys) (left : Left) → KeysOwn d keys → B left.book → Leaves (judged_flow at packet seen index flow belongs keys left)
 
-  record AllHold (U T : Type 0) (state : JudgedValue) : Type 0 where
-    seen : TokensHold d U T state.seen
-    one : OneHolds d state.seen
-    books : Each B state.books
+  pub record AllHold (U T : Type 0) (state : JudgedValue) : Type 0 where
+    pub seen : TokensHold d U T state.seen
+    pub one : OneHolds d state.seen
+    pub books : Each B state.books
 
   module _ (tell : SegmentsTell) (at : Option Side) (packet : ℕ) (seen : Seen) (own : IsOwn d seen) (U T : Type 0) where
     known_so : (index : ℕ) (flow : Flow) → FlowOn d own.path flow → (belongs : Belongs) → belongs.opener ≡ A → belongs.connection ≡ 0 → (keys : Option Keys) (book : Option BookValue) (lanes : Option LanesValue)
@@ -101,7 +101,7 @@ module _ (d : Drawn) (B : BookValue → Type 0) where
         belongs None at = tt
         belongs (Some flow) at = all.one.belongs place.flow flow at
 
-  segment_so : (tell : SegmentsTell) (at : Option Side) (packet : ℕ) (seen : Seen) (own : IsOwn d seen) (U T V W : Type 0) → IsBehind U T V W d seen own → (seen.segment.head.syn ≡ true → IfSome (Asked seen) (λ o. IsCapable o → own.path ≡ 0)) → (state : JudgedValue) → AllHold U T state
+  pub segment_so : (tell : SegmentsTell) (at : Option Side) (packet : ℕ) (seen : Seen) (own : IsOwn d seen) (U T V W : Type 0) → IsBehind U T V W d seen own → (seen.segment.head.syn ≡ true → IfSome (Asked seen) (λ o. IsCapable o → own.path ≡ 0)) → (state : JudgedValue) → AllHold U T state
       → AllHold (U ⊎ V) (T ⊎ W) (judged at true state packet seen)
   segment_so tell at packet seen own U T V W is only state all =
       subst (λ (b : Bool). AllHold (U ⊎ V) (T ⊎ W) (judged_taken at packet seen (taken state.seen packet seen b) state)) (sym good)

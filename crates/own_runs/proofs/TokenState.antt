@@ -113,7 +113,7 @@ some_found flows ends k flow going there passes = by (last_that (is_between ends
           ap (unless_over i) at_i ∙ ap (λ (b : Bool). if b then None else Some (record { index = i; flow = it.flow })) (going i it.flow at_i),
         )
 
-all_right : (syn ack : Bool) (opened : Option Opened) (same right : Bool) (a : Option Answer) → syn ≡ true → ack ≡ true → opened ≡ None → same ≡ true → right ≡ true
+pub all_right : (syn ack : Bool) (opened : Option Opened) (same right : Bool) (a : Option Answer) → syn ≡ true → ack ≡ true → opened ≡ None → same ≡ true → right ≡ true
     → (if not syn || (not ack || not (is_none opened)) then None else (if not same || not right then None else a)) ≡ a
 all_right syn ack opened same right a e f g h k = rw (e, f, g, h, k) refl
 
@@ -156,7 +156,7 @@ module _ (d : Drawn) where
     right_so = taken_right d state packet seen own h.own h.named late
 
     -- a flow that is found is that of the segment's path
-    same_path : (path : ℕ) (flow : Flow) → FlowOn d path flow → is_between (ends_in seen) flow ≡ true → path ≡ own.path
+    pub same_path : (path : ℕ) (flow : Flow) → FlowOn d path flow → is_between (ends_in seen) flow ≡ true → path ≡ own.path
     same_path path flow f between = by (goes (ends_in seen) flow) refl between
       where
         by : (b : Bool) → goes (ends_in seen) flow ≡ b → b || goes (turned (ends_in seen)) flow ≡ true → path ≡ own.path

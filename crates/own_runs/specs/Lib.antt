@@ -8,4 +8,5 @@ pub mod Runs
 pub mod Segments
 pub mod Sending
 pub mod Traces
+pub mod WholeKept
 pub mod WholeSegments

@@ -1,5 +1,6 @@
 -- The capture of a run of ours, judged.
-use Rattle.std.specs.Prelude.{◌≡◌, ℕ, true, false, Option, Some, List, length, Ok}
+use Rattle.std.specs.Prelude.{◌≡◌, ℕ, ◌<◌, true, false, Option, Some, option_map, List, length, Ok}
+use Rattle.std.specs.List.{slice_get}
 use Rattle.sides.specs.declared.side.Side.{Side}
 use Rattle.actor_desk.specs.Words.{pick}
 use Rattle.octet_text.specs.Prefix.{IsPrefix}
@@ -7,6 +8,7 @@ use Rattle.capture_verdict.specs.Sent.{IsSent}
 use Rattle.judge_rules.specs.declared.acks.ToldPlace.{ToldPlace}
 use Rattle.judge_rules.specs.declared.finding.Rule.{Rule}
 use Rattle.link_trace.specs.Captures.{blocks_of}
+use Rattle.path_core.specs.Octets.{octets}
 use Rattle.pcap_text.specs.Blocks.{capture_text}
 use Rattle.run_trace.specs.Trace.{trace_of}
 use Rattle.seen_streams.specs.State.{StreamValue}
@@ -15,8 +17,10 @@ use Rattle.capture_verdict.specs.Judging.{judged_capture}
 use Rattle.judge_laws.specs.GoesOn.{broke, stream_in}
 use Rattle.world_laws.specs.Openings.{Start, opened_world}
 use Rattle.world_laws.specs.NeverFalls.{IsWhole}
+use Rattle.world_laws.specs.Outcomes.{outcome_of}
 use Rattle.world_laws.specs.Promises.{HasRoom, IsPlain, NumbersFit}
-use Rattle.world_laws.specs.Worlds.{Turn}
+use Rattle.world_laws.specs.Worlds.{Turn, world_run}
+use Rattle.world_laws.specs.declared.outcome.Outcome.TheVariants.{Delivered}
 use Rattle.own_runs.specs.Fitting.{RunFits}
 
 -- the capture of a connection after these turns, as a side sees it
@@ -47,9 +51,30 @@ file_of start s = pick s start.file_a start.file_b
 abbrev pub StreamsBeginTheFiles : Type 0
 StreamsBeginTheFiles = OfWholeRuns (λ start s stream. (octets : List ℕ) → IsSent stream.octet octets → IsPrefix octets (file_of start s))
 
+-- Each octet of it that was seen is there, and is the file's: none was cut off.
+abbrev pub SeenOctetsAreTheFiles : Type 0
+SeenOctetsAreTheFiles = OfWholeRuns (λ start s stream. (place : ℕ) → stream.seen place ≡ true
+    → (place < length (file_of start s)) × (option_map (λ held. held.octet) (stream.octet place) ≡ slice_get (file_of start s) place))
+
 -- Its DATA_FIN stands behind the last octet of the file.
 abbrev pub DataFinsEndTheFiles : Type 0
 DataFinsEndTheFiles = OfWholeRuns (λ start s stream. (fin : ToldPlace) → stream.fin ≡ Some fin → fin.place ≡ length (file_of start s))
+
+-- What the judge finds of a side in a capture's first connection is its whole file, and the DATA_FIN behind it.
+pub record ShowsTheFile (start : Start) (s : Side) (judged : JudgedValue) : Type 0 where
+  pub stream : StreamValue
+  pub there : stream_in judged 0 s ≡ Some stream
+  pub whole : IsSent stream.octet (file_of start s)
+  pub fin : ToldPlace
+  pub ended : stream.fin ≡ Some fin
+  pub behind : fin.place ≡ length (file_of start s)
+
+-- Once such a run is delivered its capture is read, and shows both files.
+abbrev pub DeliveredRunsShowTheFiles : Type 0
+DeliveredRunsShowTheFiles =
+    (start : Start) (turns : List Turn) → IsPlain start → IsWhole start → NumbersFit start → RunFits start turns
+    → outcome_of (world_run octets turns (opened_world start)).crew ≡ Delivered → (side : Side) (at : Option Side)
+    → (judged : JudgedValue) × (judged_capture at true (capture_of start turns side) ≡ Ok judged) × ((s : Side) → ShowsTheFile start s judged)
 
 -- Where all octets before the DATA_FIN are there, it is the file.
 abbrev pub WholeStreamsAreTheFiles : Type 0

@@ -1,12 +1,13 @@
 //! What is read in a capture of ours, as clauses of functions that do nothing.
-ghost use Rattle.judge_rules.specs.declared.finding.Rule.TheVariants.{AddressHmac, DataFin, DssSum, Fail, FastCloseKey, Form, Infinite, JoinHmac, Keys, Mapping, PlaceContent, Token, Within};
+ghost use Rattle.judge_rules.specs.declared.finding.Rule.TheVariants.{AddressHmac, DataAck, DataFin, DssSum, Fail, FastCloseKey, Form, Infinite, JoinHmac, Keys, Mapping, PlaceContent, Token, Within};
 ghost use Rattle.own_runs.specs.Arrivals.{EachAckIsCarried, EachAckRises, WhatCameWasSent};
 ghost use Rattle.own_runs.specs.Fitting.{TracesFit};
 ghost use Rattle.own_runs.specs.KeysShown.{EachComesBehindKeys, EachShowsKeysSo};
 ghost use Rattle.own_runs.specs.Packets.{CapturesAreTheirPackets};
-ghost use Rattle.own_runs.specs.Runs.{DataFinsEndTheFiles, NoRunBreaks, NoWholeRunBreaks, StreamsBeginTheFiles, WholeStreamsAreTheFiles};
+ghost use Rattle.own_runs.specs.Runs.{DataFinsEndTheFiles, DeliveredRunsShowTheFiles, NoRunBreaks, NoWholeRunBreaks, SeenOctetsAreTheFiles, StreamsBeginTheFiles, WholeStreamsAreTheFiles};
 ghost use Rattle.own_runs.specs.Segments.{SegmentsAreFound, WrittenSegmentsAreFound};
 ghost use Rattle.own_runs.specs.Traces.{TracesAreTheirPackets, TracesAreTheirSegments};
+ghost use Rattle.own_runs.specs.WholeKept.{WholeRunsEndWell};
 ghost use Rattle.own_runs.specs.WholeSegments.{DeliveredRunsTellTheEnds, EachSaysWhatItBears};
 
 /// A law: what is written of a section's blocks is read as a capture of their packets, in order, each a raw IPv4 packet with all its octets.
@@ -37,7 +38,8 @@ pub fn traces_are_their_segments()
 /// A law: in the capture of a run of ours no side is told to break a rule of the judge's on options: each option reads (`form`), MP_CAPABLE
 /// shows the known keys (`keys`, RFC 8684, section 3.1), a join the token of a key that was shown before it (`token`, section 3.2) and the
 /// HMACs of both keys and nonces (`join_hmac`, section 3.2), an ADD_ADDR that of its address (`address_hmac`, section 3.4.1), and MP_FASTCLOSE
-/// the key of its receiver (`fast_close_key`, section 3.5). Nor is payload sent outside of a mapping of its segment (`within`, section 3.3.1).
+/// the key of its receiver (`fast_close_key`, section 3.5). Nor is payload sent outside of a mapping of its segment (`within`, section 3.3.1),
+/// nor has a position of a subflow two places, nor a number none (`mapping`), and each checksum is that of its mapping and its octets (`dss_sum`).
 ///
 /// The capture is that of a trace (`traces_are_their_segments`), with sums checked. It holds of every list of turns, lawful or not, whatever the
 /// script takes away or alters, where the numbers of the start fit and the run fits a capture (`traces_are_their_segments`), and wherever the
@@ -50,6 +52,8 @@ pub fn own_runs_break_no_rule()
     ensures address_hmac { NoRunBreaks AddressHmac }
     ensures fast_close_key { NoRunBreaks FastCloseKey }
     ensures within { NoRunBreaks Within }
+    ensures mapping { NoRunBreaks Mapping }
+    ensures dss_sum { NoRunBreaks DssSum }
 {}
 
 /// A law: where the script alters no payload and takes no options away, no side is told to break a rule on the end of a stream: the DATA_FIN
@@ -58,7 +62,8 @@ pub fn own_runs_break_no_rule()
 /// `own_runs_break_no_rule`.
 ///
 /// Each position of a subflow has one place (`mapping`, section 3.3.1), each place one octet (`place_content`), and each checksum is that of
-/// its mapping and its octets (`dss_sum`).
+/// its mapping and its octets (`dss_sum`). And no Data ACK is of more than the judge saw of the other side's stream before it (`data_ack`, section
+/// 3.3.2).
 pub fn whole_runs_break_no_rule()
     ensures data_fin { NoWholeRunBreaks DataFin }
     ensures infinite { NoWholeRunBreaks Infinite }
@@ -66,15 +71,27 @@ pub fn whole_runs_break_no_rule()
     ensures mapping { NoWholeRunBreaks Mapping }
     ensures place_content { NoWholeRunBreaks PlaceContent }
     ensures dss_sum { NoWholeRunBreaks DssSum }
+    ensures data_ack { NoWholeRunBreaks DataAck }
+{}
+
+/// A law: the judge ends well with the capture of such a run, at whichever side it was taken, and wherever the judge takes that to be. The
+/// capture is read, no side broke any rule, and each join's connection was found; or no connection was opened yet. The premises are those of
+/// `whole_runs_break_no_rule`.
+pub fn whole_runs_end_well()
+    ensures { WholeRunsEndWell }
 {}
 
 /// A law: what the judge finds of a side's stream in the capture of such a run, over all subflows, up to the first octet that isn't there, is a
-/// first part of the side's file (`begins`). Its DATA_FIN stands behind the file's last octet (`ends`, RFC 8684, section 3.3.3), so where all
-/// octets before it are there it is the file (`whole`). Else as in `whole_runs_break_no_rule`.
+/// first part of the side's file (`begins`). Each octet of it that was seen is there, behind a gap, too, and is the file's (`seen`). Its DATA_FIN
+/// stands behind the file's last octet (`ends`, RFC 8684, section 3.3.3), so where all octets before it are there it is the file (`whole`). Else
+/// as in `whole_runs_break_no_rule`. Once such a run is delivered its capture is read, and shows both files whole, each with its DATA_FIN
+/// (`delivered`).
 pub fn captures_show_the_files()
     ensures begins { StreamsBeginTheFiles }
+    ensures seen { SeenOctetsAreTheFiles }
     ensures ends { DataFinsEndTheFiles }
     ensures whole { WholeStreamsAreTheFiles }
+    ensures delivered { DeliveredRunsShowTheFiles }
 {}
 
 /// A law: each octet that came to a side, whether its reader has it or the book of the side holds it, was in a segment that the other side

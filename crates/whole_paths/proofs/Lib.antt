@@ -173,6 +173,7 @@ pub mod WindowsAssured
 pub mod FilesFit
 pub mod AnswersAssure
 pub mod AsksOwed
+pub mod OfferedTaken
 pub mod ToldEdges
 pub mod WindowRounds
 pub mod Unharmed

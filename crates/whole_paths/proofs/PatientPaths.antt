@@ -1,5 +1,5 @@
 -- Where both files fit the first window, nothing is to be mended but records, acknowledgements and DATA_FINs; so whole paths end in time.
-use Rattle.std.proofs.Common.{◌≡◌, sym, subst, ap, inr, ℕ, ◌+◌, ◌*◌, ◌<◌, ◌≤◌, arith, List, [], ◌∷◌, ◌++◌, length}
+use Rattle.std.proofs.Common.{◌≡◌, sym, subst, ap, inr, ℕ, ◌+◌, ◌≤◌, arith, List, [], ◌∷◌, ◌++◌, length}
 use Rattle.std.proofs.lemmas.List.{length-append}
 use Rattle.sides.specs.declared.side.Side.{Side}
 use Rattle.sides.specs.declared.side.Side.TheVariants.{A, B}
@@ -14,7 +14,7 @@ use Rattle.whole_paths.specs.Counts.{Counts, CountsAsMuch, spare}
 use Rattle.whole_paths.specs.Debts.{DebtsAreMendedBy, FewAreOwedBy, MendsSoon, OwesAtMostBy, long_wait}
 use Rattle.whole_paths.specs.Directions.{OwesAlong}
 use Rattle.whole_paths.specs.FinDebts.{FinStandsAfter, all_is_acked}
-use Rattle.whole_paths.specs.Finish.{patience, rounds_in}
+use Rattle.whole_paths.specs.Finish.{patience}
 use Rattle.whole_paths.specs.FinsMended.{CountsFins, MendsFin, OwesFin}
 use Rattle.whole_paths.specs.Mending.{IsBegunTurn}
 use Rattle.whole_paths.specs.Mild.{IsMildStart}

@@ -117,6 +117,7 @@ pub mod WindowsAssured
 pub mod FilesFit
 pub mod AnswersAssure
 pub mod AsksOwed
+pub mod OfferedTaken
 pub mod ToldEdges
 pub mod Writers
 pub mod EndedStreams

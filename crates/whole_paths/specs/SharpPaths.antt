@@ -17,8 +17,8 @@ use Rattle.whole_paths.specs.UnitRounds.{WindowsAndEndsAreHeard}
 abbrev pub OwesAll : Start → (ℕ → List Turn → Type 0) → ℕ → List Turn → Type 0
 OwesAll start Other = OwesBoth (OwesAlong start A) (OwesBoth (OwesAlong start B) Other)
 
--- What is left to be shown, where debts are counted so: as B's end may send a DSS first no more is owed along both directions than was counted; others
--- are mended, and no more are owed; without any of them the windows that are told are heard, and each DATA_FIN comes which is sent.
+-- What is left to be shown, where debts are counted so: as B's end may send a DSS first no more is owed along both directions than was counted;
+-- others are mended, and no more are owed; without any of them the windows that are told are heard, and each DATA_FIN comes which is sent.
 pub record RestIsMended (start : Start) (plan : PathPlan) (most : ℕ) (paid count : List Turn → ℕ) (Other : ℕ → List Turn → Type 0)
     (MendsOther : ℕ → ℕ → List Turn → Type 0) : Type 0 where
   pub counts : Counts start paid count

@@ -345,8 +345,8 @@ pub fn openings_are_awaited()
 {}
 
 /// A law: what an open end of the only path of a mild connection asks for, the Data ACK of its DATA_FIN or of a piece (`each_ask_is_answered`),
-/// goes on by each turn to be answered by the same tick, or something comes between that counts: more is heard or sent, the script harms a
-/// segment, or an end dies.
+/// goes on by each turn to be answered by the same tick, or something comes between that counts: more is heard or sent, a segment is
+/// harmed, or an end dies.
 ///
 /// An open end without a record of which anything is outstanding waits for such an answer, or for the peer's window (`in_time`). Where a turn
 /// is over it asks for the answer, within a minute and 800 ticks, and no round ends past that. That the peer wants the

@@ -2,6 +2,7 @@
 ghost use Rattle.whole_paths.specs.AnswersAssure.{EachAnswerAssures, WhatComesOpensTheWindow};
 ghost use Rattle.whole_paths.specs.AsksOwed.{WhoAsksOwes};
 ghost use Rattle.whole_paths.specs.FilesFit.{FittingFilesAreNeverShut};
+ghost use Rattle.whole_paths.specs.OfferedTaken.{WhatIsToldIsTaken};
 ghost use Rattle.whole_paths.specs.ToldEdges.{WhatIsToldGoesOn};
 ghost use Rattle.whole_paths.specs.WindowsAssured.{FourRoundsAssure, WindowsAreAssured};
 
@@ -50,4 +51,12 @@ pub fn what_comes_opens_the_window()
 /// before an acknowledgement goes.
 pub fn who_asks_owes()
     ensures { WhoAsksOwes }
+{}
+
+/// A law: an end never tells its peer to send more than its side's reassembly book takes, but for the DATA_FIN (RFC 9293, section 3.8.6; RFC 8684, section
+/// 3.3.5).
+///
+/// So it is on path 0 of a mild connection: of what the end knows, always, and of the edge that it told last, as long as it lives.
+pub fn what_is_told_is_taken()
+    ensures { WhatIsToldIsTaken }
 {}

@@ -1,11 +1,18 @@
-use Rattle.own_runs.proofs.MapTrace.{ends_are, streams_are, whole_are}
+use Rattle.own_runs.proofs.AckRuns.{ends_are, files_are, seen_are, streams_are, whole_are}
+use Rattle.own_runs.proofs.TimeRuns.{timed}
 use Rattle.own_runs.proofs.laws.captures_show_the_files.Goals as goal
 
 pub returns-clause-begins : goal.returns-clause-begins
-returns-clause-begins c = streams_are
+returns-clause-begins c = streams_are timed
+
+pub returns-clause-seen : goal.returns-clause-seen
+returns-clause-seen c = seen_are timed
 
 pub returns-clause-ends : goal.returns-clause-ends
-returns-clause-ends c = ends_are
+returns-clause-ends c = ends_are timed
 
 pub returns-clause-whole : goal.returns-clause-whole
-returns-clause-whole c = whole_are
+returns-clause-whole c = whole_are timed
+
+pub returns-clause-delivered : goal.returns-clause-delivered
+returns-clause-delivered c = files_are timed

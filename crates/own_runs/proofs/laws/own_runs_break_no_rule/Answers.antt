@@ -1,6 +1,7 @@
 use Rattle.std.proofs.Common.{refl}
-use Rattle.judge_rules.specs.declared.finding.Rule.TheVariants.{AddressHmac, FastCloseKey, Form, JoinHmac, Keys, Token, Within}
+use Rattle.judge_rules.specs.declared.finding.Rule.TheVariants.{AddressHmac, DssSum, FastCloseKey, Form, JoinHmac, Keys, Mapping, Token, Within}
 use Rattle.own_runs.proofs.Kept.{no_run_breaks}
+use Rattle.own_runs.proofs.PlacesTrace as places
 use Rattle.own_runs.proofs.laws.own_runs_break_no_rule.Goals as goal
 
 pub returns-clause-form : goal.returns-clause-form
@@ -23,3 +24,9 @@ returns-clause-fast_close_key c = no_run_breaks FastCloseKey refl
 
 pub returns-clause-within : goal.returns-clause-within
 returns-clause-within c = no_run_breaks Within refl
+
+pub returns-clause-mapping : goal.returns-clause-mapping
+returns-clause-mapping c = places.no_run_breaks Mapping refl
+
+pub returns-clause-dss_sum : goal.returns-clause-dss_sum
+returns-clause-dss_sum c = places.no_run_breaks DssSum refl

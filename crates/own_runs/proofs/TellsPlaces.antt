@@ -1,0 +1,344 @@
+-- What each segment of a trace maps and bears, whatever its script does: each finite mapping lies within its side's file, gives its positions the places
+-- that they have at the end of the run, and has the checksum of the octets of these places, and each payload has these octets.
+use Rattle.std.proofs.Common.{◌≡◌, refl, sym, ap, ◌∙◌, subst, ℕ, suc, ◌+◌, ◌-◌, ◌≤◌, ◌<◌, ◌^◌, ◌⊎◌, inl, inr, Bool, true, false, if◌then◌else◌, Option, Some, None, List, [], ◌++◌, length, length-append, take, drop, arith}
+use Rattle.std.specs.Prelude.{get_or}
+use Rattle.std.specs.Option.{IfSome}
+use Rattle.std.specs.List.{slice_get}
+use Rattle.std.proofs.lemmas.Bool.{false≢true}
+use Rattle.std.proofs.lemmas.List.{get_or-drop, get_or-take}
+use Rattle.actor_desk.specs.Books.{books_in}
+use Rattle.actor_desk.specs.Desk.{SixBooks}
+use Rattle.actor_desk.specs.Words.{pick}
+use Rattle.dss_checksum.specs.Checksum.{dss_checksum}
+use Rattle.judge_rules.specs.Numbers.{first_number}
+use Rattle.octet_text.specs.Prefix.{IsPrefix}
+use Rattle.path_core.specs.DssOut.{bare_mapping, checksum_in, checksum_told, place_numbered}
+use Rattle.path_core.specs.End.{PathEnd}
+use Rattle.path_core.specs.Looking.{first_sends, segment_sent}
+use Rattle.path_core.specs.Octets.{octets}
+use Rattle.path_core.specs.Profile.{Profile}
+use Rattle.path_core.specs.Said.{said_by}
+use Rattle.path_core.specs.Shown.{shown_path}
+use Rattle.path_core.specs.State.{end_at, PathState, path_of}
+use Rattle.path_core.specs.Values.{Carried, values}
+use Rattle.path_segments.specs.Options.{relative_number}
+use Rattle.path_segments.specs.Spelled.{PlainSegment}
+use Rattle.path_segments.specs.declared.segment.PathMapping.TheVariants.{Bytes, End}
+use Rattle.send_book.specs.State.{Sending}
+use Rattle.sides.specs.declared.side.Side.TheVariants.{A, B}
+use Rattle.sides.specs.declared.side.Side.{Side}
+use Rattle.stream_lanes.proofs.Duos.{any_held}
+use Rattle.stream_lanes.proofs.Lists.{in_map}
+use Rattle.stream_lanes.specs.Duo.{Duo}
+use Rattle.stream_lanes.specs.Holding.{Holds, LaneHolds}
+use Rattle.stream_lanes.specs.Lane.{Lane}
+use Rattle.stream_lanes.specs.Moves.{bytes_of}
+use Rattle.stream_lanes.specs.View.{View, end_of}
+use Rattle.stream_lanes.specs.Words.{Every}
+use Rattle.subflow_send.specs.Records.{Record}
+use Rattle.subflow_send.specs.declared.record.RecordKind.TheVariants.{Syn, Data, Fin}
+use Rattle.subflow_send.specs.declared.record.RecordKind.{RecordKind}
+use Rattle.world_laws.proofs.Lanes.Answering.{BeginsFirst}
+use Rattle.world_laws.proofs.Lanes.OfAWorld.{Carries as MayCarry, PathIsSteady, PathThere, Reached, WorldShows, anyhow, anyhow_free, duo_of, free_run}
+use Rattle.world_laws.proofs.Lanes.Showing.{EndShows, HasMapping, IsPiece, IsSummed, KindShows}
+use Rattle.world_laws.proofs.Numbers.EveryTurn.{always_tells}
+use Rattle.world_laws.proofs.Numbers.PathSteps.{PathTells}
+use Rattle.world_laws.proofs.Numbers.TellSmall.{EndTells, RecordKindTells}
+use Rattle.world_laws.proofs.Promises.Made.{run_fresh}
+use Rattle.world_laws.proofs.Worlds.CastLifting.{each_actor, path_actor, writes_the_files}
+use Rattle.world_laws.proofs.Worlds.Casts.{Walker, walking}
+use Rattle.world_laws.proofs.Worlds.Steady.{always_steady}
+use Rattle.world_laws.specs.Actors.{Actor, ActorCrew}
+use Rattle.world_laws.specs.Fresh.{shown_crew, shown_member}
+use Rattle.world_laws.specs.Laws.{WritesTheFile}
+use Rattle.world_laws.specs.Openings.{Start, path_begins, opened_world}
+use Rattle.world_laws.specs.Promises.{HasRoom, NumbersFit}
+use Rattle.world_laws.specs.Worlds.{WorldState, Turn, world_run}
+use Rattle.world_laws.specs.declared.member.Member.TheVariants.{App, Path}
+use Rattle.own_runs.proofs.Bearing.{Carries, RecordsCarry, first_carries}
+use Rattle.own_runs.proofs.FineMoments.{BorneOn, IsBorne, IsMapped, MappedOn, content, file_len, lane_of}
+use Rattle.own_runs.proofs.MapPlaces.{first_at, place_on, sits, stretch, written_within}
+use Rattle.own_runs.proofs.MapPositions.{Bears, contents, header}
+use Rattle.own_runs.proofs.Moments.{MemberAlso, PathAlso, WorldAlso, end_shown, first_same}
+use Rattle.own_runs.proofs.Numbered.{whole_so}
+use Rattle.own_runs.proofs.Offering.{AllFine, EndFine, FirstFine, RecordFine, first_fine_sent}
+use Rattle.own_runs.proofs.Own.{own_key}
+use Rattle.own_runs.proofs.PiecesTold.{IsPart, PieceOf, always_pieces}
+use Rattle.own_runs.proofs.Reached.{duo_at, run_reaches}
+use Rattle.own_runs.proofs.SentGrows.{Grows, Longer}
+use Rattle.own_runs.proofs.Speaking.{ToSend}
+use Rattle.own_runs.proofs.Values.{drawn}
+
+-- ---- by the lanes of the last moment
+
+module _ (start : Start) (last : Duo) where
+  -- a payload
+  abbrev pub Bearing : ℕ → Side → PlainSegment → Type 0
+  Bearing path s sg = IsBorne start last path s sg.position sg.payload
+
+  -- each option of a segment maps such, and infinite mappings and MP_FAIL may be told, too
+  abbrev pub Tells : ℕ → Side → PlainSegment → Type 0
+  Tells path s sg = AllFine (file_len start) (IsMapped start last path) (Unit {0}) s sg.options × Carries (Bearing path) s sg
+
+-- ---- a path at a moment
+
+module _ (start : Start) (turns : List Turn) (size : HasRoom start) (fit : NumbersFit start) (last : Duo)
+    (q : Reached (anyhow start size).links start (world_run values turns (opened_world start))) (grown : Grows (duo_at start (anyhow start size) (world_run values turns (opened_world start)) q) last) where
+  abbrev v : WorldState Carried
+  v = world_run values turns (opened_world start)
+
+  abbrev can : MayCarry start
+  can = anyhow start size
+
+  held : Holds (duo_at start can v q)
+  held = any_held can.links.alters can.links.checked (length start.paths) start.buffer start.buffer q.events
+
+  abbrev h : WorldShows can.links start (duo_at start can v q) v
+  h = q.shows
+
+  abbrev six : SixBooks
+  six = books_in h.cast.books
+
+  abbrev duo : Duo
+  duo = duo_of can.links six h.lanes_ab h.lanes_ba h.reader_a h.reader_b
+
+  holds : Holds duo
+  holds = subst Holds h.duo_is held
+
+  grows : Grows duo last
+  grows = subst (λ (d : Duo). Grows d last) h.duo_is grown
+
+  writes_a : WritesTheFile start.file_a six.send_a
+  writes_a = subst (λ (w : WorldState Carried). WritesTheFile start.file_a (books_in w.books).send_a) h.is (writes_the_files values start turns).a
+
+  writes_b : WritesTheFile start.file_b six.send_b
+  writes_b = subst (λ (w : WorldState Carried). WritesTheFile start.file_b (books_in w.books).send_b) h.is (writes_the_files values start turns).b
+
+  file_length : (file written : List ℕ) → IsPrefix written file → length written ≤ length file
+  file_length file written begins_so = let same = ap length begins_so.whole_is in omega (arith, same, length-append written begins_so.rest)
+
+  module _ (n : ℕ) (x : Walker Carried) (at : slice_get h.cast.paths n ≡ Some x) where
+    abbrev p : PathState Carried
+    p = x.path
+
+    abbrev there : PathThere start h.lanes_ab h.lanes_ba n p
+    there = h.paths.each n n x (omega arith) at
+
+    abbrev c : Profile
+    c = (path_begins start n there.plan).profile
+
+    here : slice_get v.crew (suc (suc n)) ≡ Some (walking x)
+    here = subst (λ (w : WorldState Carried). slice_get w.crew (suc (suc n)) ≡ Some (walking x)) (sym h.is) (path_actor h.cast n x at)
+
+    told : PathTells c p
+    told = (always_tells start turns size fit).members (suc (suc n)) (walking x) here there.plan there.plan_there
+
+    steady : n ≡ 0 → six.control_b.fall.joined ≡ true → p.a.modes.clear ≡ true
+    steady =
+        let is : PathIsSteady (books_in v.books) n p = (always_steady start turns).each n (walking x) here in
+        subst (λ (w : WorldState Carried). n ≡ 0 → (books_in w.books).control_b.fall.joined ≡ true → p.a.modes.clear ≡ true) h.is is.clear
+
+    -- an end, by what it shows on its lanes
+    module _ (s : Side) (e : PathEnd) (out back : Lane) (view : View) (shown : EndShows c s e out back) (hold : LaneHolds view n out) (tells : EndTells c s e)
+        (begins : IsPrefix view.written (pick s start.file_a start.file_b)) (ends : (k : ℕ) → view.end ≡ Some k → k ≡ file_len start s)
+        (later : Lane) (later_there : lane_of last n s ≡ Some later) (longer : Longer out later) (first_is : BeginsFirst s e out)
+        (pieces : Every (IsPart c s (pick s start.file_a start.file_b)) e.tcp.send.records) where
+      abbrev first : ℕ
+      first = first_number (own_key (drawn start) s)
+
+      -- the octet of a position
+      abbrev octet_at : ℕ → ℕ
+      octet_at p = content start s (place_on later p)
+
+      upto : length view.written ≤ file_len start s
+      upto = file_length (pick s start.file_a start.file_b) view.written begins
+
+      -- the checksum that is told of a mapping
+      sum_so : (place position len checksum : ℕ) → 1 ≤ position → IsSummed c s out.sent place position len checksum
+          → IfSome (checksum_told c checksum) (λ sum. sum ≡ dss_checksum (header first place (relative_number position) len) (contents octet_at position len))
+      sum_so place position len checksum behind is = by c.spelling.checksums refl
+        where
+          by : (b : Bool) → c.spelling.checksums ≡ b
+              → IfSome (if b then Some checksum else None) (λ sum. sum ≡ dss_checksum (header first place (relative_number position) len) (contents octet_at position len))
+          by false uses = tt
+          by true uses =
+              is.right uses
+              ∙ ap (λ (number : ℕ). dss_checksum (record { number = number; relative = relative_number position; length = len; checksum = 0 })
+              (take len (drop (position - 1) (bytes_of out.sent)))) (whole_so start n there.plan s place)
+              ∙ ap (dss_checksum (header first place (relative_number position) len))
+              (stretch view n out later hold longer (pick s start.file_a start.file_b) begins len (position - 1) position (omega (arith, behind)) is.within)
+
+      told_so : (place position len checksum : ℕ) → HasMapping out.datas place position len → IsSummed c s out.sent place position len checksum
+          → IsMapped start last n s (Bytes place position len false (checksum_told c checksum))
+      told_so place position len checksum has is =
+          subst (λ (o : Option Lane). MappedOn (content start s) first o (Bytes place position len false (checksum_told c checksum))) (sym later_there)
+          (sits view n out later hold longer place position len has, sum_so place position len checksum (let at_one = has.holds.is.position_is in omega (arith, at_one)) is)
+
+      -- and of the DATA_FIN
+      end_told : (place : ℕ) → IsMapped start last n s (End place (checksum_told c (checksum_in c (bare_mapping c s place 0 1) [])))
+      end_told place = by c.spelling.checksums
+        where
+          by : (b : Bool) → IfSome (if b then Some (if b then dss_checksum (bare_mapping c s place 0 1) [] else 0) else None) (λ sum. sum ≡ dss_checksum (header first place 0 1) [])
+          by false = tt
+          by true = ap (λ (number : ℕ). dss_checksum (record { number = number; relative = 0; length = 1; checksum = 0 }) []) (whole_so start n there.plan s place)
+
+      -- a piece that A sends as long as it may send no DSS
+      begins_so : (r : Record) → IsPiece c s out.alters out.sent out.datas r → FirstFine (file_len start) (IsMapped start last n) (Unit {0}) c s e.modes.clear r
+      begins_so r is own unclear one =
+          let place = place_numbered c s r.mapping.number in
+          let len = r.mapping.length in
+          let has : HasMapping out.datas place 1 len = subst (λ (p : ℕ). HasMapping out.datas place p len) one is.mapping in
+          let zero_at : place ≡ 0 = first_is own unclear place len has in
+          subst (λ (q : ℕ). IsMapped start last n s (Bytes q 1 len false (checksum_told c r.mapping.checksum))) zero_at
+          (told_so place 1 len r.mapping.checksum has (subst (λ (p : ℕ). IsSummed c s out.sent place p len r.mapping.checksum) one is.summed))
+
+      kind_so : (kind : RecordKind) (r : Record) → KindShows c s out.alters out.sent out.datas out.fins kind r → RecordKindTells c s kind r
+          → RecordFine (file_len start) (IsMapped start last n) (Unit {0}) c s e.modes.clear kind r
+      kind_so Syn r is kept = tt
+      kind_so Fin r is kept = tt
+      kind_so Data r is kept = (
+        kept.0,
+        let within = written_within view n (place_numbered c s r.mapping.number) r.pos r.mapping.length out hold is.mapping kept.0 in let most = upto in omega (arith, within, most),
+        told_so (place_numbered c s r.mapping.number) r.pos r.mapping.length r.mapping.checksum is.mapping is.summed,
+        begins_so r is,
+      )
+
+      -- what a record bears: its piece is that part of the file
+      part_bears : (r : Record) → IsPiece c s out.alters out.sent out.datas r → RecordKindTells c s Data r
+          → r.piece ≡ take (length r.piece) (drop (place_numbered c s r.mapping.number) (pick s start.file_a start.file_b)) → Bears octet_at r.pos r.piece
+      part_bears r is kept part j below =
+          let place = place_numbered c s r.mapping.number in
+          let same = kept.4 in
+          ap (λ (octets : List ℕ). get_or octets j 0) part
+          ∙ get_or-take (length r.piece) (drop place (pick s start.file_a start.file_b)) j 0 below
+          ∙ get_or-drop place (pick s start.file_a start.file_b) j 0
+          ∙ ap (content start s) (sym (sits view n out later hold longer place r.pos r.mapping.length is.mapping j (omega (arith, below, same))))
+
+      carries_so : (kind : RecordKind) (r : Record) → KindShows c s out.alters out.sent out.datas out.fins kind r → RecordKindTells c s kind r → r.pos + length r.piece < 2 ^ 31
+          → PieceOf c s (pick s start.file_a start.file_b) kind r → (r.piece ≡ []) ⊎ IsBorne start last n s r.pos r.piece
+      carries_so Syn r is kept few part = inl is
+      carries_so Fin r is kept few part = inl is.0
+      carries_so Data r is kept few part =
+          inr (subst (λ (o : Option Lane). BorneOn (content start s) o r.pos r.piece) (sym later_there) (few, part_bears r is kept part))
+
+      known_so : IfSome e.sending.known_end (λ k. k ≡ file_len start s)
+      known_so = subst (λ (o : Option ℕ). IfSome o (λ k. k ≡ file_len start s)) shown.sender.same_end (by out.known_end hold.ends.told)
+        where
+          by : (o : Option ℕ) → IfSome o (λ k. view.end ≡ Some k) → IfSome o (λ k. k ≡ file_len start s)
+          by None is = tt
+          by (Some k) is = ends k is
+
+      whatever : {X : Type 0} → (o : Option X) → IfSome o (λ _. Unit {0})
+      whatever None = tt
+      whatever (Some x) = tt
+
+      end_so : EndFine (file_len start) (IsMapped start last n) (Unit {0}) c s e
+      end_so = record {
+        identity = λ is. tt;
+        infinite = whatever e.modes.own_infinite;
+        told = whatever e.modes.failed_mapping;
+        telling = whatever e.treated.failed_mapping;
+        known = known_so;
+        ends = λ place is. end_told place;
+        records = record { each = λ i r there_one. kind_so r.kind r (shown.sender.pieces.each i r there_one) (tells.sender.records.each i r there_one).mapped };
+      }
+
+      bears_so : RecordsCarry (Bearing start last n) c s e
+      bears_so = record {
+        each = λ i r there_one.
+            let told = tells.sender.records.each i r there_one in
+            let reaches = told.reaches in
+            carries_so r.kind r (shown.sender.pieces.each i r there_one) told.mapped (omega (arith, reaches)) (pieces.each i r there_one);
+      }
+
+    -- where a stream is closed its file was written
+    closed_so : (file : List ℕ) (b : Sending) → (b.closed ≡ true → b.written ≡ file) → (k : ℕ) → end_of b ≡ Some k → k ≡ length file
+    closed_so file b whole k is = by b.closed whole is
+      where
+        by : (closed : Bool) → (closed ≡ true → b.written ≡ file) → (if closed then Some (length b.written) else None) ≡ Some k → k ≡ length file
+        by true whole is = let same : length b.written ≡ k = cc in sym same ∙ ap length (whole refl)
+        by false whole is = cc
+
+    own_pieces : (s : Side) → Every (IsPart c s (pick s start.file_a start.file_b)) (end_at s p).tcp.send.records
+    own_pieces s =
+        let short_a = fit.short_a in let short_b = fit.short_b in
+        subst (λ (d : Profile). Every (IsPart d s (pick s start.file_a start.file_b)) (end_at s p).tcp.send.records) there.shows.profile
+        (always_pieces start (omega (arith, short_a)) (omega (arith, short_b)) turns (suc (suc n)) (walking x) here s)
+
+    first_a : BeginsFirst A p.a there.ab
+    first_a own unclear place len has =
+        let hold = holds.ab.lanes.each n n there.ab (omega arith) there.ab_there in
+        first_at _ n six.control_b.fall.joined p there.ab there.ba refl hold steady there.stands unclear place len has
+
+    fine : (s : Side) → EndFine (file_len start) (IsMapped start last n) (Unit {0}) c s (end_at s p) × RecordsCarry (Bearing start last n) c s (end_at s p)
+    fine A =
+        let hold = holds.ab.lanes.each n n there.ab (omega arith) there.ab_there in
+        let later = grows.ab n there.ab there.ab_there in (
+          end_so A p.a there.ab there.ba _ there.shows.a hold told.a writes_a.prefix (closed_so start.file_a six.send_a writes_a.whole) later.0 later.1 later.2 first_a (own_pieces A),
+          bears_so A p.a there.ab there.ba _ there.shows.a hold told.a writes_a.prefix (closed_so start.file_a six.send_a writes_a.whole) later.0 later.1 later.2 first_a (own_pieces A),
+        )
+    fine B =
+        let hold = holds.ba.lanes.each n n there.ba (omega arith) there.ba_there in
+        let later = grows.ba n there.ba there.ba_there in (
+          end_so B p.b there.ba there.ab _ there.shows.b hold told.b writes_b.prefix (closed_so start.file_b six.send_b writes_b.whole) later.0 later.1 later.2
+              (λ own unclear place len has. absurd (false≢true own)) (own_pieces B),
+          bears_so B p.b there.ba there.ab _ there.shows.b hold told.b writes_b.prefix (closed_so start.file_b six.send_b writes_b.whole) later.0 later.1 later.2
+              (λ own unclear place len has. absurd (false≢true own)) (own_pieces B),
+        )
+
+    offers : PathAlso (Tells start last) p
+    offers = subst (λ (k : ℕ). IfSome (first_sends p.agenda p) (λ t. Tells start last k t.from (segment_sent p t))) (sym there.numbered) (by (first_sends p.agenda p) maps carries)
+      where
+        maps : IfSome (first_sends p.agenda p) (λ t. AllFine (file_len start) (IsMapped start last n) (Unit {0}) t.from (segment_sent p t).options)
+        maps =
+            first_fine_sent (file_len start) (IsMapped start last n) (Unit {0}) p
+            (λ s. subst (λ (d : Profile). EndFine (file_len start) (IsMapped start last n) (Unit {0}) d s (end_at s p)) (sym there.shows.profile) (fine s).0) p.agenda
+
+        carries : IfSome (first_sends p.agenda p) (λ t. Carries (Bearing start last n) t.from (segment_sent p t))
+        carries =
+            first_carries (Bearing start last n) p
+            (λ s. subst (λ (d : Profile). RecordsCarry (Bearing start last n) d s (end_at s p)) (sym there.shows.profile) (fine s).1) p.agenda
+
+        by : (o : Option ToSend) → IfSome o (λ t. AllFine (file_len start) (IsMapped start last n) (Unit {0}) t.from (segment_sent p t).options)
+            → IfSome o (λ t. Carries (Bearing start last n) t.from (segment_sent p t)) → IfSome o (λ t. Tells start last n t.from (segment_sent p t))
+        by None one other = tt
+        by (Some t) one other = (one, other)
+
+  valued : WorldAlso (Tells start last) v
+  valued =
+      subst (λ (w : WorldState Carried). WorldAlso (Tells start last) w) (sym h.is)
+      (each_actor (λ i c. MemberAlso (Tells start last) c.member) h.cast tt tt (λ n x at. offers n x at))
+
+-- ---- over octets
+
+module _ (start : Start) (last : Duo) where
+  path_shown : (p : PathState Carried) → PathAlso (Tells start last) p → PathAlso (Tells start last) (shown_path p)
+  path_shown p s = subst (λ (o : Option ToSend). IfSome o Shown) (sym (first_same p.agenda p)) (by (first_sends p.agenda p) s)
+    where
+      Shown : ToSend → Type 0
+      Shown = λ t. Tells start last (path_of p) t.from (segment_sent (shown_path p) t)
+
+      by : (o : Option ToSend) → IfSome o (λ t. Tells start last (path_of p) t.from (segment_sent p t)) → IfSome o Shown
+      by None said = tt
+      by (Some t) said = subst (λ (e : PathEnd). Tells start last (path_of p) t.from (said_by t.kind p.profile t.from e)) (end_shown t.from p) said
+
+  member_shown : (m : Actor Carried) → MemberAlso (Tells start last) m → MemberAlso (Tells start last) (shown_member m)
+  member_shown (App a) s = tt
+  member_shown (Path p) s = path_shown p s
+
+-- at each moment of a run, by its last lanes
+pub run_tells : (start : Start) (turns : List Turn) → HasRoom start → NumbersFit start
+    → (last : Duo) × ((more later : List Turn) → more ++ later ≡ turns → WorldAlso (Tells start last) (world_run octets more (opened_world start)))
+run_tells start turns size fit =
+    let can = anyhow start size in
+    let reached = run_reaches start can turns (free_run can.links (anyhow_free start size) turns (opened_world start)) in
+    (reached.0, λ more later is. moment reached.0 more (reached.1 more later is))
+  where
+    moment : (last : Duo) (more : List Turn) → (q : Reached (anyhow start size).links start (world_run values more (opened_world start))) × Grows (duo_at start (anyhow start size) (world_run values more (opened_world start)) q) last
+        → WorldAlso (Tells start last) (world_run octets more (opened_world start))
+    moment last more r =
+        subst (λ (w : WorldState (List ℕ)). WorldAlso (Tells start last) w) (sym (run_fresh start more size fit))
+        (λ i c at.
+        let found = in_map shown_crew (world_run values more (opened_world start)).crew i c at in
+        subst (λ (y : ActorCrew (List ℕ)). MemberAlso (Tells start last) y.member) found.2
+        (member_shown start last found.0.member (valued start more size fit last r.0 r.1 i found.0 found.1)))
