@@ -20,6 +20,7 @@ mod ClearKnows
 mod ComesTimes
 mod Counted
 mod DutiesFew
+mod EndMaps
 mod EndMarks
 mod EndPaths
 mod EndRuns
