@@ -2,6 +2,7 @@
 ghost use Rattle.judge_rules.specs.declared.finding.Rule.TheVariants.{AddressHmac, DataAck, DataFin, DssSum, Fail, FastCloseKey, Form, Infinite, JoinHmac, Keys, Mapping, PlaceContent, Token, Within};
 ghost use Rattle.own_runs.specs.Arrivals.{EachAckIsCarried, EachAckRises, WhatCameWasSent};
 ghost use Rattle.own_runs.specs.Fitting.{TracesFit};
+ghost use Rattle.own_runs.specs.Handshakes.{EachComesInOrder};
 ghost use Rattle.own_runs.specs.KeysShown.{EachComesBehindKeys, EachShowsKeysSo};
 ghost use Rattle.own_runs.specs.Packets.{CapturesAreTheirPackets};
 ghost use Rattle.own_runs.specs.Runs.{DataFinsEndTheFiles, DeliveredRunsShowTheFiles, NoPlainRunBreaks, NoRunBreaks, NoWholeRunBreaks, SeenOctetsAreTheFiles, StreamsBeginTheFiles, WholeStreamsAreTheFiles};
@@ -74,6 +75,13 @@ pub fn whole_runs_break_no_rule()
     ensures place_content { NoWholeRunBreaks PlaceContent }
     ensures dss_sum { NoWholeRunBreaks DssSum }
     ensures data_ack { NoWholeRunBreaks DataAck }
+{}
+
+/// A law: a path opens in its order, whatever the script does (RFC 9293, section 3.5; RFC 8684, sections 3.1 and 3.2). Each SYN of B's comes behind
+/// a SYN of A's on its path. Each segment that is no SYN and no reset comes behind a SYN/ACK of B's there, which acknowledges A's SYN. It holds of
+/// every list of turns, lawful or not, where the numbers of the start fit.
+pub fn paths_open_in_order()
+    ensures { EachComesInOrder }
 {}
 
 /// A law: the judge ends well with the capture of such a run, at whichever side it was taken, and wherever the judge takes that to be. The
