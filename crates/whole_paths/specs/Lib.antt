@@ -142,6 +142,7 @@ pub mod PositionCounts
 pub mod SentInOrder
 pub mod Pushed
 pub mod FullGrants
+pub mod Stalls
 pub mod SegmentRounds
 pub mod EndRounds
 pub mod UnitRounds
@@ -170,3 +171,4 @@ pub mod AnswersSoon
 pub mod Opened
 pub mod SignPieces
 pub mod EarlyRecords
+pub mod ProbeWaits
