@@ -142,6 +142,7 @@ pub mod PositionCounts
 pub mod SentInOrder
 pub mod Pushed
 pub mod FullGrants
+pub mod Stalls
 pub mod SegmentRounds
 pub mod EndRounds
 pub mod UnitRounds
@@ -171,3 +172,4 @@ pub mod AnswersSoon
 pub mod Opened
 pub mod SignPieces
 pub mod EarlyRecords
+pub mod ProbeWaits
