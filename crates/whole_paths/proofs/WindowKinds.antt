@@ -29,7 +29,6 @@ use Rattle.whole_paths.proofs.Directions.{what_owes_none_is_well}
 use Rattle.whole_paths.proofs.DirectionsMended.{directions_are_mended}
 use Rattle.whole_paths.proofs.FinsHeard.{ends_are_heard}
 use Rattle.whole_paths.proofs.FinsMended.{few_fins_are_owed, fins_are_mended, what_is_acked_lasts, who_owes_no_fin_stands}
-use Rattle.whole_paths.proofs.NumbersAgree.{numbers_always_agree}
 use Rattle.whole_paths.proofs.OneDebtAfter.{one_debt_is_few, one_debt_is_mended_after}
 use Rattle.whole_paths.proofs.OpenFirst.{few_along}
 use Rattle.whole_paths.proofs.QuietOpenings.{lost_early_never_falls, opens_owing_few}
@@ -83,7 +82,7 @@ module _ (Also : Start → PathPlan → Type 0) (Holds : Start → Side → List
 
   along : (s : Side) → DebtsAreMendedBy start plan most count (OwesAlong start s) (MendsSoon (MendsAlong start s)) one_timeout
   along s = debts_are_mended_by_more start plan most one_timeout one_timeout (harmed_so_far values start) count (OwesAlong start s) (MendsAlong start s) one.mild counts.harms (omega arith)
-      (directions_are_mended start plan most s one (numbers_always_agree start plan s one))
+      (directions_are_mended start plan most s one)
 
   directions : DebtsAreMendedBy start plan most count (OwesDirections start) (MendsDirections start) one_timeout
   directions = kinds_are_mended_together start plan most one_timeout count (OwesAlong start A) (MendsSoon (MendsAlong start A)) (OwesAlong start B) (MendsSoon (MendsAlong start B)) one.mild counts.harms (along A) (along B)
