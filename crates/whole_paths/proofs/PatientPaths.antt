@@ -1,5 +1,5 @@
 -- Where both files fit the first window no window is to be mended; so whole paths end in time.
-use Rattle.std.proofs.Common.{◌≡◌, sym, subst, ap, inl, inr, ℕ, ◌+◌, ◌-◌, ◌≤◌, min, arith, List, [], ◌∷◌, ◌++◌, length}
+use Rattle.std.proofs.Common.{◌≡◌, sym, subst, ap, inl, inr, ℕ, ◌+◌, ◌-◌, ◌≤◌, min, arith, List, length}
 use Rattle.std.proofs.lemmas.List.{length-append}
 use Rattle.sides.specs.declared.side.Side.{Side}
 use Rattle.actor_desk.specs.Words.{pick}
