@@ -1,4 +1,5 @@
--- What is left to be shown of windows as a kind of debt, one for each side: whatever holds of a side's window unless it is owed, and what is waited for.
+-- What is left to be shown of windows as a kind of debt, one for each side: whatever holds of a side's window unless it is owed, and what is waited
+-- for then.
 use Rattle.std.specs.Prelude.{ℕ, ◌+◌, ◌-◌, ◌≤◌, ◌⊎◌, min, true, List, [], ◌∷◌, length}
 use Rattle.sides.specs.declared.side.Side.{Side}
 use Rattle.sides.specs.declared.side.Side.TheVariants.{A, B}
@@ -24,8 +25,8 @@ use Rattle.whole_paths.specs.SegmentRounds.{read_after}
 use Rattle.whole_paths.specs.SharpCourses.{sharp_allowance}
 use Rattle.whole_paths.specs.UnitRounds.{IsAllWell, WellRounds}
 
--- What counts as a harm: what is paid for, an event that has come from the beginning on, and for either side the moment from which on all bytes of its
--- file are acknowledged.
+-- What counts as a harm: what is paid for, an event that has come from the beginning on, and for either side the moment from which on all bytes of
+-- its file are acknowledged.
 abbrev pub with_all : Start → List Turn → ℕ
 with_all start turns = 1 + one_if (all_is_acked start A turns) + one_if (all_is_acked start B turns) + harms_and_early values start turns
 
