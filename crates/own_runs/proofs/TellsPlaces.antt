@@ -1,6 +1,6 @@
 -- What each segment of a trace maps and bears, whatever its script does: each finite mapping lies within its side's file, gives its positions the places
 -- that they have at the end of the run, and has the checksum of the octets of these places, and each payload has these octets.
-use Rattle.std.proofs.Common.{◌≡◌, refl, sym, ap, ◌∙◌, subst, ℕ, suc, ◌+◌, ◌-◌, ◌≤◌, ◌<◌, ◌^◌, ◌⊎◌, inl, inr, Bool, true, false, if◌then◌else◌, Option, Some, None, List, [], ◌++◌, length, length-append, take, drop, arith}
+use Rattle.std.proofs.Common.{◌≡◌, refl, sym, ap, ◌∙◌, subst, ℕ, suc, ◌+◌, ◌≤◌, ◌<◌, ◌^◌, ◌⊎◌, inl, inr, Bool, true, false, if◌then◌else◌, Option, Some, None, List, [], ◌++◌, length, length-append, take, drop, arith}
 use Rattle.std.specs.Prelude.{get_or}
 use Rattle.std.specs.Option.{IfSome}
 use Rattle.std.specs.List.{slice_get}
@@ -9,10 +9,9 @@ use Rattle.std.proofs.lemmas.List.{get_or-drop, get_or-take}
 use Rattle.actor_desk.specs.Books.{books_in}
 use Rattle.actor_desk.specs.Desk.{SixBooks}
 use Rattle.actor_desk.specs.Words.{pick}
-use Rattle.dss_checksum.specs.Checksum.{dss_checksum}
 use Rattle.judge_rules.specs.Numbers.{first_number}
 use Rattle.octet_text.specs.Prefix.{IsPrefix}
-use Rattle.path_core.specs.DssOut.{bare_mapping, checksum_in, checksum_told, place_numbered}
+use Rattle.path_core.specs.DssOut.{place_numbered}
 use Rattle.path_core.specs.End.{PathEnd}
 use Rattle.path_core.specs.Looking.{first_sends, segment_sent}
 use Rattle.path_core.specs.Octets.{octets}
@@ -21,9 +20,7 @@ use Rattle.path_core.specs.Said.{said_by}
 use Rattle.path_core.specs.Shown.{shown_path}
 use Rattle.path_core.specs.State.{end_at, PathState, path_of}
 use Rattle.path_core.specs.Values.{Carried, values}
-use Rattle.path_segments.specs.Options.{relative_number}
 use Rattle.path_segments.specs.Spelled.{PlainSegment}
-use Rattle.path_segments.specs.declared.segment.PathMapping.TheVariants.{Bytes, End}
 use Rattle.send_book.specs.State.{Sending}
 use Rattle.sides.specs.declared.side.Side.TheVariants.{A, B}
 use Rattle.sides.specs.declared.side.Side.{Side}
@@ -32,7 +29,6 @@ use Rattle.stream_lanes.proofs.Lists.{in_map}
 use Rattle.stream_lanes.specs.Duo.{Duo}
 use Rattle.stream_lanes.specs.Holding.{Holds, LaneHolds}
 use Rattle.stream_lanes.specs.Lane.{Lane}
-use Rattle.stream_lanes.specs.Moves.{bytes_of}
 use Rattle.stream_lanes.specs.View.{View, end_of}
 use Rattle.stream_lanes.specs.Words.{Every}
 use Rattle.subflow_send.specs.Records.{Record}
@@ -40,7 +36,7 @@ use Rattle.subflow_send.specs.declared.record.RecordKind.TheVariants.{Syn, Data,
 use Rattle.subflow_send.specs.declared.record.RecordKind.{RecordKind}
 use Rattle.world_laws.proofs.Lanes.Answering.{BeginsFirst}
 use Rattle.world_laws.proofs.Lanes.OfAWorld.{Carries as MayCarry, PathIsSteady, PathThere, Reached, WorldShows, anyhow, anyhow_free, duo_of, free_run}
-use Rattle.world_laws.proofs.Lanes.Showing.{EndShows, HasMapping, IsPiece, IsSummed, KindShows}
+use Rattle.world_laws.proofs.Lanes.Showing.{EndShows, IsPiece, KindShows}
 use Rattle.world_laws.proofs.Numbers.EveryTurn.{always_tells}
 use Rattle.world_laws.proofs.Numbers.PathSteps.{PathTells}
 use Rattle.world_laws.proofs.Numbers.TellSmall.{EndTells, RecordKindTells}
@@ -56,12 +52,12 @@ use Rattle.world_laws.specs.Promises.{HasRoom, NumbersFit}
 use Rattle.world_laws.specs.Worlds.{WorldState, Turn, world_run}
 use Rattle.world_laws.specs.declared.member.Member.TheVariants.{App, Path}
 use Rattle.own_runs.proofs.Bearing.{Carries, RecordsCarry, first_carries}
-use Rattle.own_runs.proofs.FineMoments.{BorneOn, IsBorne, IsMapped, MappedOn, content, file_len, lane_of}
-use Rattle.own_runs.proofs.MapPlaces.{first_at, place_on, sits, stretch, written_within}
-use Rattle.own_runs.proofs.MapPositions.{Bears, contents, header}
+use Rattle.own_runs.proofs.EndMaps.{IsMapped, content, end_told, file_len, kind_so, known_so, lane_of}
+use Rattle.own_runs.proofs.FineMoments.{BorneOn, IsBorne}
+use Rattle.own_runs.proofs.MapPlaces.{first_at, place_on, sits}
+use Rattle.own_runs.proofs.MapPositions.{Bears}
 use Rattle.own_runs.proofs.Moments.{MemberAlso, PathAlso, WorldAlso, end_shown, first_same}
-use Rattle.own_runs.proofs.Numbered.{whole_so}
-use Rattle.own_runs.proofs.Offering.{AllFine, EndFine, FirstFine, RecordFine, first_fine_sent}
+use Rattle.own_runs.proofs.Offering.{AllFine, EndFine, first_fine_sent}
 use Rattle.own_runs.proofs.Own.{own_key}
 use Rattle.own_runs.proofs.PiecesTold.{IsPart, PieceOf, always_pieces}
 use Rattle.own_runs.proofs.Reached.{duo_at, run_reaches}
@@ -150,59 +146,6 @@ module _ (start : Start) (turns : List Turn) (size : HasRoom start) (fit : Numbe
       abbrev octet_at : ℕ → ℕ
       octet_at p = content start s (place_on later p)
 
-      upto : length view.written ≤ file_len start s
-      upto = file_length (pick s start.file_a start.file_b) view.written begins
-
-      -- the checksum that is told of a mapping
-      sum_so : (place position len checksum : ℕ) → 1 ≤ position → IsSummed c s out.sent place position len checksum
-          → IfSome (checksum_told c checksum) (λ sum. sum ≡ dss_checksum (header first place (relative_number position) len) (contents octet_at position len))
-      sum_so place position len checksum behind is = by c.spelling.checksums refl
-        where
-          by : (b : Bool) → c.spelling.checksums ≡ b
-              → IfSome (if b then Some checksum else None) (λ sum. sum ≡ dss_checksum (header first place (relative_number position) len) (contents octet_at position len))
-          by false uses = tt
-          by true uses =
-              is.right uses
-              ∙ ap (λ (number : ℕ). dss_checksum (record { number = number; relative = relative_number position; length = len; checksum = 0 })
-              (take len (drop (position - 1) (bytes_of out.sent)))) (whole_so start n there.plan s place)
-              ∙ ap (dss_checksum (header first place (relative_number position) len))
-              (stretch view n out later hold longer (pick s start.file_a start.file_b) begins len (position - 1) position (omega (arith, behind)) is.within)
-
-      told_so : (place position len checksum : ℕ) → HasMapping out.datas place position len → IsSummed c s out.sent place position len checksum
-          → IsMapped start last n s (Bytes place position len false (checksum_told c checksum))
-      told_so place position len checksum has is =
-          subst (λ (o : Option Lane). MappedOn (content start s) first o (Bytes place position len false (checksum_told c checksum))) (sym later_there)
-          (sits view n out later hold longer place position len has, sum_so place position len checksum (let at_one = has.holds.is.position_is in omega (arith, at_one)) is)
-
-      -- and of the DATA_FIN
-      end_told : (place : ℕ) → IsMapped start last n s (End place (checksum_told c (checksum_in c (bare_mapping c s place 0 1) [])))
-      end_told place = by c.spelling.checksums
-        where
-          by : (b : Bool) → IfSome (if b then Some (if b then dss_checksum (bare_mapping c s place 0 1) [] else 0) else None) (λ sum. sum ≡ dss_checksum (header first place 0 1) [])
-          by false = tt
-          by true = ap (λ (number : ℕ). dss_checksum (record { number = number; relative = 0; length = 1; checksum = 0 }) []) (whole_so start n there.plan s place)
-
-      -- a piece that A sends as long as it may send no DSS
-      begins_so : (r : Record) → IsPiece c s out.alters out.sent out.datas r → FirstFine (file_len start) (IsMapped start last n) (Unit {0}) c s e.modes.clear r
-      begins_so r is own unclear one =
-          let place = place_numbered c s r.mapping.number in
-          let len = r.mapping.length in
-          let has : HasMapping out.datas place 1 len = subst (λ (p : ℕ). HasMapping out.datas place p len) one is.mapping in
-          let zero_at : place ≡ 0 = first_is own unclear place len has in
-          subst (λ (q : ℕ). IsMapped start last n s (Bytes q 1 len false (checksum_told c r.mapping.checksum))) zero_at
-          (told_so place 1 len r.mapping.checksum has (subst (λ (p : ℕ). IsSummed c s out.sent place p len r.mapping.checksum) one is.summed))
-
-      kind_so : (kind : RecordKind) (r : Record) → KindShows c s out.alters out.sent out.datas out.fins kind r → RecordKindTells c s kind r
-          → RecordFine (file_len start) (IsMapped start last n) (Unit {0}) c s e.modes.clear kind r
-      kind_so Syn r is kept = tt
-      kind_so Fin r is kept = tt
-      kind_so Data r is kept = (
-        kept.0,
-        let within = written_within view n (place_numbered c s r.mapping.number) r.pos r.mapping.length out hold is.mapping kept.0 in let most = upto in omega (arith, within, most),
-        told_so (place_numbered c s r.mapping.number) r.pos r.mapping.length r.mapping.checksum is.mapping is.summed,
-        begins_so r is,
-      )
-
       -- what a record bears: its piece is that part of the file
       part_bears : (r : Record) → IsPiece c s out.alters out.sent out.datas r → RecordKindTells c s Data r
           → r.piece ≡ take (length r.piece) (drop (place_numbered c s r.mapping.number) (pick s start.file_a start.file_b)) → Bears octet_at r.pos r.piece
@@ -221,13 +164,6 @@ module _ (start : Start) (turns : List Turn) (size : HasRoom start) (fit : Numbe
       carries_so Data r is kept few part =
           inr (subst (λ (o : Option Lane). BorneOn (content start s) o r.pos r.piece) (sym later_there) (few, part_bears r is kept part))
 
-      known_so : IfSome e.sending.known_end (λ k. k ≡ file_len start s)
-      known_so = subst (λ (o : Option ℕ). IfSome o (λ k. k ≡ file_len start s)) shown.sender.same_end (by out.known_end hold.ends.told)
-        where
-          by : (o : Option ℕ) → IfSome o (λ k. view.end ≡ Some k) → IfSome o (λ k. k ≡ file_len start s)
-          by None is = tt
-          by (Some k) is = ends k is
-
       whatever : {X : Type 0} → (o : Option X) → IfSome o (λ _. Unit {0})
       whatever None = tt
       whatever (Some x) = tt
@@ -238,9 +174,9 @@ module _ (start : Start) (turns : List Turn) (size : HasRoom start) (fit : Numbe
         infinite = whatever e.modes.own_infinite;
         told = whatever e.modes.failed_mapping;
         telling = whatever e.treated.failed_mapping;
-        known = known_so;
-        ends = λ place is. end_told place;
-        records = record { each = λ i r there_one. kind_so r.kind r (shown.sender.pieces.each i r there_one) (tells.sender.records.each i r there_one).mapped };
+        known = known_so start last n there.plan s e out back view shown hold begins ends later later_there longer first_is (Unit {0});
+        ends = λ place is. end_told start last n there.plan s e out back view shown hold begins ends later later_there longer first_is (Unit {0}) place;
+        records = record { each = λ i r there_one. kind_so start last n there.plan s e out back view shown hold begins ends later later_there longer first_is (Unit {0}) r.kind r (shown.sender.pieces.each i r there_one) (tells.sender.records.each i r there_one).mapped };
       }
 
       bears_so : RecordsCarry (Bearing start last n) c s e

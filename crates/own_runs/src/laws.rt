@@ -2,12 +2,13 @@
 ghost use Rattle.judge_rules.specs.declared.finding.Rule.TheVariants.{AddressHmac, DataAck, DataFin, DssSum, Fail, FastCloseKey, Form, Infinite, JoinHmac, Keys, Mapping, PlaceContent, Token, Within};
 ghost use Rattle.own_runs.specs.Arrivals.{EachAckIsCarried, EachAckRises, WhatCameWasSent};
 ghost use Rattle.own_runs.specs.Fitting.{TracesFit};
+ghost use Rattle.own_runs.specs.Handshakes.{EachComesInOrder};
 ghost use Rattle.own_runs.specs.KeysShown.{EachComesBehindKeys, EachShowsKeysSo};
 ghost use Rattle.own_runs.specs.Packets.{CapturesAreTheirPackets};
 ghost use Rattle.own_runs.specs.Runs.{DataFinsEndTheFiles, DeliveredRunsShowTheFiles, NoRunBreaks, NoWholeRunBreaks, SeenOctetsAreTheFiles, StreamsBeginTheFiles, WholeStreamsAreTheFiles};
 ghost use Rattle.own_runs.specs.Segments.{SegmentsAreFound, WrittenSegmentsAreFound};
 ghost use Rattle.own_runs.specs.Traces.{TracesAreTheirPackets, TracesAreTheirSegments};
-ghost use Rattle.own_runs.specs.WholeKept.{WholeRunsEndWell};
+ghost use Rattle.own_runs.specs.WholeKept.{DeliveredRunsAreKept, WholeRunsEndWell};
 ghost use Rattle.own_runs.specs.WholeSegments.{DeliveredRunsTellTheEnds, EachSaysWhatItBears};
 
 /// A law: what is written of a section's blocks is read as a capture of their packets, in order, each a raw IPv4 packet with all its octets.
@@ -74,11 +75,19 @@ pub fn whole_runs_break_no_rule()
     ensures data_ack { NoWholeRunBreaks DataAck }
 {}
 
+/// A law: a path opens in its order, whatever the script does (RFC 9293, section 3.5; RFC 8684, sections 3.1 and 3.2). Each SYN of B's comes behind
+/// a SYN of A's on its path. Each segment that is no SYN and no reset comes behind a SYN/ACK of B's there, which acknowledges A's SYN. It holds of
+/// every list of turns, lawful or not, where the numbers of the start fit.
+pub fn paths_open_in_order()
+    ensures { EachComesInOrder }
+{}
+
 /// A law: the judge ends well with the capture of such a run, at whichever side it was taken, and wherever the judge takes that to be. The
-/// capture is read, no side broke any rule, and each join's connection was found; or no connection was opened yet. The premises are those of
-/// `whole_runs_break_no_rule`.
+/// capture is read. At most one connection is seen, and where it is, no side broke any rule, and each join's connection was found (`ends`). Once
+/// the run is delivered it is seen (`delivered`). The premises are those of `whole_runs_break_no_rule`.
 pub fn whole_runs_end_well()
-    ensures { WholeRunsEndWell }
+    ensures ends { WholeRunsEndWell }
+    ensures delivered { DeliveredRunsAreKept }
 {}
 
 /// A law: what the judge finds of a side's stream in the capture of such a run, over all subflows, up to the first octet that isn't there, is a

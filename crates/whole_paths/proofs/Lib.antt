@@ -174,6 +174,7 @@ pub mod FilesFit
 pub mod AnswersAssure
 pub mod AsksOwed
 pub mod OfferedTaken
+pub mod TurnsBegin
 pub mod ToldEdges
 pub mod WindowRounds
 pub mod Unharmed
@@ -281,6 +282,8 @@ pub mod OldRecords
 pub mod PassedWhole
 pub mod Uncut
 pub mod WholePieces
+pub mod DataPast
+pub mod OpenQuietly
 pub mod Opened
 pub mod SignPieces
 pub mod EarlyRecords

@@ -173,7 +173,7 @@ item_same s (Some _) e = same_so e _ refl refl
 
 -- ---- duties before the book is asked
 
-treats_breaks : (d : Duty) → treats_copy d ≡ true → may_break d ≡ true
+pub treats_breaks : (d : Duty) → treats_copy d ≡ true → may_break d ≡ true
 treats_breaks (duties.Ask (ask_duties.BreakAck s reason)) is = refl
 treats_breaks (duties.Send (send_duties.BreakReset s reason)) is = refl
 treats_breaks d is = is
@@ -321,7 +321,7 @@ module _ {C : Type 0} where
     abbrev to : Duty → PathState C
     to d = answered k d (reply_of six x) (with_agenda (d ∷ ds) p)
 
-    window_offers : (s : Side) (at : ℕ) → at ≤ arriving.edge (reassembly_of s six) → x ≡ Ask.Reassembly s ReassemblyCall.AckOut → Offers at (end_at s (to (duties.Ask (ask_duties.Window s))))
+    pub window_offers : (s : Side) (at : ℕ) → at ≤ arriving.edge (reassembly_of s six) → x ≡ Ask.Reassembly s ReassemblyCall.AckOut → Offers at (end_at s (to (duties.Ask (ask_duties.Window s))))
     window_offers s at low is = subst (λ r. Offers at (end_at s (answered_ack_out s r ds (with_agenda (duties.Ask (ask_duties.Window s) ∷ ds) p)))) (sym (ap (reply_of six) is))
         (subst (λ (f : PathEnd). Offers at f) (sym (own_end s (after_ack_out (reply_of six (Ask.Reassembly s ReassemblyCall.AckOut)) (end_at s p)) p.a p.b))
         (let room = fair_book (reassembly_of s six) in omega (arith, low, room)))

@@ -118,6 +118,7 @@ pub mod FilesFit
 pub mod AnswersAssure
 pub mod AsksOwed
 pub mod OfferedTaken
+pub mod TurnsBegin
 pub mod ToldEdges
 pub mod Writers
 pub mod EndedStreams
@@ -161,6 +162,7 @@ pub mod Directions
 pub mod DirectionWaits
 pub mod CutRecords
 pub mod OpenFirst
+pub mod OpenQuietly
 pub mod SharpPaths
 pub mod SynsSoon
 pub mod FirstPiecesSoon

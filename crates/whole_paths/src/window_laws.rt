@@ -4,6 +4,9 @@ ghost use Rattle.whole_paths.specs.AsksOwed.{WhoAsksOwes};
 ghost use Rattle.whole_paths.specs.FilesFit.{FittingFilesAreNeverShut};
 ghost use Rattle.whole_paths.specs.OfferedTaken.{WhatIsToldIsTaken};
 ghost use Rattle.whole_paths.specs.ToldEdges.{WhatIsToldGoesOn};
+ghost use Rattle.path_core.specs.Octets.{octets};
+ghost use Rattle.path_core.specs.Values.{values};
+ghost use Rattle.whole_paths.specs.TurnsBegin.{EachTurnBegins};
 ghost use Rattle.whole_paths.specs.WindowsAssured.{FourRoundsAssure, WindowsAreAssured};
 
 /// A law: a window that a bare segment tells comes within 400 ticks, or the segment is harmed, though more be sent behind it (RFC 8684, section 3.3.5).
@@ -59,4 +62,14 @@ pub fn who_asks_owes()
 /// So it is on path 0 of a mild connection: of what the end knows, always, and of the edge that it told last, as long as it lives.
 pub fn what_is_told_is_taken()
     ensures { WhatIsToldIsTaken }
+{}
+
+/// A law: as each turn of a path begins, each end asks its side's reassembly book once how much it takes, before it sends or hears anything, and then tells
+/// a window that has grown (RFC 9293, section 3.8.6).
+///
+/// So it is by any turn. As the end asks, it knows then all that the book takes (`what_is_taken_is_offered`), and an Update comes next. It asks no more so
+/// until the path's turn is over and the next one begins.
+pub fn each_turn_asks_its_window()
+    ensures octets { EachTurnBegins octets }
+    ensures values { EachTurnBegins values }
 {}
