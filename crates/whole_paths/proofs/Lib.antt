@@ -288,3 +288,4 @@ pub mod OpenQuietly
 pub mod Opened
 pub mod SignPieces
 pub mod EarlyRecords
+pub mod ProbeWaits

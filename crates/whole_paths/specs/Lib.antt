@@ -171,3 +171,4 @@ pub mod AnswersSoon
 pub mod Opened
 pub mod SignPieces
 pub mod EarlyRecords
+pub mod ProbeWaits

@@ -208,6 +208,7 @@ pub use opening_laws::paths_open_owing_records;
 pub use patience_laws::patient_paths_deliver;
 pub use window_laws::each_turn_asks_its_window;
 pub use window_laws::fitting_files_are_never_shut;
+pub use window_laws::probes_go_again;
 pub use window_laws::what_comes_opens_the_window;
 pub use window_laws::what_is_told_goes_on;
 pub use window_laws::what_is_told_is_taken;
