@@ -71,7 +71,7 @@ module _ (R : ℕ → Side → PlainSegment → Type 0) (start : Start) where
           sent_so : option_to_list (sent_by p) ≡ sent_as p (departing_as p t) ∷ []
           sent_so = ap option_to_list sent_is
 
-  one_turn : (turn : Turn) (w : WorldState (List ℕ)) → WorldSpeaks start w → WorldAlso R w → Sends (sent_at turn w) (turn_sending turn w)
+  pub one_turn : (turn : Turn) (w : WorldState (List ℕ)) → WorldSpeaks start w → WorldAlso R w → Sends (sent_at turn w) (turn_sending turn w)
   one_turn Turn.Round w speaks also = inl (refl, refl)
   one_turn (Turn.Step i) w speaks also = by (slice_get w.crew i) refl
     where

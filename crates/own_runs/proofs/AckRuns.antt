@@ -194,16 +194,16 @@ module _ (whole_timed : WholeTimed) where
     room = traces_fit start turns plain.size fit run
 
     -- what is judged of its capture
-    abbrev all_judged : JudgedValue
+    abbrev pub all_judged : JudgedValue
     all_judged = judged_packets at true nothing_judged 1 (map packet_for trace)
 
-    all_read : judged_capture at true (capture_of start turns side) ≡ Ok all_judged
+    pub all_read : judged_capture at true (capture_of start turns side) ≡ Ok all_judged
     all_read =
         let few = fit.paths in
         ap (λ (m : Result (List Captured) ℕ). m >>= λ packets. Ok (judged_packets at true nothing_judged 1 packets))
         (traces_are side (length start.paths) trace (omega (arith, few)) (paths_are start timed.0 fit trace _ _ _ _ _ _ _ timed.1) room)
 
-    all_stood : Stands start timed.0 fit trace all_judged
+    pub all_stood : Stands start timed.0 fit trace all_judged
     all_stood = all_stands start timed.0 fit at trace timed.1 room
 
     pub stood : (judged : JudgedValue) → judged_capture at true (capture_of start turns side) ≡ Ok judged → Stands start timed.0 fit trace judged
@@ -252,7 +252,7 @@ module _ (whole_timed : WholeTimed) where
       told : Has (TellsEnd start s) trace
       told = delivered_ends start turns plain whole fit delivered s
 
-      file_shown : ShowsTheFile start s all_judged
+      pub file_shown : ShowsTheFile start s all_judged
       file_shown = by (slice_get all_judged.books 0) refl (all_stood.stands.ended s told)
         where
           by : (o : Option BookValue) → slice_get all_judged.books 0 ≡ o → is_some o ≡ true → ShowsTheFile start s all_judged

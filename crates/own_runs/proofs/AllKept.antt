@@ -1,20 +1,16 @@
 -- The judge ends well with the capture of a whole run: no side broke a rule, and each join's connection was found.
-use Rattle.std.proofs.Common.{◌≡◌, refl, sym, ap, ◌∙◌, ℕ, suc, arith, inl, inr, ◌⊎◌, ◌==◌, ◌&&◌, ◌||◌, not, Bool, true, false, if◌then◌else◌, Option, Some, None, Result, Ok, option_map, List, [], ◌∷◌, length, map}
+use Rattle.std.proofs.Common.{◌≡◌, refl, sym, ap, ◌∙◌, subst, ℕ, suc, arith, ◌≤◌, ◌==◌, ◌&&◌, ◌||◌, not, Bool, true, false, if◌then◌else◌, Option, Some, None, Ok, option_map, List, [], ◌∷◌, length}
 use Rattle.std.specs.List.{list_any, slice_get}
 use Rattle.std.proofs.lemmas.Bool.{both_ways, false≢true, or_from}
-use Rattle.capture_reader.specs.Captured.{Captured}
-use Rattle.capture_reader.specs.Steps.{◌>>=◌}
 use Rattle.capture_verdict.specs.Ending.{broke_rule, ending_of, has_none, is_broken, was_refused}
-use Rattle.capture_verdict.specs.Judging.{judged_capture, judged_packets}
+use Rattle.capture_verdict.specs.Judging.{judged_capture}
 use Rattle.capture_verdict.specs.declared.ending.Ending.{Ending}
 use Rattle.judge_laws.specs.GoesOn.{broke, stream_in}
 use Rattle.judge_rules.specs.Rules.{rule_number}
 use Rattle.judge_rules.specs.declared.finding.Rule.{Rule}
-use Rattle.link_trace.specs.declared.sent.Sent.{Sent}
-use Rattle.rule_book.specs.Judged.{nothing_judged}
 use Rattle.rule_book.specs.State.{BookValue, JudgedValue, stream_at}
-use Rattle.run_trace.specs.Trace.{trace_of}
 use Rattle.seen_connections.specs.Flows.{is_stray}
+use Rattle.seen_connections.specs.declared.connections.Keys.{Keys}
 use Rattle.seen_connections.specs.declared.flow.Belongs.{Belongs}
 use Rattle.seen_connections.specs.declared.flow.Flow.{Flow}
 use Rattle.seen_connections.specs.declared.flow.Opening.{Opening}
@@ -22,19 +18,16 @@ use Rattle.seen_streams.specs.State.{BrokenValue, StreamValue, same_rule}
 use Rattle.sides.specs.declared.side.Side.TheVariants.{A, B}
 use Rattle.sides.specs.declared.side.Side.{Side}
 use Rattle.world_laws.specs.NeverFalls.{IsWhole}
-use Rattle.world_laws.specs.Openings.{Start, opened_world}
+use Rattle.world_laws.specs.Openings.{Start}
 use Rattle.world_laws.specs.Promises.{IsPlain, NumbersFit}
 use Rattle.world_laws.specs.Worlds.{Turn}
 use Rattle.own_runs.specs.Fitting.{RunFits}
 use Rattle.own_runs.specs.Runs.{NoWholeRunBreaks, capture_of}
-use Rattle.own_runs.specs.Traces.{packet_for}
-use Rattle.own_runs.specs.WholeKept.{WholeRunsEndWell}
-use Rattle.own_runs.proofs.AckRuns.{no_whole_run_breaks, paths_are, stood}
-use Rattle.own_runs.proofs.Fitting.{traces_fit}
-use Rattle.own_runs.proofs.Kept.{no_run_breaks}
+use Rattle.own_runs.specs.WholeKept.{DeliveredRunsAreKept, WholeRunsEndWell}
+use Rattle.own_runs.proofs.AckRuns.{all_judged, all_read, all_stood, file_shown, no_whole_run_breaks}
+use Rattle.own_runs.proofs.Kept.{no_run_breaks, same_judged}
 use Rattle.own_runs.proofs.TimeRuns.{timed}
 use Rattle.own_runs.proofs.TokenFlows.{IsNamed, NamesIts}
-use Rattle.own_runs.proofs.Traces.{traces_are}
 
 -- ---- lists
 
@@ -101,47 +94,56 @@ named_kept flow named = by flow.opening flow.belongs named
 -- ---- a run
 
 module _ (start : Start) (turns : List Turn) (plain : IsPlain start) (whole : IsWhole start) (fit : NumbersFit start) (run : RunFits start turns) (side : Side) (at : Option Side) where
-  abbrev trace : List Sent
-  trace = trace_of turns (opened_world start)
-
   abbrev verdict : JudgedValue
-  verdict = judged_packets at true nothing_judged 1 (map packet_for trace)
+  verdict = all_judged timed start turns plain whole fit run side at
 
   is_read : judged_capture at true (capture_of start turns side) ≡ Ok verdict
-  is_read =
-      let time = timed start turns plain whole fit run in
-      let few = fit.paths in
-      ap (λ (m : Result (List Captured) ℕ). m >>= λ packets. Ok (judged_packets at true nothing_judged 1 packets))
-      (traces_are side (length start.paths) trace (omega (arith, few)) (paths_are start time.0 fit trace _ _ _ _ _ _ _ time.1) (traces_fit start turns plain.size fit run))
+  is_read = all_read timed start turns plain whole fit run side at
 
   book_kept : (i : ℕ) (book : BookValue) → slice_get verdict.books i ≡ Some book → broke_rule book ≡ false
-  book_kept i book at_i = or_from (not (has_none book.a.broken)) (not (has_none book.b.broken)) (ap not (side_kept A book.a (ap of_a at_i))) (ap not (side_kept B book.b (ap of_b at_i)))
+  book_kept i book at_i =
+      or_from (not (has_none book.a.broken)) (not (has_none book.b.broken)) (ap not (side_kept A book.a (ap (option_map (stream_at A)) at_i))) (ap not (side_kept B book.b (ap (option_map (stream_at B)) at_i)))
     where
-      of_a : Option BookValue → Option StreamValue
-      of_a o = option_map (stream_at A) o
-
-      of_b : Option BookValue → Option StreamValue
-      of_b o = option_map (stream_at B) o
-
       side_kept : (s : Side) (stream : StreamValue) → stream_in verdict i s ≡ Some stream → has_none stream.broken ≡ true
       side_kept s stream there = none_broken stream (λ r. whole_breaks r start turns plain whole fit run side at verdict is_read i s stream there)
 
   flow_kept : (i : ℕ) (flow : Flow) → slice_get verdict.seen.flows i ≡ Some flow → was_refused flow ≡ false
-  flow_kept i flow at_i = named_kept flow ((stood timed start turns plain whole fit run side at verdict is_read).stands.tokens.seen.named i flow at_i)
+  flow_kept i flow at_i = named_kept flow ((all_stood timed start turns plain whole fit run side at).stands.tokens.seen.named i flow at_i)
 
   none_accused : is_broken verdict ≡ false
   none_accused =
       or_from (list_any broke_rule verdict.books) (list_any was_refused verdict.seen.flows) (all_false broke_rule verdict.books book_kept) (all_false was_refused verdict.seen.flows flow_kept)
 
-  ends_well : (ending_of verdict ≡ Ending.Kept) ⊎ (ending_of verdict ≡ Ending.NoConnection)
-  ends_well = by (has_none verdict.books) (is_broken verdict) none_accused
+  ends : ending_of verdict ≡ (if has_none verdict.books then Ending.NoConnection else Ending.Kept)
+  ends = ap (λ (accused : Bool). if has_none verdict.books then Ending.NoConnection else (if accused then Ending.Broken else Ending.Kept)) none_accused
+
+  one_alone : length verdict.books ≤ 1
+  one_alone =
+      let stands = (all_stood timed start turns plain whole fit run side at).stands in
+      let same = stands.counts.books in
+      let few = alone verdict.seen.connections stands.tokens.one.few in
+      omega (arith, same, few)
     where
-      by : (none accused : Bool) → accused ≡ false → ((if none then Ending.NoConnection else (if accused then Ending.Broken else Ending.Kept)) ≡ Ending.Kept)
-          ⊎ ((if none then Ending.NoConnection else (if accused then Ending.Broken else Ending.Kept)) ≡ Ending.NoConnection)
-      by true accused is = inr refl
-      by false false is = inl refl
-      by false true is = absurd (false≢true (sym is))
+      alone : (xs : List Keys) → ((i : ℕ) (keys : Keys) → slice_get xs i ≡ Some keys → i ≡ 0) → length xs ≤ 1
+      alone [] few = omega arith
+      alone (x ∷ []) few = omega arith
+      alone (x ∷ y ∷ xs) few = (let never : 1 ≡ 0 = few 1 y refl in omega (arith, never))
 
 pub whole_runs_end_well : WholeRunsEndWell
-whole_runs_end_well start turns plain whole fit run side at =
-    (verdict start turns plain whole fit run side at, is_read start turns plain whole fit run side at, ends_well start turns plain whole fit run side at)
+whole_runs_end_well start turns plain whole fit run side at = (
+  verdict start turns plain whole fit run side at,
+  is_read start turns plain whole fit run side at,
+  record { one = one_alone start turns plain whole fit run side at; ending = ends start turns plain whole fit run side at },
+)
+
+pub delivered_are_kept : DeliveredRunsAreKept
+delivered_are_kept start turns plain whole fit run delivered side at judged read =
+    let mine : JudgedValue = verdict start turns plain whole fit run side at in
+    let same : mine ≡ judged = same_judged mine judged (sym (is_read start turns plain whole fit run side at) ∙ read) in
+    let shown = file_shown timed start turns plain whole fit run side at delivered A in
+    subst (λ (j : JudgedValue). ending_of j ≡ Ending.Kept) same
+    (ends start turns plain whole fit run side at ∙ ap (λ (none : Bool). if none then Ending.NoConnection else Ending.Kept) (some mine.books shown.there))
+  where
+    some : {stream : StreamValue} → (books : List BookValue) → option_map (stream_at A) (slice_get books 0) ≡ Some stream → has_none books ≡ false
+    some [] there = cc
+    some (book ∷ books) there = refl

@@ -1,17 +1,16 @@
 -- What each segment of a trace maps and bears, where its script alters nothing and takes no options away: each mapping gives its positions the
 -- places that they have at the end of the run, and each payload the octets of these places.
-use Rattle.std.proofs.Common.{◌≡◌, refl, sym, ap, ◌∙◌, subst, ℕ, suc, ◌+◌, ◌-◌, ◌≤◌, ◌<◌, ◌^◌, Bool, true, false, if◌then◌else◌, Option, Some, None, is_some, ◌⊎◌, inl, inr, List, [], ◌∷◌, ◌++◌, length, length-append, take, drop, arith}
+use Rattle.std.proofs.Common.{◌≡◌, refl, sym, ap, ◌∙◌, subst, ℕ, suc, ◌+◌, ◌≤◌, ◌<◌, ◌^◌, Bool, true, false, if◌then◌else◌, Option, Some, None, is_some, ◌⊎◌, inl, inr, List, [], ◌∷◌, ◌++◌, length, length-append, arith}
 use Rattle.std.specs.Option.{IfSome}
 use Rattle.std.specs.List.{list_any, slice_get}
 use Rattle.std.proofs.lemmas.Bool.{and_parts, both_ways, false≢true}
 use Rattle.actor_desk.specs.Books.{books_in}
 use Rattle.actor_desk.specs.Desk.{SixBooks}
 use Rattle.actor_desk.specs.Words.{pick}
-use Rattle.dss_checksum.specs.Checksum.{dss_checksum}
 use Rattle.judge_rules.specs.Numbers.{first_number}
 use Rattle.octet_text.specs.Prefix.{IsPrefix}
 use Rattle.path_core.specs.Choices.{is_side_a}
-use Rattle.path_core.specs.DssOut.{bare_mapping, checksum_in, checksum_told, first_piece_options, infinite_or, is_first_piece, mapped_options, piece_mapping, piece_options, place_numbered, plain_options}
+use Rattle.path_core.specs.DssOut.{first_piece_options, infinite_or, is_first_piece, mapped_options, piece_mapping, piece_options, plain_options}
 use Rattle.path_core.specs.End.{PathEnd}
 use Rattle.path_core.specs.Looking.{first_sends, segment_sent}
 use Rattle.path_core.specs.Octets.{octets}
@@ -21,10 +20,7 @@ use Rattle.path_core.specs.Said.{said_by}
 use Rattle.path_core.specs.Shown.{shown_path}
 use Rattle.path_core.specs.State.{end_at, PathState, path_of}
 use Rattle.path_core.specs.Values.{Carried, values}
-use Rattle.path_segments.specs.Options.{relative_number}
 use Rattle.path_segments.specs.Spelled.{PlainSegment}
-use Rattle.path_segments.specs.declared.segment.PathMapping.TheVariants.{Bytes, End, Infinite}
-use Rattle.path_segments.specs.declared.segment.PathMapping.{PathMapping}
 use Rattle.path_segments.specs.declared.segment.PathOption.TheVariants.{Dss}
 use Rattle.path_store.specs.declared.infinite_mapping.InfiniteMapping.{InfiniteMapping}
 use Rattle.send_book.specs.State.{Sending}
@@ -35,17 +31,16 @@ use Rattle.stream_lanes.proofs.Lists.{in_map}
 use Rattle.stream_lanes.specs.Duo.{Duo}
 use Rattle.stream_lanes.specs.Holding.{Holds, LaneHolds}
 use Rattle.stream_lanes.specs.Lane.{Lane}
-use Rattle.stream_lanes.specs.Moves.{bytes_of}
 use Rattle.stream_lanes.specs.View.{View, end_of}
 use Rattle.subflow_send.specs.Records.{Record}
 use Rattle.subflow_send.specs.declared.record.RecordKind.TheVariants.{Syn, Data, Fin}
 use Rattle.subflow_send.specs.declared.record.RecordKind.{RecordKind}
 use Rattle.world_laws.proofs.Lanes.Answering.{BeginsFirst}
 use Rattle.world_laws.proofs.Lanes.OfAWorld.{Carries as MayCarry, PathIsSteady, PathThere, Reached, WorldShows, plainly, plainly_free, duo_of, free_run}
-use Rattle.world_laws.proofs.Lanes.Showing.{EndShows, HasMapping, IsPiece, IsSummed, KindShows, OwnIs}
+use Rattle.world_laws.proofs.Lanes.Showing.{EndShows, KindShows, OwnIs}
 use Rattle.world_laws.proofs.Numbers.EveryTurn.{always_tells}
 use Rattle.world_laws.proofs.Numbers.PathSteps.{PathTells}
-use Rattle.world_laws.proofs.Numbers.TellSmall.{EndTells, RecordKindTells}
+use Rattle.world_laws.proofs.Numbers.TellSmall.{EndTells}
 use Rattle.world_laws.proofs.Promises.Made.{run_fresh}
 use Rattle.world_laws.proofs.Whole.Falls.{each_upright}
 use Rattle.world_laws.proofs.Worlds.CastLifting.{each_actor, path_actor, writes_the_files}
@@ -59,52 +54,25 @@ use Rattle.world_laws.specs.Openings.{Start, path_begins, opened_world}
 use Rattle.world_laws.specs.Promises.{NumbersFit, IsPlain}
 use Rattle.world_laws.specs.Worlds.{WorldState, Turn, world_run}
 use Rattle.world_laws.specs.declared.member.Member.TheVariants.{App, Path}
+pub use Rattle.own_runs.proofs.EndMaps.{IsMapped, MappedOn, content, file_len, lane_of, place_at}
+use Rattle.own_runs.proofs.EndMaps.{end_told, kind_so, known_so}
 use Rattle.own_runs.proofs.Bearing.{Carries, RecordsCarry, first_carries, maps_octets}
 use Rattle.own_runs.proofs.KeyedPieces.{EndKeyed, HasKey, KindNeeds, Needs, always_keyed}
-use Rattle.own_runs.proofs.MapPlaces.{bears, first_at, octet_in, place_on, sits, stretch, written_within}
-use Rattle.own_runs.proofs.MapPositions.{Bears, Sit, contents, header}
+use Rattle.own_runs.proofs.MapPlaces.{bears, first_at, place_on}
+use Rattle.own_runs.proofs.MapPositions.{Bears}
 use Rattle.own_runs.proofs.Moments.{MemberAlso, PathAlso, WorldAlso, end_shown, first_same}
-use Rattle.own_runs.proofs.Numbered.{whole_so}
-use Rattle.own_runs.proofs.Offering.{AllFine, EndFine, FirstFine, RecordFine, first_fine_sent}
+use Rattle.own_runs.proofs.Offering.{AllFine, EndFine, first_fine_sent}
 use Rattle.own_runs.proofs.Own.{own_key}
 use Rattle.own_runs.proofs.Reached.{duo_at, run_reaches}
 use Rattle.own_runs.proofs.SentGrows.{Grows, Longer}
 use Rattle.own_runs.proofs.Speaking.{ToSend}
 use Rattle.own_runs.proofs.Values.{drawn}
 
--- the octets of a side's file
-abbrev pub file_len : Start → Side → ℕ
-file_len start s = length (pick s start.file_a start.file_b)
-
--- the octet of a place of a side's file
-abbrev pub content : Start → Side → ℕ → ℕ
-content start s = octet_in (pick s start.file_a start.file_b)
-
--- ---- by the lanes of the last moment
-
-abbrev pub lane_of : Duo → ℕ → Side → Option Lane
-lane_of last path s = slice_get (pick s last.ab.lanes last.ba.lanes) path
-
-abbrev pub place_at : Option Lane → ℕ → ℕ
-place_at None p = 0
-place_at (Some l) p = place_on l p
-
--- a mapping that was told on such a lane, with the number of place 0
-abbrev pub MappedOn : (ℕ → ℕ) → ℕ → Option Lane → PathMapping ℕ → Type 0
-MappedOn octet first lane (Bytes place position len fin checksum) =
-    Sit (place_at lane) position place len
-    × IfSome checksum (λ sum. sum ≡ dss_checksum (header first place (relative_number position) len) (contents (λ p. octet (place_at lane p)) position len))
-MappedOn octet first lane (End place checksum) = IfSome checksum (λ sum. sum ≡ dss_checksum (header first place 0 1) [])
-MappedOn octet first lane (Infinite place position) = Unit {0}
-
 -- a payload at a position
 abbrev pub BorneOn : (ℕ → ℕ) → Option Lane → ℕ → List ℕ → Type 0
 BorneOn octet lane position payload = (position + length payload < 2 ^ 31) × Bears (λ p. octet (place_at lane p)) position payload
 
 module _ (start : Start) (last : Duo) (path : ℕ) where
-  abbrev pub IsMapped : Side → PathMapping ℕ → Type 0
-  IsMapped s mapping = MappedOn (content start s) (first_number (own_key (drawn start) s)) (lane_of last path s) mapping
-
   abbrev pub IsBorne : Side → ℕ → List ℕ → Type 0
   IsBorne s position payload = BorneOn (content start s) (lane_of last path s) position payload
 
@@ -114,7 +82,7 @@ module _ (start : Start) (last : Duo) (path : ℕ) where
 
   -- what a segment maps and bears
   abbrev pub Offers : Side → PlainSegment → Type 0
-  Offers s sg = AllFine (file_len start) IsMapped ⊥ s sg.options × Carries BearsMapped s sg
+  Offers s sg = AllFine (file_len start) (IsMapped start last path) ⊥ ⊥ s sg.options × Carries BearsMapped s sg
 
 -- ---- a path at a moment
 
@@ -202,66 +170,9 @@ module _ (start : Start) (turns : List Turn) (plain : IsPlain start) (whole : Is
       abbrev octet_at : ℕ → ℕ
       octet_at p = content start s (place_on later p)
 
-      upto : length view.written ≤ file_len start s
-      upto = file_length (pick s start.file_a start.file_b) view.written begins
-
       own_none : e.modes.own_infinite ≡ None
       own_none = (elim e.modes.own_infinite as (λ o. IfSome o (OwnIs out.pair out.pairs out.fins out.alters) → o ≡ None)
           [ None ↦ λ own. refl | Some mapping ↦ λ own. absurd (both_ways out.alters unaltered own.may) ]) shown.pairs.0
-
-      abbrev Told : PathMapping ℕ → Type 0
-      Told mapping = IsMapped start last n s mapping
-
-      -- the checksum that is told of a mapping
-      sum_so : (place position len checksum : ℕ) → 1 ≤ position → IsSummed c s out.sent place position len checksum
-          → IfSome (checksum_told c checksum) (λ sum. sum ≡ dss_checksum (header first place (relative_number position) len) (contents octet_at position len))
-      sum_so place position len checksum behind is = by c.spelling.checksums refl
-        where
-          by : (b : Bool) → c.spelling.checksums ≡ b
-              → IfSome (if b then Some checksum else None) (λ sum. sum ≡ dss_checksum (header first place (relative_number position) len) (contents octet_at position len))
-          by false uses = tt
-          by true uses =
-              is.right uses
-              ∙ ap (λ (number : ℕ). dss_checksum (record { number = number; relative = relative_number position; length = len; checksum = 0 })
-              (take len (drop (position - 1) (bytes_of out.sent)))) (whole_so start n there.plan s place)
-              ∙ ap (dss_checksum (header first place (relative_number position) len))
-              (stretch view n out later hold longer (pick s start.file_a start.file_b) begins len (position - 1) position (omega (arith, behind)) is.within)
-
-      told_so : (place position len checksum : ℕ) → HasMapping out.datas place position len → IsSummed c s out.sent place position len checksum
-          → Told (Bytes place position len false (checksum_told c checksum))
-      told_so place position len checksum has is =
-          subst (λ (o : Option Lane). MappedOn (content start s) first o (Bytes place position len false (checksum_told c checksum))) (sym later_there)
-          (sits view n out later hold longer place position len has, sum_so place position len checksum (let at_one = has.holds.is.position_is in omega (arith, at_one)) is)
-
-      -- and of the DATA_FIN
-      end_told : (place : ℕ) → Told (End place (checksum_told c (checksum_in c (bare_mapping c s place 0 1) [])))
-      end_told place = by c.spelling.checksums
-        where
-          by : (b : Bool) → IfSome (if b then Some (if b then dss_checksum (bare_mapping c s place 0 1) [] else 0) else None) (λ sum. sum ≡ dss_checksum (header first place 0 1) [])
-          by false = tt
-          by true =
-              ap (λ (number : ℕ). dss_checksum (record { number = number; relative = 0; length = 1; checksum = 0 }) []) (whole_so start n there.plan s place)
-
-      -- a piece that A sends as long as it may send no DSS
-      begins_so : (r : Record) → IsPiece c s out.alters out.sent out.datas r → FirstFine (file_len start) (IsMapped start last n) ⊥ c s e.modes.clear r
-      begins_so r is own unclear one =
-          let place = place_numbered c s r.mapping.number in
-          let len = r.mapping.length in
-          let has : HasMapping out.datas place 1 len = subst (λ (p : ℕ). HasMapping out.datas place p len) one is.mapping in
-          let zero_at : place ≡ 0 = first_is own unclear place len has in
-          subst (λ (q : ℕ). Told (Bytes q 1 len false (checksum_told c r.mapping.checksum))) zero_at
-          (told_so place 1 len r.mapping.checksum has (subst (λ (p : ℕ). IsSummed c s out.sent place p len r.mapping.checksum) one is.summed))
-
-      kind_so : (kind : RecordKind) (r : Record) → KindShows c s out.alters out.sent out.datas out.fins kind r → RecordKindTells c s kind r
-          → RecordFine (file_len start) (IsMapped start last n) ⊥ c s e.modes.clear kind r
-      kind_so Syn r is kept = tt
-      kind_so Fin r is kept = tt
-      kind_so Data r is kept = (
-        kept.0,
-        let within = written_within view n (place_numbered c s r.mapping.number) r.pos r.mapping.length out hold is.mapping kept.0 in let most = upto in omega (arith, within, most),
-        told_so (place_numbered c s r.mapping.number) r.pos r.mapping.length r.mapping.checksum is.mapping is.summed,
-        begins_so r is,
-      )
 
       -- what a record bears
       none_bears : (position : ℕ) (piece : List ℕ) → piece ≡ [] → Bears octet_at position piece
@@ -310,23 +221,16 @@ module _ (start : Start) (turns : List Turn) (plain : IsPlain start) (whole : Is
       unfailed None may = tt
       unfailed (Some place) may = both_ways out.alters unaltered may
 
-      known_so : IfSome e.sending.known_end (λ k. k ≡ file_len start s)
-      known_so = subst (λ (o : Option ℕ). IfSome o (λ k. k ≡ file_len start s)) shown.sender.same_end (by out.known_end hold.ends.told)
-        where
-          by : (o : Option ℕ) → IfSome o (λ k. view.end ≡ Some k) → IfSome o (λ k. k ≡ file_len start s)
-          by None is = tt
-          by (Some k) is = ends k is
-
-      end_so : EndFine (file_len start) (IsMapped start last n) ⊥ c s e × RecordsCarry (BearsMapped start last n) c s e
+      end_so : EndFine (file_len start) (IsMapped start last n) ⊥ ⊥ c s e × RecordsCarry (BearsMapped start last n) c s e
       end_so = (
         record {
           identity = λ is. false≢true (sym identity ∙ is);
           infinite = subst (λ (o : Option InfiniteMapping). IfSome o (λ _. ⊥)) (sym own_none) tt;
           told = unfailed e.modes.failed_mapping shown.pairs.4;
           telling = unfailed e.treated.failed_mapping shown.pairs.5;
-          known = known_so;
-          ends = λ place is. end_told place;
-          records = record { each = λ i r there_one. kind_so r.kind r (shown.sender.pieces.each i r there_one) (tells.sender.records.each i r there_one).mapped };
+          known = known_so start last n there.plan s e out back view shown hold begins ends later later_there longer first_is ⊥ ⊥;
+          ends = λ place is. end_told start last n there.plan s e out back view shown hold begins ends later later_there longer first_is ⊥ ⊥ place;
+          records = record { each = λ i r there_one. kind_so start last n there.plan s e out back view shown hold begins ends later later_there longer first_is ⊥ ⊥ r.kind r (shown.sender.pieces.each i r there_one) (tells.sender.records.each i r there_one).mapped };
         },
         bears_so,
       )
@@ -339,7 +243,7 @@ module _ (start : Start) (turns : List Turn) (plain : IsPlain start) (whole : Is
         by true whole is = let same : length b.written ≡ k = cc in sym same ∙ ap length (whole refl)
         by false whole is = cc
 
-    fine : (s : Side) → EndFine (file_len start) (IsMapped start last n) ⊥ c s (end_at s p) × RecordsCarry (BearsMapped start last n) c s (end_at s p)
+    fine : (s : Side) → EndFine (file_len start) (IsMapped start last n) ⊥ ⊥ c s (end_at s p) × RecordsCarry (BearsMapped start last n) c s (end_at s p)
     fine A =
         let hold = holds.ab.lanes.each n n there.ab (omega arith) there.ab_there in
         let later = grows.ab n there.ab there.ab_there in
@@ -355,17 +259,17 @@ module _ (start : Start) (turns : List Turn) (plain : IsPlain start) (whole : Is
     offers : PathOffers start last p
     offers = subst (λ (k : ℕ). IfSome (first_sends p.agenda p) (λ t. Offers start last k t.from (segment_sent p t))) (sym there.numbered) (by (first_sends p.agenda p) maps carries)
       where
-        maps : IfSome (first_sends p.agenda p) (λ t. AllFine (file_len start) (IsMapped start last n) ⊥ t.from (segment_sent p t).options)
+        maps : IfSome (first_sends p.agenda p) (λ t. AllFine (file_len start) (IsMapped start last n) ⊥ ⊥ t.from (segment_sent p t).options)
         maps =
-            first_fine_sent (file_len start) (IsMapped start last n) ⊥ p
-            (λ s. subst (λ (d : Profile). EndFine (file_len start) (IsMapped start last n) ⊥ d s (end_at s p)) (sym there.shows.profile) (fine s).0) p.agenda
+            first_fine_sent (file_len start) (IsMapped start last n) ⊥ ⊥ p
+            (λ s. subst (λ (d : Profile). EndFine (file_len start) (IsMapped start last n) ⊥ ⊥ d s (end_at s p)) (sym there.shows.profile) (fine s).0) p.agenda
 
         carries : IfSome (first_sends p.agenda p) (λ t. Carries (BearsMapped start last n) t.from (segment_sent p t))
         carries =
             first_carries (BearsMapped start last n) p
             (λ s. subst (λ (d : Profile). RecordsCarry (BearsMapped start last n) d s (end_at s p)) (sym there.shows.profile) (fine s).1) p.agenda
 
-        by : (o : Option ToSend) → IfSome o (λ t. AllFine (file_len start) (IsMapped start last n) ⊥ t.from (segment_sent p t).options)
+        by : (o : Option ToSend) → IfSome o (λ t. AllFine (file_len start) (IsMapped start last n) ⊥ ⊥ t.from (segment_sent p t).options)
             → IfSome o (λ t. Carries (BearsMapped start last n) t.from (segment_sent p t)) → IfSome o (λ t. Offers start last n t.from (segment_sent p t))
         by None one other = tt
         by (Some t) one other = (one, other)

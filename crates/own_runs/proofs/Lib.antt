@@ -4,6 +4,7 @@ mod AckRuns
 mod AckTrace
 mod Acking
 mod Acknowledged
+mod ActorNumbers
 mod AgendaFits
 mod AllKept
 mod AnswersAsked
@@ -19,6 +20,7 @@ mod ClearKnows
 mod ComesTimes
 mod Counted
 mod DutiesFew
+mod EndMaps
 mod EndMarks
 mod EndPaths
 mod EndRuns
@@ -33,6 +35,7 @@ mod Granting
 mod Grants
 mod Handed
 mod Handing
+mod HandshakeTrace
 mod HeardKnows
 mod InTime
 mod Ipv4

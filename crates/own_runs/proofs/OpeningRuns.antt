@@ -1,4 +1,4 @@
--- At every moment of a whole run: both SYNs of a path are acknowledged at an end only where B's SYN/ACK was sent, which acknowledges A's SYN; B answers a SYN that was
+-- At every moment of a run: both SYNs of a path are acknowledged at an end only where B's SYN/ACK was sent, which acknowledges A's SYN; B answers a SYN that was
 -- sent; and an end that sent a reset behind a SYN of B's is dead.
 use Rattle.std.proofs.Common.{append_assoc, append-nil, ◌≡◌, refl, sym, ap, ◌∙◌, subst, ℕ, suc, ◌+◌, inl, inr, ◌⊎◌, ⊎_elim, Bool, true, false, if◌then◌else◌, Option, Some, None, List, [], ◌∷◌, ◌++◌, map}
 use Rattle.std.specs.List.{slice_get}
@@ -42,13 +42,12 @@ use Rattle.world_laws.proofs.Rounds.Frame.{first_keeps, takes_keeps}
 use Rattle.world_laws.proofs.Worlds.Opened.{opened_actors}
 use Rattle.world_laws.specs.Actors.{Actor, ActorCrew, member_asks, member_next, member_takes}
 use Rattle.world_laws.specs.Fresh.{shown_crew, shown_member}
-use Rattle.world_laws.specs.NeverFalls.{IsWhole}
 use Rattle.world_laws.specs.Openings.{PathPlan, Start, joins_at, new_path, opened_world, path_begins}
-use Rattle.world_laws.specs.Promises.{IsPlain, NumbersFit}
+use Rattle.world_laws.specs.Promises.{HasRoom, NumbersFit}
 use Rattle.world_laws.specs.Worlds.{Turn, WorldState, after_turn, all_over, asked, begins, crew_after, greatest, stepped, world_run}
 use Rattle.world_laws.specs.declared.member.Member.TheVariants.{App, Path}
 use Rattle.own_runs.proofs.AgendaFits.{FitsAt, Fits, Led, Owes, OwesAt, duty_owes, is_weighty, owes_settles}
-use Rattle.own_runs.proofs.BookMoments.{numbered}
+use Rattle.own_runs.proofs.ActorNumbers.{actor_is}
 use Rattle.own_runs.proofs.ComesTimes.{crew_at}
 use Rattle.own_runs.proofs.DutiesFew.{IsNoEvent}
 use Rattle.own_runs.proofs.InTime.{AnswersAt, IsSynAck, OpensAt as SynAt, ResetsAt, Sending, SynsAt, WasReset, WasSaid, crew_sending, member_sending, none_reset, none_said, reset_split, sending_as, turn_sending, was_last, was_more, was_split}
@@ -201,7 +200,7 @@ module _ (U T V U' T' V' : Type 0) (X X' : Side → Type 0) (u : U → U') (t : 
   more_owes p (inl free) = inl free
   more_owes p (inr led) = inr (more_led p.agenda p led)
 
-module _ (start : Start) (plain : IsPlain start) (whole : IsWhole start) (fit : NumbersFit start) where
+module _ (start : Start) (size : HasRoom start) (fit : NumbersFit start) where
   abbrev v : List Turn → WorldState Carried
   v before = world_run values before (opened_world start)
 
@@ -268,7 +267,7 @@ module _ (start : Start) (plain : IsPlain start) (whole : IsWhole start) (fit : 
         by Turn.Round is_turn = none (sym (ap (λ (t : Turn). turn_sending t (world_run octets before (opened_world start))) is_turn) ∙ is)
         by (Turn.Step actor) is_turn =
             crews actor is_turn (slice_get (v before).crew actor) refl
-            (sym (ap crew_sending (ap (λ (w : WorldState (List ℕ)). slice_get w.crew actor) (run_fresh start before plain.size fit) ∙ crew_at (v before).crew actor))
+            (sym (ap crew_sending (ap (λ (w : WorldState (List ℕ)). slice_get w.crew actor) (run_fresh start before size fit) ∙ crew_at (v before).crew actor))
             ∙ sym (ap (λ (t : Turn). turn_sending t (world_run octets before (opened_world start))) is_turn) ∙ is)
 
     same_segment : (p : PathState Carried) (t : ToSend) → segment_sent (shown_path p) t ≡ segment_sent p t
@@ -289,8 +288,8 @@ module _ (start : Start) (plain : IsPlain start) (whole : IsWhole start) (fit : 
       own_so : (y : Sending) → turn_sending turn (world_run octets before (opened_world start)) ≡ Some y → y.path ≡ n → Own y
       own_so y is path =
           let here : Here y = here_so y is in
-          let at : here.actor ≡ suc (suc (path_of here.path)) = numbered start plain whole fit before here.actor here.crew here.there here.path here.member in
-          let own : i ≡ suc (suc n) = numbered start plain whole fit before i c there p is_path in
+          let at : here.actor ≡ suc (suc (path_of here.path)) = actor_is start size before here.actor here.crew here.there here.path here.member in
+          let own : i ≡ suc (suc n) = actor_is start size before i c there p is_path in
           let number : path_of here.path ≡ n = sym (ap (λ (z : Sending). z.path) here.same) ∙ path in
           let actor : here.actor ≡ i = at ∙ ap (λ (m : ℕ). suc (suc m)) number ∙ sym own in
           let crew : here.crew ≡ c = same_Some here.crew c (sym here.there ∙ ap (λ (m : ℕ). slice_get (v before).crew m) actor ∙ there) in
@@ -393,7 +392,7 @@ module _ (start : Start) (plain : IsPlain start) (whole : IsWhole start) (fit : 
           turn_sends : (t : ToSend) → first_sends p.agenda p ≡ Some t → turn_sending turn (world_run octets before (opened_world start)) ≡ Some (sending_as (shown_path p) t)
           turn_sends t next =
               ap (λ (x : Turn). turn_sending x (world_run octets before (opened_world start))) is_turn
-              ∙ ap (λ (w : WorldState (List ℕ)). crew_sending (slice_get w.crew i)) (run_fresh start before plain.size fit)
+              ∙ ap (λ (w : WorldState (List ℕ)). crew_sending (slice_get w.crew i)) (run_fresh start before size fit)
               ∙ ap crew_sending (crew_at (v before).crew i ∙ ap (option_map shown_crew) there)
               ∙ ap (λ (m : Actor Carried). member_sending (shown_member m)) is_path
               ∙ ap (λ (o : Option ToSend). option_map (sending_as (shown_path p)) o) (first_same p.agenda p ∙ next)

@@ -26,7 +26,7 @@ use Rattle.world_laws.proofs.Promises.Made.{run_fresh}
 use Rattle.world_laws.specs.Actors.{Actor, ActorCrew}
 use Rattle.world_laws.specs.NeverFalls.{IsWhole}
 use Rattle.world_laws.specs.Openings.{Start, opened_world}
-use Rattle.world_laws.specs.Promises.{IsPlain, NumbersFit}
+use Rattle.world_laws.specs.Promises.{HasRoom, IsPlain, NumbersFit}
 use Rattle.world_laws.specs.Worlds.{Turn, WorldState, world_run}
 use Rattle.world_laws.specs.declared.member.Member.TheVariants.{App, Path}
 use Rattle.own_runs.specs.KeysShown.{KeysShownSo, bears_option, shows_key, shows_keys}
@@ -59,16 +59,16 @@ pub record LeftAt (start : Start) (before : List Turn) (path : ℕ) (s : Side) (
 
 -- ---- what is sent next
 
-module _ (start : Start) (plain : IsPlain start) (whole : IsWhole start) (fit : NumbersFit start) (turns : List Turn) where
+module _ (start : Start) (size : HasRoom start) (fit : NumbersFit start) (turns : List Turn) where
   abbrev v : WorldState Carried
   v = world_run values turns (opened_world start)
 
   -- but for the key
   pub record OpensSo (path : ℕ) (s : Side) (sg : PlainSegment) : Type 0 where
-    pub answers : s ≡ B → IsSynAck sg → WasSaid start (OpensAt path) turns
+    pub answers : s ≡ B → sg.syn ≡ true → WasSaid start (OpensAt path) turns
     pub behind : sg.syn ≡ false → sg.rst ≡ false → WasSaid start (AnswersAt path) turns × (WasReset start path s turns → ⊥)
 
-  path_so : (p : PathState Carried) → IsSettled p → PathSo start plain whole fit turns p → PathAlso OpensSo p
+  path_so : (p : PathState Carried) → IsSettled p → PathSo start size fit turns p → PathAlso OpensSo p
   path_so p settles h = by (first_sends p.agenda p) (sends_at (WasSaid start (OpensAt n) turns) (WasSaid start (AnswersAt n) turns) (WasSaid start (SynsAt n) turns) (λ s. WasReset start n s turns) p h.0 p.agenda h.1 settles)
     where
       n : ℕ
@@ -85,21 +85,21 @@ module _ (start : Start) (plain : IsPlain start) (whole : IsWhole start) (fit : 
       by : (o : Option ToSend) → IfSome o (SendsWell p) → IfSome o (λ t. OpensSo n t.from (segment_sent p t))
       by None well = tt
       by (Some t) well = record {
-        answers = λ of_b is. h.0.asked (subst (λ (s : Side). is_closed_to_segments (end_at s p).tcp.state ≡ false) of_b (well.opened (inr is.syn)));
+        answers = λ of_b syn. h.0.asked (subst (λ (s : Side). is_closed_to_segments (end_at s p).tcp.state ≡ false) of_b (well.opened (inr syn)));
         behind = λ syn rst. let is = well.plain syn rst in
             (met t.from is, λ said. both_ways (is_dead (end_at t.from p).tcp.state) (met_so (end_at t.from p).tcp.state is).living (fell t.from said));
       }
 
-  opens_so : WorldAlso OpensSo (world_run octets turns (opened_world start))
+  pub opens_so : WorldAlso OpensSo (world_run octets turns (opened_world start))
   opens_so =
-      subst (λ (w : WorldState (List ℕ)). WorldAlso OpensSo w) (sym (run_fresh start turns plain.size fit))
-      (also_shown OpensSo v (λ i c at. by i c at c.member refl (opens_at start plain whole fit turns i c at)))
+      subst (λ (w : WorldState (List ℕ)). WorldAlso OpensSo w) (sym (run_fresh start turns size fit))
+      (also_shown OpensSo v (λ i c at. by i c at c.member refl (opens_at start size fit turns i c at)))
     where
       settled_at : (i : ℕ) (c : ActorCrew Carried) → slice_get v.crew i ≡ Some c → (p : PathState Carried) → c.member ≡ Path p → IsSettled p
       settled_at i c there p is_path =
           (subst (MemberIs start.key_a start.key_b true (books_in v.books)) is_path ((run_met start.key_a start.key_b turns (opened_world start) (opened_met start)).keys.crew.each i c there)).settled
 
-      by : (i : ℕ) (c : ActorCrew Carried) → slice_get v.crew i ≡ Some c → (m : Actor Carried) → c.member ≡ m → MemberOpens start plain whole fit turns m → MemberAlso OpensSo m
+      by : (i : ℕ) (c : ActorCrew Carried) → slice_get v.crew i ≡ Some c → (m : Actor Carried) → c.member ≡ m → MemberOpens start size fit turns m → MemberAlso OpensSo m
       by i c at (App a) is h = tt
       by i c at (Path p) is h = path_so p (settled_at i c at p is) h
 
@@ -149,9 +149,9 @@ module _ (start : Start) (plain : IsPlain start) (whole : IsWhole start) (fit : 
 
 left_so : (start : Start) (plain : IsPlain start) (whole : IsWhole start) (fit : NumbersFit start) (turns : List Turn) (path : ℕ) (s : Side) (sg : PlainSegment)
     → (is_bearing sg ≡ true → list_any bears_option sg.options ≡ true) → (s ≡ A → list_any bears_option sg.options ≡ true → WasSaid start KeyAt turns)
-    → OpensSo start plain whole fit turns path s sg → BearsPlain path s sg → LeftAt start turns path s sg
+    → OpensSo start plain.size fit turns path s sg → BearsPlain path s sg → LeftAt start turns path s sg
 left_so start plain whole fit turns path s sg option key opens bears = record {
-  answers = λ joins of_b is. opens.answers of_b is;
+  answers = λ joins of_b is. opens.answers of_b is.syn;
   plain = λ syn rst. (opens.behind syn rst).0;
   bears = λ is. let it = bears.bears is in (opens.behind it.0 it.1).1;
   key = λ is of_a. inl (key of_a (option is));
@@ -162,12 +162,12 @@ whole_left start turns plain whole fit =
     let w : WorldState (List ℕ) = world_run octets turns (opened_world start) in
     let acks = whole_acks start turns plain whole fit in
     let Keyed : ℕ → Side → PlainSegment → Type 0 = λ path s sg. s ≡ A → list_any bears_option sg.options ≡ true → WasSaid start KeyAt turns in
-    world_map (λ path s sg. (OfferedAndAcked start acks.0 (trace_of turns (opened_world start)) path s sg × Keyed path s sg) × (OpensSo start plain whole fit turns path s sg × BearsPlain path s sg))
+    world_map (λ path s sg. (OfferedAndAcked start acks.0 (trace_of turns (opened_world start)) path s sg × Keyed path s sg) × (OpensSo start plain.size fit turns path s sg × BearsPlain path s sg))
     (LeftAt start turns) w
     (λ path s sg it. left_so start plain whole fit turns path s sg (λ is. bearing_option start acks.0 path s sg it.0.0.0 is) it.0.1 it.1.0 it.1.1)
-    (both_worlds (λ path s sg. OfferedAndAcked start acks.0 (trace_of turns (opened_world start)) path s sg × Keyed path s sg) (λ path s sg. OpensSo start plain whole fit turns path s sg × BearsPlain path s sg) w
+    (both_worlds (λ path s sg. OfferedAndAcked start acks.0 (trace_of turns (opened_world start)) path s sg × Keyed path s sg) (λ path s sg. OpensSo start plain.size fit turns path s sg × BearsPlain path s sg) w
     (both_worlds (OfferedAndAcked start acks.0 (trace_of turns (opened_world start))) Keyed w (acks.1 turns [] (append-nil turns)) (key_shown start plain whole fit turns))
-    (both_worlds (OpensSo start plain whole fit turns) BearsPlain w (opens_so start plain whole fit turns) (bears_at start plain.size fit turns)))
+    (both_worlds (OpensSo start plain.size fit turns) BearsPlain w (opens_so start plain.size fit turns) (bears_at start plain.size fit turns)))
 
 in_time : (start : Start) (before : List Turn) (path : ℕ) (s : Side) (sg : PlainSegment) → LeftAt start before path s sg → KeysShownSo path s sg → BearsPlain path s sg → ComesAt start before path s sg
     → TimeAt start before path s sg

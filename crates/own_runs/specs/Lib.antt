@@ -2,6 +2,7 @@ pub mod Arrivals
 pub mod Counting
 pub mod Fitting
 pub mod Granting
+pub mod Handshakes
 pub mod KeysShown
 pub mod Packets
 pub mod Runs

@@ -2,12 +2,13 @@
 ghost use Rattle.judge_rules.specs.declared.finding.Rule.TheVariants.{AddressHmac, DataAck, DataFin, DssSum, Fail, FastCloseKey, Form, Infinite, JoinHmac, Keys, Mapping, PlaceContent, Token, Within};
 ghost use Rattle.own_runs.specs.Arrivals.{EachAckIsCarried, EachAckRises, WhatCameWasSent};
 ghost use Rattle.own_runs.specs.Fitting.{TracesFit};
+ghost use Rattle.own_runs.specs.Handshakes.{EachComesInOrder};
 ghost use Rattle.own_runs.specs.KeysShown.{EachComesBehindKeys, EachShowsKeysSo};
 ghost use Rattle.own_runs.specs.Packets.{CapturesAreTheirPackets};
-ghost use Rattle.own_runs.specs.Runs.{DataFinsEndTheFiles, DeliveredRunsShowTheFiles, NoRunBreaks, NoWholeRunBreaks, SeenOctetsAreTheFiles, StreamsBeginTheFiles, WholeStreamsAreTheFiles};
+ghost use Rattle.own_runs.specs.Runs.{DataFinsEndTheFiles, DeliveredRunsShowTheFiles, NoPlainRunBreaks, NoRunBreaks, NoWholeRunBreaks, SeenOctetsAreTheFiles, StreamsBeginTheFiles, WholeStreamsAreTheFiles};
 ghost use Rattle.own_runs.specs.Segments.{SegmentsAreFound, WrittenSegmentsAreFound};
 ghost use Rattle.own_runs.specs.Traces.{TracesAreTheirPackets, TracesAreTheirSegments};
-ghost use Rattle.own_runs.specs.WholeKept.{WholeRunsEndWell};
+ghost use Rattle.own_runs.specs.WholeKept.{DeliveredRunsAreKept, WholeRunsEndWell};
 ghost use Rattle.own_runs.specs.WholeSegments.{DeliveredRunsTellTheEnds, EachSaysWhatItBears};
 
 /// A law: what is written of a section's blocks is read as a capture of their packets, in order, each a raw IPv4 packet with all its octets.
@@ -40,6 +41,7 @@ pub fn traces_are_their_segments()
 /// HMACs of both keys and nonces (`join_hmac`, section 3.2), an ADD_ADDR that of its address (`address_hmac`, section 3.4.1), and MP_FASTCLOSE
 /// the key of its receiver (`fast_close_key`, section 3.5). Nor is payload sent outside of a mapping of its segment (`within`, section 3.3.1),
 /// nor has a position of a subflow two places, nor a number none (`mapping`), and each checksum is that of its mapping and its octets (`dss_sum`).
+/// Where the script alters no payload no MP_FAIL names what is no mapping (`fail`, section 3.7), as there is none.
 ///
 /// The capture is that of a trace (`traces_are_their_segments`), with sums checked. It holds of every list of turns, lawful or not, whatever the
 /// script takes away or alters, where the numbers of the start fit and the run fits a capture (`traces_are_their_segments`), and wherever the
@@ -54,6 +56,7 @@ pub fn own_runs_break_no_rule()
     ensures within { NoRunBreaks Within }
     ensures mapping { NoRunBreaks Mapping }
     ensures dss_sum { NoRunBreaks DssSum }
+    ensures fail { NoPlainRunBreaks Fail }
 {}
 
 /// A law: where the script alters no payload and takes no options away, no side is told to break a rule on the end of a stream: the DATA_FIN
@@ -74,11 +77,20 @@ pub fn whole_runs_break_no_rule()
     ensures data_ack { NoWholeRunBreaks DataAck }
 {}
 
+/// A law: a path opens in its order, whatever the script does (RFC 9293, section 3.5; RFC 8684, sections 3.1 and 3.2). Each SYN of B's comes behind
+/// a SYN of A's on its path. Each segment that is no SYN and no reset comes behind a SYN/ACK of B's there, which acknowledges A's SYN. And each SYN
+/// of A's that joins the connection comes behind the SYN/ACK of path 0. It holds of every list of turns, lawful or not, where the numbers of the
+/// start fit.
+pub fn paths_open_in_order()
+    ensures { EachComesInOrder }
+{}
+
 /// A law: the judge ends well with the capture of such a run, at whichever side it was taken, and wherever the judge takes that to be. The
-/// capture is read, no side broke any rule, and each join's connection was found; or no connection was opened yet. The premises are those of
-/// `whole_runs_break_no_rule`.
+/// capture is read. At most one connection is seen, and where it is, no side broke any rule, and each join's connection was found (`ends`). Once
+/// the run is delivered it is seen (`delivered`). The premises are those of `whole_runs_break_no_rule`.
 pub fn whole_runs_end_well()
-    ensures { WholeRunsEndWell }
+    ensures ends { WholeRunsEndWell }
+    ensures delivered { DeliveredRunsAreKept }
 {}
 
 /// A law: what the judge finds of a side's stream in the capture of such a run, over all subflows, up to the first octet that isn't there, is a

@@ -41,9 +41,9 @@ pub mod ExpirySegments
 pub mod AnsweredExpiries
 pub mod FewLossesDeliver
 pub mod FinDebts
+pub mod FinsMended
 pub mod FinWaits
 pub mod FinsHeard
-pub mod FinsMended
 pub mod HarmlessDeaths
 pub mod HeardBelow
 pub mod HeardSaid
@@ -231,11 +231,14 @@ pub mod Unroomy
 pub mod Pushed
 pub mod FullGrants
 pub mod FlightsGo
+pub mod Stalls
 pub mod RoundSteps
 pub mod SegmentRounds
 pub mod ReadSegments
 pub mod EndRounds
 pub mod UnitRounds
+pub mod PatientPaths
+pub mod QuietOpenings
 pub mod ShortWaits
 pub mod UnderWay
 pub mod ByTurns
@@ -280,6 +283,9 @@ pub mod OldRecords
 pub mod PassedWhole
 pub mod Uncut
 pub mod WholePieces
+pub mod DataPast
+pub mod OpenQuietly
 pub mod Opened
 pub mod SignPieces
 pub mod EarlyRecords
+pub mod ProbeWaits

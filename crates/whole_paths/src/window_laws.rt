@@ -3,6 +3,7 @@ ghost use Rattle.whole_paths.specs.AnswersAssure.{EachAnswerAssures, WhatComesOp
 ghost use Rattle.whole_paths.specs.AsksOwed.{WhoAsksOwes};
 ghost use Rattle.whole_paths.specs.FilesFit.{FittingFilesAreNeverShut};
 ghost use Rattle.whole_paths.specs.OfferedTaken.{WhatIsToldIsTaken};
+ghost use Rattle.whole_paths.specs.ProbeWaits.{ProbesAreAwaitedAlways, ProbesGoAgain};
 ghost use Rattle.whole_paths.specs.ToldEdges.{WhatIsToldGoesOn};
 ghost use Rattle.path_core.specs.Octets.{octets};
 ghost use Rattle.path_core.specs.Values.{values};
@@ -19,8 +20,7 @@ pub fn windows_are_assured()
     ensures rounds { FourRoundsAssure }
 {}
 
-/// A law: where a side's file and a full segment fit into the window that the side is told with the first SYN, it may always send a full segment's
-/// payload past what was read (RFC 9293, section 3.8.6).
+/// A law: where a side's file fits into the window that the side is told with the first SYN, it may always send all of it (RFC 9293, section 3.8.6).
 ///
 /// So it is over one path of a mild connection as the path is open and a round is over. The window of a SYN is what the peer buffers, 65,535 octets at
 /// most; and a window never shrinks.
@@ -74,4 +74,14 @@ pub fn what_is_told_is_taken()
 pub fn each_turn_asks_its_window()
     ensures octets { EachTurnBegins octets }
     ensures values { EachTurnBegins values }
+{}
+
+/// A law: where an end has no record, and its peer's window is shut, the peer owes an answer within 61,200 ticks, unless a segment of the side is
+/// harmed, over one path of a mild connection (RFC 9293, section 3.8.6.1; RFC 6298, section 5).
+///
+/// Its timer runs, and as it runs out the probe goes, or the DATA_FIN, and comes within 400 ticks. Meanwhile the window may open, the end may send more,
+/// or all of the stream may be with the peer (`again`). Such a wait begins where a round is over, and goes on into the next (`awaited`).
+pub fn probes_go_again()
+    ensures again { ProbesGoAgain }
+    ensures awaited { ProbesAreAwaitedAlways }
 {}
