@@ -231,6 +231,7 @@ pub mod Unroomy
 pub mod Pushed
 pub mod FullGrants
 pub mod FlightsGo
+pub mod Stalls
 pub mod RoundSteps
 pub mod SegmentRounds
 pub mod ReadSegments

@@ -142,6 +142,7 @@ pub mod PositionCounts
 pub mod SentInOrder
 pub mod Pushed
 pub mod FullGrants
+pub mod Stalls
 pub mod SegmentRounds
 pub mod EndRounds
 pub mod UnitRounds

@@ -34,7 +34,7 @@ pub use debt_laws::{
     each_grant_is_full, few_as_it_opens_are_few, fin_debts_go_on, fins_are_heard, fins_are_mended,
     fins_stand_on, harms_alone_are_owed, lost_records_are_awaited, lost_records_are_first,
     lost_records_are_mended, numbers_agree, opens_quietly, paths_open_by_clearing,
-    records_are_passed_whole, what_is_reached_is_first, what_runs_out_is_mended,
+    records_are_passed_whole, what_is_reached_is_first, what_runs_out_is_mended, who_stalls_is_shut,
 };
 pub use delivery_laws::{
     a_segment_is_read, a_unit_is_made, all_comes_up_to_lost, an_end_is_told,
