@@ -577,7 +577,7 @@ module _ (start : Start) (last : Duo) (fit : NumbersFit start) where
       has_some [] offset within = absurd (omega (arith, within))
       has_some (octet ∷ octets) offset within = refl
 
-      one_tells : (o : PlainOption) → OptionFine (file_len start) (IsMapped start last x.path) ⊥ x.from o → value_ends (said_option c.spelling x.from o) ≡ true → tells_end o ≡ true
+      one_tells : (o : PlainOption) → OptionFine (file_len start) (IsMapped start last x.path) ⊥ ⊥ x.from o → value_ends (said_option c.spelling x.from o) ≡ true → tells_end o ≡ true
       one_tells (Dss ack (Some (Bytes place position len true checksum))) fine is = refl
       one_tells (Dss ack (Some (Bytes place position len false checksum))) fine is = absurd (let some = fine.0 in let none = eqb-true len 0 is in omega (arith, some, none))
       one_tells (Dss ack (Some (End place checksum))) fine is = refl
@@ -587,7 +587,7 @@ module _ (start : Start) (last : Duo) (fit : NumbersFit start) where
       one_tells (Fail place) fine is = absurd fine
       one_tells _ fine is = absurd (false≢true is)
 
-      any_tells : (options : List PlainOption) → AllFine (file_len start) (IsMapped start last x.path) ⊥ x.from options → list_any value_ends (map (said_option c.spelling x.from) options) ≡ true
+      any_tells : (options : List PlainOption) → AllFine (file_len start) (IsMapped start last x.path) ⊥ ⊥ x.from options → list_any value_ends (map (said_option c.spelling x.from) options) ≡ true
           → list_any tells_end options ≡ true
       any_tells [] is_fine is = absurd (false≢true is)
       any_tells (o ∷ options) is_fine is =

@@ -67,7 +67,7 @@ module _ (start : Start) (last : Duo) (path : ℕ) where
 
 module _ (start : Start) (last : Duo) (n : ℕ) (plan : PathPlan) (s : Side) (e : PathEnd) (out back : Lane) (view : View) (shown : EndShows (path_begins start n plan).profile s e out back)
     (hold : LaneHolds view n out) (begins : IsPrefix view.written (pick s start.file_a start.file_b)) (ends : (k : ℕ) → view.end ≡ Some k → k ≡ file_len start s)
-    (later : Lane) (later_there : lane_of last n s ≡ Some later) (longer : Longer out later) (first_is : BeginsFirst s e out) (Lax : Type 0) where
+    (later : Lane) (later_there : lane_of last n s ≡ Some later) (longer : Longer out later) (first_is : BeginsFirst s e out) (Lax Fails : Type 0) where
   abbrev c : Profile
   c = (path_begins start n plan).profile
 
@@ -111,7 +111,7 @@ module _ (start : Start) (last : Duo) (n : ℕ) (plan : PathPlan) (s : Side) (e 
       by true = ap (λ (number : ℕ). dss_checksum (record { number = number; relative = 0; length = 1; checksum = 0 }) []) (whole_so start n plan s place)
 
   -- a piece that A sends as long as it may send no DSS
-  begins_so : (r : Record) → IsPiece c s out.alters out.sent out.datas r → FirstFine (file_len start) (IsMapped start last n) Lax c s e.modes.clear r
+  begins_so : (r : Record) → IsPiece c s out.alters out.sent out.datas r → FirstFine (file_len start) (IsMapped start last n) Lax Fails c s e.modes.clear r
   begins_so r is own unclear one =
       let place = place_numbered c s r.mapping.number in
       let len = r.mapping.length in
@@ -121,7 +121,7 @@ module _ (start : Start) (last : Duo) (n : ℕ) (plan : PathPlan) (s : Side) (e 
       (told_so place 1 len r.mapping.checksum has (subst (λ (p : ℕ). IsSummed c s out.sent place p len r.mapping.checksum) one is.summed))
 
   pub kind_so : (kind : RecordKind) (r : Record) → KindShows c s out.alters out.sent out.datas out.fins kind r → RecordKindTells c s kind r
-      → RecordFine (file_len start) (IsMapped start last n) Lax c s e.modes.clear kind r
+      → RecordFine (file_len start) (IsMapped start last n) Lax Fails c s e.modes.clear kind r
   kind_so Syn r is kept = tt
   kind_so Fin r is kept = tt
   kind_so Data r is kept = (

@@ -82,7 +82,7 @@ module _ (start : Start) (last : Duo) (path : ℕ) where
 
   -- what a segment maps and bears
   abbrev pub Offers : Side → PlainSegment → Type 0
-  Offers s sg = AllFine (file_len start) (IsMapped start last path) ⊥ s sg.options × Carries BearsMapped s sg
+  Offers s sg = AllFine (file_len start) (IsMapped start last path) ⊥ ⊥ s sg.options × Carries BearsMapped s sg
 
 -- ---- a path at a moment
 
@@ -221,16 +221,16 @@ module _ (start : Start) (turns : List Turn) (plain : IsPlain start) (whole : Is
       unfailed None may = tt
       unfailed (Some place) may = both_ways out.alters unaltered may
 
-      end_so : EndFine (file_len start) (IsMapped start last n) ⊥ c s e × RecordsCarry (BearsMapped start last n) c s e
+      end_so : EndFine (file_len start) (IsMapped start last n) ⊥ ⊥ c s e × RecordsCarry (BearsMapped start last n) c s e
       end_so = (
         record {
           identity = λ is. false≢true (sym identity ∙ is);
           infinite = subst (λ (o : Option InfiniteMapping). IfSome o (λ _. ⊥)) (sym own_none) tt;
           told = unfailed e.modes.failed_mapping shown.pairs.4;
           telling = unfailed e.treated.failed_mapping shown.pairs.5;
-          known = known_so start last n there.plan s e out back view shown hold begins ends later later_there longer first_is ⊥;
-          ends = λ place is. end_told start last n there.plan s e out back view shown hold begins ends later later_there longer first_is ⊥ place;
-          records = record { each = λ i r there_one. kind_so start last n there.plan s e out back view shown hold begins ends later later_there longer first_is ⊥ r.kind r (shown.sender.pieces.each i r there_one) (tells.sender.records.each i r there_one).mapped };
+          known = known_so start last n there.plan s e out back view shown hold begins ends later later_there longer first_is ⊥ ⊥;
+          ends = λ place is. end_told start last n there.plan s e out back view shown hold begins ends later later_there longer first_is ⊥ ⊥ place;
+          records = record { each = λ i r there_one. kind_so start last n there.plan s e out back view shown hold begins ends later later_there longer first_is ⊥ ⊥ r.kind r (shown.sender.pieces.each i r there_one) (tells.sender.records.each i r there_one).mapped };
         },
         bears_so,
       )
@@ -243,7 +243,7 @@ module _ (start : Start) (turns : List Turn) (plain : IsPlain start) (whole : Is
         by true whole is = let same : length b.written ≡ k = cc in sym same ∙ ap length (whole refl)
         by false whole is = cc
 
-    fine : (s : Side) → EndFine (file_len start) (IsMapped start last n) ⊥ c s (end_at s p) × RecordsCarry (BearsMapped start last n) c s (end_at s p)
+    fine : (s : Side) → EndFine (file_len start) (IsMapped start last n) ⊥ ⊥ c s (end_at s p) × RecordsCarry (BearsMapped start last n) c s (end_at s p)
     fine A =
         let hold = holds.ab.lanes.each n n there.ab (omega arith) there.ab_there in
         let later = grows.ab n there.ab there.ab_there in
@@ -259,17 +259,17 @@ module _ (start : Start) (turns : List Turn) (plain : IsPlain start) (whole : Is
     offers : PathOffers start last p
     offers = subst (λ (k : ℕ). IfSome (first_sends p.agenda p) (λ t. Offers start last k t.from (segment_sent p t))) (sym there.numbered) (by (first_sends p.agenda p) maps carries)
       where
-        maps : IfSome (first_sends p.agenda p) (λ t. AllFine (file_len start) (IsMapped start last n) ⊥ t.from (segment_sent p t).options)
+        maps : IfSome (first_sends p.agenda p) (λ t. AllFine (file_len start) (IsMapped start last n) ⊥ ⊥ t.from (segment_sent p t).options)
         maps =
-            first_fine_sent (file_len start) (IsMapped start last n) ⊥ p
-            (λ s. subst (λ (d : Profile). EndFine (file_len start) (IsMapped start last n) ⊥ d s (end_at s p)) (sym there.shows.profile) (fine s).0) p.agenda
+            first_fine_sent (file_len start) (IsMapped start last n) ⊥ ⊥ p
+            (λ s. subst (λ (d : Profile). EndFine (file_len start) (IsMapped start last n) ⊥ ⊥ d s (end_at s p)) (sym there.shows.profile) (fine s).0) p.agenda
 
         carries : IfSome (first_sends p.agenda p) (λ t. Carries (BearsMapped start last n) t.from (segment_sent p t))
         carries =
             first_carries (BearsMapped start last n) p
             (λ s. subst (λ (d : Profile). RecordsCarry (BearsMapped start last n) d s (end_at s p)) (sym there.shows.profile) (fine s).1) p.agenda
 
-        by : (o : Option ToSend) → IfSome o (λ t. AllFine (file_len start) (IsMapped start last n) ⊥ t.from (segment_sent p t).options)
+        by : (o : Option ToSend) → IfSome o (λ t. AllFine (file_len start) (IsMapped start last n) ⊥ ⊥ t.from (segment_sent p t).options)
             → IfSome o (λ t. Carries (BearsMapped start last n) t.from (segment_sent p t)) → IfSome o (λ t. Offers start last n t.from (segment_sent p t))
         by None one other = tt
         by (Some t) one other = (one, other)

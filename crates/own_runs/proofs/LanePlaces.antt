@@ -37,16 +37,18 @@ use Rattle.seen_streams.specs.declared.told.Teller.{Teller}
 use Rattle.seen_streams.specs.declared.told.ToldMapping.{ToldMapping}
 use Rattle.seen_streams.specs.declared.told.Waiting.{Waiting}
 use Rattle.sides.specs.Side.{peer}
-use Rattle.own_runs.proofs.FinePositions.{EndsAt, NumberIs, near_so}
+use Rattle.own_runs.proofs.FinePositions.{EndsAt, NumberIs, TellsNoFail, near_so}
 use Rattle.own_runs.proofs.MapPositions.{Bears, OfferIs, Sit, contents, contents_none, header, relative_so}
 use Rattle.own_runs.proofs.OwnPositions.{same_position}
 use Rattle.own_runs.proofs.PayloadHeld.{part_is}
 use Rattle.own_runs.proofs.Telling.{Untold, others_keep}
 
-abbrev pub is_place : Rule → Bool
-is_place rule.Mapping = true
-is_place rule.DssSum = true
-is_place _ = false
+-- and that on MP_FAIL, where none is told
+abbrev pub is_place : Bool → Rule → Bool
+is_place calm rule.Mapping = true
+is_place calm rule.DssSum = true
+is_place calm rule.Fail = calm
+is_place calm _ = false
 
 -- an infinite mapping
 pub record InfiniteIs (first : ℕ) (offer : Offer) : Type 0 where
@@ -60,18 +62,18 @@ abbrev pub OptionTells : ℕ → ℕ → (ℕ → ℕ) → (ℕ → ℕ) → ℕ
 OptionTells first limit content where_at position option = IfSome (offer_of first option) (λ offer. OfferIs first limit content where_at position offer ⊎ InfiniteIs first offer)
 
 -- nothing is mapped beyond the end of a stream of so many octets, and the rules weren't broken
-pub record StreamPlaced (limit : ℕ) (s : StreamValue) : Type 0 where
+pub record StreamPlaced (calm : Bool) (limit : ℕ) (s : StreamValue) : Type 0 where
   pub top : s.top ≤ limit
-  pub untold : Untold is_place s.broken
+  pub untold : Untold (is_place calm) s.broken
 
 -- `content` is the octet of each place
-module _ (limit : ℕ) (few : limit < 2 ^ 31) (content : ℕ → ℕ) where
-  tell_so : (r : Rule) (packet : ℕ) (fault : FaultValue) (s : StreamValue) → is_place r ≡ false → StreamPlaced limit s
-      → StreamPlaced limit (record s { broken = with_broken (record { rule = r; packet = packet; fault = fault }) s.broken })
-  tell_so r packet fault s other h = record { top = h.top; untold = others_keep is_place r packet fault s.broken other h.untold }
+module _ (calm : Bool) (limit : ℕ) (few : limit < 2 ^ 31) (content : ℕ → ℕ) where
+  tell_so : (r : Rule) (packet : ℕ) (fault : FaultValue) (s : StreamValue) → is_place calm r ≡ false → StreamPlaced calm limit s
+      → StreamPlaced calm limit (record s { broken = with_broken (record { rule = r; packet = packet; fault = fault }) s.broken })
+  tell_so r packet fault s other h = record { top = h.top; untold = others_keep (is_place calm) r packet fault s.broken other h.untold }
 
-  found_so : (r : Rule) (packet : ℕ) (finding : Option Finding) (s : StreamValue) → is_place r ≡ false → StreamPlaced limit s
-      → StreamPlaced limit (record s { broken = with_found r packet finding s.broken })
+  found_so : (r : Rule) (packet : ℕ) (finding : Option Finding) (s : StreamValue) → is_place calm r ≡ false → StreamPlaced calm limit s
+      → StreamPlaced calm limit (record s { broken = with_found r packet finding s.broken })
   found_so r packet None s other h = record { top = h.top; untold = h.untold }
   found_so r packet (Some finding) s other h = tell_so r packet (Found finding) s other h
 
@@ -99,7 +101,7 @@ module _ (limit : ℕ) (few : limit < 2 ^ 31) (content : ℕ → ℕ) where
       pub waiting : All IsWaiting l.waiting
 
     abbrev pub Placed : StreamValue → LaneValue → Type 0
-    Placed s l = StreamPlaced limit s × LanePlaced l
+    Placed s l = StreamPlaced calm limit s × LanePlaced l
 
     abbrev Holds : Mapped → Type 0
     Holds x = Placed x.stream x.lane × All IsSummed x.learnt
@@ -108,7 +110,7 @@ module _ (limit : ℕ) (few : limit < 2 ^ 31) (content : ℕ → ℕ) where
 
     -- another rule may be broken
     abbrev Other : Option Broke → Type 0
-    Other o = IfSome o (λ broke. is_place broke.rule ≡ false)
+    Other o = IfSome o (λ broke. is_place calm broke.rule ≡ false)
 
     clash_none : (told : Option Told) (position place : ℕ) → IfSome told (λ t. t.image ≡ place) → clash_by told position place ≡ None
     clash_none None position place is = refl
@@ -300,19 +302,19 @@ module _ (limit : ℕ) (few : limit < 2 ^ 31) (content : ℕ → ℕ) where
 
     -- ---- payload, checksums, Data ACKs and MP_FAIL
 
-    within_so : (facts : Facts) (position : ℕ) (mappings : List ToldMapping) (s : StreamValue) → StreamPlaced limit s → StreamPlaced limit (within_each facts position mappings s)
+    within_so : (facts : Facts) (position : ℕ) (mappings : List ToldMapping) (s : StreamValue) → StreamPlaced calm limit s → StreamPlaced calm limit (within_each facts position mappings s)
     within_so facts position [] s h = h
     within_so facts position (m ∷ mappings) s h =
         within_so facts position mappings (within_one facts position m s) (found_so rule.Within facts.packet (within_found facts position m) s refl h)
 
-    place_so : (acknowledged packet : ℕ) (come : Option (Option ℕ)) (place : Option ℕ) (s : StreamValue) → StreamPlaced limit s → StreamPlaced limit (at_place acknowledged packet come place s)
+    place_so : (acknowledged packet : ℕ) (come : Option (Option ℕ)) (place : Option ℕ) (s : StreamValue) → StreamPlaced calm limit s → StreamPlaced calm limit (at_place acknowledged packet come place s)
     place_so acknowledged packet None place s h = h
     place_so acknowledged packet (Some octet) None s h = h
     place_so acknowledged packet (Some octet) (Some place) s h =
         let it = found_so rule.PlaceContent packet (content_fault acknowledged s.octet place (as_part octet)) s refl h in record { top = it.top; untold = it.untold }
 
-    shown_so : (place : ℕ → Option ℕ) (come : ℕ → Option (Option ℕ)) (acknowledged packet p n : ℕ) (s : StreamValue) → StreamPlaced limit s
-        → StreamPlaced limit (shown_from place come acknowledged packet p n s)
+    shown_so : (place : ℕ → Option ℕ) (come : ℕ → Option (Option ℕ)) (acknowledged packet p n : ℕ) (s : StreamValue) → StreamPlaced calm limit s
+        → StreamPlaced calm limit (shown_from place come acknowledged packet p n s)
     shown_so place come acknowledged packet p zero s h = h
     shown_so place come acknowledged packet p (suc n) s h =
         shown_so place come acknowledged packet (p + 1) n (at_place acknowledged packet (come p) (place p) s) (place_so acknowledged packet (come p) (place p) s h)
@@ -368,8 +370,8 @@ module _ (limit : ℕ) (few : limit < 2 ^ 31) (content : ℕ → ℕ) where
         one None is some = absurd (false≢true some)
         one (Some o) is some = is
 
-    tried_if_so : (b : Bool) (packet : ℕ) (octet : ℕ → Option Octet) → AreAt octet → (waiting : Waiting) (s : StreamValue) → is_whole octet waiting ≡ b → IsWaiting waiting → StreamPlaced limit s
-        → StreamPlaced limit (if b then tried_sum packet first octet waiting s else s)
+    tried_if_so : (b : Bool) (packet : ℕ) (octet : ℕ → Option Octet) → AreAt octet → (waiting : Waiting) (s : StreamValue) → is_whole octet waiting ≡ b → IsWaiting waiting → StreamPlaced calm limit s
+        → StreamPlaced calm limit (if b then tried_sum packet first octet waiting s else s)
     tried_if_so true packet octet is waiting s whole waits h =
         let m = waiting.mapping in
         let expected : expected_sum first octet m ≡ unwrap_or m.checksum 0 =
@@ -378,12 +380,12 @@ module _ (limit : ℕ) (few : limit < 2 ^ 31) (content : ℕ → ℕ) where
         ap (λ (b : Bool). if b || (expected_sum first octet m % 65535 == 0 && unwrap_or m.checksum 0 % 65535 == 0) then None
         else Some (WrongSum m.place m.length waiting.packet (expected_sum first octet m) (unwrap_or m.checksum 0)))
         (eq-eqb (expected_sum first octet m) (unwrap_or m.checksum 0) expected) in
-        subst (λ (o : Option Finding). StreamPlaced limit (record s { sums = counted s.sums; broken = with_found rule.DssSum packet o s.broken })) (sym none)
+        subst (λ (o : Option Finding). StreamPlaced calm limit (record s { sums = counted s.sums; broken = with_found rule.DssSum packet o s.broken })) (sym none)
         (record { top = h.top; untold = h.untold })
     tried_if_so false packet octet is waiting s whole waits h = h
 
-    tried_so : (packet : ℕ) (octet : ℕ → Option Octet) → AreAt octet → (waiting : List Waiting) (s : StreamValue) → All IsWaiting waiting → StreamPlaced limit s
-        → StreamPlaced limit (tried_sums packet first octet waiting s)
+    tried_so : (packet : ℕ) (octet : ℕ → Option Octet) → AreAt octet → (waiting : List Waiting) (s : StreamValue) → All IsWaiting waiting → StreamPlaced calm limit s
+        → StreamPlaced calm limit (tried_sums packet first octet waiting s)
     tried_so packet octet is [] s waits h = h
     tried_so packet octet is (one ∷ waiting) s waits h =
         tried_so packet octet is waiting (tried_if_whole packet first octet one s) (All-tail IsWaiting one waiting waits)
@@ -424,7 +426,7 @@ module _ (limit : ℕ) (few : limit < 2 ^ 31) (content : ℕ → ℕ) where
     summed_so facts (Some known) is learnt acked each h =
         let lane = with_sums facts.packet learnt acked.lane in
         let placed = sums_lane facts.packet learnt acked.lane each h.1 in (
-          subst (λ (n : ℕ). StreamPlaced limit (tried_sums facts.packet n lane.octet lane.waiting acked.stream)) (sym is)
+          subst (λ (n : ℕ). StreamPlaced calm limit (tried_sums facts.packet n lane.octet lane.waiting acked.stream)) (sym is)
               (tried_so facts.packet lane.octet placed.octets lane.waiting acked.stream placed.waiting h.0),
           waits placed,
         )
@@ -450,36 +452,48 @@ module _ (limit : ℕ) (few : limit < 2 ^ 31) (content : ℕ → ℕ) where
     acked_so facts known peers [] acked h = h
     acked_so facts known peers (option ∷ options) acked h = acked_so facts known peers options (acked_one facts known peers option acked) (acked_one_so facts known peers option acked h)
 
-    failed_one_so : (packet known : ℕ) (peers : StreamValue) (option : OptionValue) (s : StreamValue) → StreamPlaced limit s → StreamPlaced limit (failed_one packet known peers option s)
-    failed_one_so packet known peers (Fail number) s h = by (peers.starts (named_place known number))
+    -- MP_FAIL is told only where the rule isn't looked at
+    abbrev pub IsCalm : OptionValue → Type 0
+    IsCalm option = calm ≡ true → TellsNoFail option
+
+    failed_one_so : (packet known : ℕ) (peers : StreamValue) (option : OptionValue) (s : StreamValue) → IsCalm option → StreamPlaced calm limit s
+        → StreamPlaced calm limit (failed_one packet known peers option s)
+    failed_one_so packet known peers (Fail number) s none h = by (peers.starts (named_place known number))
       where
-        by : (b : Bool) → StreamPlaced limit (if b then s else record s { broken = with_broken (record { rule = rule.Fail; packet = packet; fault = Found (NoMapping number) }) s.broken })
+        other : (b : Bool) → (b ≡ true → ⊥) → b ≡ false
+        other true never = absurd (never refl)
+        other false never = refl
+
+        by : (b : Bool) → StreamPlaced calm limit (if b then s else record s { broken = with_broken (record { rule = rule.Fail; packet = packet; fault = Found (NoMapping number) }) s.broken })
         by true = h
-        by false = tell_so rule.Fail packet (Found (NoMapping number)) s refl h
-    failed_one_so packet known peers option s h = h
+        by false = tell_so rule.Fail packet (Found (NoMapping number)) s (other calm none) h
+    failed_one_so packet known peers option s none h = h
 
-    failed_so : (packet known : ℕ) (peers : StreamValue) (options : List OptionValue) (s : StreamValue) → StreamPlaced limit s → StreamPlaced limit (failed_each packet known peers options s)
-    failed_so packet known peers [] s h = h
-    failed_so packet known peers (option ∷ options) s h = failed_so packet known peers options (failed_one packet known peers option s) (failed_one_so packet known peers option s h)
+    failed_so : (packet known : ℕ) (peers : StreamValue) (options : List OptionValue) (s : StreamValue) → All IsCalm options → StreamPlaced calm limit s
+        → StreamPlaced calm limit (failed_each packet known peers options s)
+    failed_so packet known peers [] s none h = h
+    failed_so packet known peers (option ∷ options) s none h =
+        failed_so packet known peers options (failed_one packet known peers option s) (All-tail IsCalm option options none)
+        (failed_one_so packet known peers option s (All-head IsCalm option options none) h)
 
-    acks_so : (facts : Facts) (known : Option ℕ) (peers : StreamValue) (options : List OptionValue) (acked : Acked) → Placed acked.stream acked.lane
+    acks_so : (facts : Facts) (known : Option ℕ) (peers : StreamValue) (options : List OptionValue) (acked : Acked) → All IsCalm options → Placed acked.stream acked.lane
         → Placed (behind_acks facts known peers options acked).stream (behind_acks facts known peers options acked).lane
-    acks_so facts None peers options acked h = h
-    acks_so facts (Some known) peers options acked h =
+    acks_so facts None peers options acked none h = h
+    acks_so facts (Some known) peers options acked none h =
         let it = acked_so facts known peers options acked h in
-        (failed_so facts.packet known peers options (acked_each facts known peers options acked).stream it.0, it.1)
+        (failed_so facts.packet known peers options (acked_each facts known peers options acked).stream none it.0, it.1)
 
     -- ---- all of a segment
 
     pub at_so : (facts : Facts) (position : ℕ) (options : List OptionValue) (keys : Keys) (peers s : StreamValue) (l : LaneValue) → IfSome (first_of facts.side keys) (λ n. n ≡ first)
-        → All (OptionTells first limit content where_at position) options → Bears at position facts.seen.segment.payload → Placed s l
+        → All (OptionTells first limit content where_at position) options → All IsCalm options → Bears at position facts.seen.segment.payload → Placed s l
         → Placed (judged_at facts position options keys peers s l).stream (judged_at facts position options keys peers s l).lane
-    at_so facts position options keys peers s l is all bears h =
+    at_so facts position options keys peers s l is all none bears h =
         let before : Mapped = record { stream = s; lane = fin_taken facts position l; learnt = []; has_line = false } in
         let told = mapped_with facts (first_of facts.side keys) position options before in
         let held = mapped_so facts (first_of facts.side keys) is position options before all ((h.0, fin_lane facts.seen.segment.head.fin), All-nil IsSummed) in
         let paid = behind_payload facts position peers.acknowledged told in
-        acks_so facts (first_of (peer facts.side) keys) peers options (summed facts (first_of facts.side keys) told.learnt paid)
+        acks_so facts (first_of (peer facts.side) keys) peers options (summed facts (first_of facts.side keys) told.learnt paid) none
         (summed_so facts (first_of facts.side keys) is told.learnt paid held.1 (payload_so facts position peers.acknowledged told bears held.0))
       where
         fin_lane : (b : Bool) → LanePlaced (if b then with_fin (position + facts.seen.payload_len) l else l)

@@ -52,8 +52,8 @@ every_one {X} {P} x h = Every-push {xs = []} x (Every-nil P) h
 pub every_two : {X : Type 0} {P : X → Type 0} (x y : X) → P x → P y → Every P (x ∷ y ∷ [])
 every_two {X} {P} x y h g = Every-push {xs = x ∷ []} y (every_one x h) g
 
--- and each mapping has what is asked of it; infinite mappings and MP_FAIL are told only where so much holds
-module _ (limit : Side → ℕ) (Maps : Side → PathMapping ℕ → Type 0) (Lax : Type 0) where
+-- and each mapping has what is asked of it; infinite mappings, and MP_FAIL, are told only where so much holds
+module _ (limit : Side → ℕ) (Maps : Side → PathMapping ℕ → Type 0) (Lax Fails : Type 0) where
   -- of a side whose file has so many octets
   abbrev pub MappingFine : Side → PathMapping ℕ → Type 0
   MappingFine s (Bytes place position len fin checksum) = (1 ≤ len) × (fin ≡ false) × (place + len ≤ limit s) × Maps s (Bytes place position len fin checksum)
@@ -63,7 +63,7 @@ module _ (limit : Side → ℕ) (Maps : Side → PathMapping ℕ → Type 0) (La
   abbrev pub OptionFine : Side → PlainOption → Type 0
   OptionFine s (Dss next mapping) = IfSome mapping (MappingFine s)
   OptionFine s (Capable flag_a flag_c (WithData sender receiver len checksum)) = (1 ≤ len) × (len ≤ limit s) × Maps s (Bytes 0 1 len false checksum)
-  OptionFine s (Fail place) = Lax
+  OptionFine s (Fail place) = Fails
   OptionFine s _ = Unit {0}
 
   abbrev pub AllFine : Side → List PlainOption → Type 0
@@ -82,8 +82,8 @@ module _ (limit : Side → ℕ) (Maps : Side → PathMapping ℕ → Type 0) (La
   pub record EndFine (c : Profile) (s : Side) (e : PathEnd) : Type 0 where
     pub identity : e.modes.identity ≡ true → Lax
     pub infinite : IfSome e.modes.own_infinite (λ _. Lax)
-    pub told : IfSome e.modes.failed_mapping (λ _. Lax)
-    pub telling : IfSome e.treated.failed_mapping (λ _. Lax)
+    pub told : IfSome e.modes.failed_mapping (λ _. Fails)
+    pub telling : IfSome e.treated.failed_mapping (λ _. Fails)
     pub known : IfSome e.sending.known_end (λ n. n ≡ limit s)
     pub ends : (place : ℕ) → place ≡ limit s → Maps s (End place (checksum_told c (checksum_in c (bare_mapping c s place 0 1) [])))
     pub records : Every (λ r. RecordFine c s e.modes.clear r.kind r) e.tcp.send.records
@@ -95,11 +95,11 @@ module _ (limit : Side → ℕ) (Maps : Side → PathMapping ℕ → Type 0) (La
   reset_fine s None = none_fine s
   reset_fine s (Some reason) = every_one (Reset false reason) tt
 
-  fail_fine : (s : Side) (failed : Option ℕ) → IfSome failed (λ _. Lax) → AllFine s (fail_options failed)
+  fail_fine : (s : Side) (failed : Option ℕ) → IfSome failed (λ _. Fails) → AllFine s (fail_options failed)
   fail_fine s None lax = none_fine s
   fail_fine s (Some place) lax = every_one (Fail place) lax
 
-  broken_fine : (s : Side) (failed : Option ℕ) → IfSome failed (λ _. Lax) → (reason : Option ℕ) → AllFine s (broken_options failed reason)
+  broken_fine : (s : Side) (failed : Option ℕ) → IfSome failed (λ _. Fails) → (reason : Option ℕ) → AllFine s (broken_options failed reason)
   broken_fine s failed lax None = none_fine s
   broken_fine s failed lax (Some reason) = Every-append {xs = fail_options failed} (fail_fine s failed lax) (reset_fine s (Some reason))
 

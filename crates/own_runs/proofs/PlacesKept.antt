@@ -6,7 +6,7 @@ use Rattle.std.proofs.Common.{◌≡◌, refl, sym, ap, ◌∙◌, subst, ℕ, �
 use Rattle.std.specs.Prelude.{All, IfSome}
 use Rattle.std.specs.List.{slice_get}
 use Rattle.std.specs.Option.{option_map}
-use Rattle.std.proofs.lemmas.List.Elements.{All-head, All-nil, All-tail}
+use Rattle.std.proofs.lemmas.List.Elements.{All-cons, All-head, All-nil, All-tail}
 use Rattle.capture_reader.specs.Captured.{Captured}
 use Rattle.capture_reader.specs.Seen.{Seen, segment_in_packet}
 use Rattle.capture_verdict.specs.Judging.{judged_if_seen, judged_packets}
@@ -33,6 +33,7 @@ use Rattle.seen_streams.specs.State.{Found, LaneValue, StreamValue, empty_lane}
 use Rattle.sides.specs.Side.{peer}
 use Rattle.sides.specs.declared.side.Side.TheVariants.{A, B}
 use Rattle.sides.specs.declared.side.Side.{Side}
+use Rattle.own_runs.proofs.FinePositions.{TellsNoFail}
 use Rattle.own_runs.proofs.KeptOptions.{kept_so}
 use Rattle.own_runs.proofs.LanePlaces.{IsWaiting, LanePlaced, OptionTells, StreamPlaced, at_so, is_place}
 use Rattle.own_runs.proofs.MapKept.{alike}
@@ -45,7 +46,7 @@ use Rattle.own_runs.proofs.OwnUntold.{base_so, numbered}
 use Rattle.own_runs.proofs.Telling.{others_keep}
 use Rattle.own_runs.proofs.TokenState.{nothing_holds}
 
-module _ (d : Drawn) (limit : Side → ℕ) (few : (s : Side) → limit s < 2 ^ 31) (content : Side → ℕ → ℕ) (where_at : ℕ → Side → ℕ → ℕ) where
+module _ (calm : Bool) (d : Drawn) (limit : Side → ℕ) (few : (s : Side) → limit s < 2 ^ 31) (content : Side → ℕ → ℕ) (where_at : ℕ → Side → ℕ → ℕ) where
   -- the number of place 0 of a side, and what an option tells on a path
   abbrev first_at : Side → ℕ
   first_at s = first_number (own_key d s)
@@ -58,14 +59,23 @@ module _ (d : Drawn) (limit : Side → ℕ) (few : (s : Side) → limit s < 2 ^ 
     pub own : IsOwn d seen
     pub at : ℕ
     pub seq : seen.segment.head.seq ≡ (own_initial d own.path own.from + at) % 2 ^ 32
+    pub none : calm ≡ true → All TellsNoFail own.values
     pub bears : (p : ℕ) → p % 2 ^ 32 ≡ at % 2 ^ 32 → Bears (λ q. content own.from (where_at own.path own.from q)) p seen.segment.payload
     pub offers : (p : ℕ) → p % 2 ^ 32 ≡ at % 2 ^ 32 → All (Well own.path own.from p) own.values
 
+  abbrev IsCalm : OptionValue → Type 0
+  IsCalm option = calm ≡ true → TellsNoFail option
+
+  each_calm : (values : List OptionValue) → (calm ≡ true → All TellsNoFail values) → All IsCalm values
+  each_calm [] none = All-nil IsCalm
+  each_calm (v ∷ values) none =
+      All-cons IsCalm v values (λ is. All-head TellsNoFail v values (none is)) (each_calm values (λ is. All-tail TellsNoFail v values (none is)))
+
   abbrev BookPlaced : BookValue → Type 0
-  BookPlaced book = (s : Side) → StreamPlaced (limit s) (stream_at s book)
+  BookPlaced book = (s : Side) → StreamPlaced calm (limit s) (stream_at s book)
 
   abbrev Laned : ℕ → Side → LaneValue → Type 0
-  Laned path s l = LanePlaced (limit s) (few s) (content s) (first_at s) (where_at path s) l
+  Laned path s l = LanePlaced calm (limit s) (few s) (content s) (first_at s) (where_at path s) l
 
   pub record LanesPlaced (path : ℕ) (lanes : LanesValue) : Type 0 where
     pub opener : Laned path A lanes.opener
@@ -78,7 +88,7 @@ module _ (d : Drawn) (limit : Side → ℕ) (few : (s : Side) → limit s < 2 ^ 
   new_placed A = record { top = omega arith; untold = λ r is. refl }
   new_placed B = record { top = omega arith; untold = λ r is. refl }
 
-  with_placed : (s : Side) (stream : StreamValue) (book : BookValue) → StreamPlaced (limit s) stream → BookPlaced book → BookPlaced (with_stream s stream book)
+  with_placed : (s : Side) (stream : StreamValue) (book : BookValue) → StreamPlaced calm (limit s) stream → BookPlaced book → BookPlaced (with_stream s stream book)
   with_placed A stream book new h A = new
   with_placed A stream book new h B = h B
   with_placed B stream book new h A = h A
@@ -116,7 +126,7 @@ module _ (d : Drawn) (limit : Side → ℕ) (few : (s : Side) → limit s < 2 ^ 
       lanes : LanesPlaced own.path left.lanes
 
     first_so : (s : Side) (keys : Keys) → KeysOwn d keys → IfSome (first_of s keys) (λ first. first ≡ first_at s)
-    first_so s keys k = by (key_of s keys) (key_is d is_place s keys k)
+    first_so s keys k = by (key_of s keys) (key_is d (is_place calm) s keys k)
       where
         by : (o : Option ℕ) → IfSome o (λ key. key ≡ own_key d s) → IfSome (option_map first_number o) (λ first. first ≡ first_at s)
         by None is = tt
@@ -125,8 +135,8 @@ module _ (d : Drawn) (limit : Side → ℕ) (few : (s : Side) → limit s < 2 ^ 
     positions_so : (facts : Facts) (options : List OptionValue) (keys : Keys) (left : Left) → facts.seen ≡ seen → facts.is_opener ≡ is_a facts.side
         → (at : ℕ) → seen.segment.head.seq ≡ (own_base facts + at) % 2 ^ 32 → KeysOwn d keys
         → ((p : ℕ) → p % 2 ^ 32 ≡ at % 2 ^ 32 → Bears (λ q. content facts.side (where_at own.path facts.side q)) p seen.segment.payload)
-        → ((p : ℕ) → p % 2 ^ 32 ≡ at % 2 ^ 32 → All (Well own.path facts.side p) options) → LeftPlaced left → LeftPlaced (judged_positions facts options keys left)
-    positions_so facts options keys left sees opens at seq k bears all h =
+        → ((p : ℕ) → p % 2 ^ 32 ≡ at % 2 ^ 32 → All (Well own.path facts.side p) options) → All IsCalm options → LeftPlaced left → LeftPlaced (judged_positions facts options keys left)
+    positions_so facts options keys left sees opens at seq k bears all none h =
         by facts.seen.segment.head.syn (position_of (own_base facts) (own_lane facts left.lanes) facts.seen.segment.head.seq facts.seen.payload_len) refl
       where
         lane : Laned own.path facts.side (own_lane facts left.lanes)
@@ -142,8 +152,8 @@ module _ (d : Drawn) (limit : Side → ℕ) (few : (s : Side) → limit s < 2 ^ 
             let its_lane = own_lane facts left.lanes in
             let gone = (gap_counted facts left).book in
             let it = judged_at facts position options keys (stream_at (peer facts.side) left.book) own_stream its_lane in
-            let placed = at_so (limit facts.side) (few facts.side) (content facts.side) (first_at facts.side) (where_at own.path facts.side) facts position options keys
-            (stream_at (peer facts.side) left.book) own_stream its_lane (first_so facts.side keys k) (all position same)
+            let placed = at_so calm (limit facts.side) (few facts.side) (content facts.side) (first_at facts.side) (where_at own.path facts.side) facts position options keys
+            (stream_at (peer facts.side) left.book) own_stream its_lane (first_so facts.side keys k) (all position same) none
             (subst (λ (x : Seen). Bears (λ q. content facts.side (where_at own.path facts.side q)) position x.segment.payload) (sym sees) (bears position same)) (h.book facts.side, lane) in
             record {
               book = with_placed facts.side it.stream gone placed.0 (gaps_placed gone.gaps left.book h.book);
@@ -163,21 +173,22 @@ module _ (d : Drawn) (limit : Side → ℕ) (few : (s : Side) → limit s < 2 ^ 
           → Leaves own.path (judged_opened (opened_facts at packet seen index flow opened own.from) (map Readable own.values) keys left)
       opened_so opened e =
           let facts = opened_facts at packet seen index flow opened own.from in
-          let it : IsOf d is_place own.path facts = record {
+          let it : IsOf d (is_place calm) own.path facts = record {
             opening = f.opening;
             nonce = subst (λ (o : Option Opened). IfSome o (NonceIs d own.path flow.opening)) e f.nonce;
             opener = opens_so d seen own flow f;
           } in
           let was = h.book own.from in
           let first : KeyedValue = record { options = []; keys = keys; stream = stream_at own.from left.book } in
-          let made = options_so d is_place own.path facts it own.values first own.each
+          let made = options_so d (is_place calm) own.path facts it own.values first own.each
           (record { keys = k; untold = was.untold; each = All-nil (ValueIs d own.path own.from) }) in
           let all = judged_options facts (map Readable own.values) first in
           let top = fields_so (top_keeps own.from) facts (map Readable own.values) first was.top in
           let wells : (q : ℕ) → q % 2 ^ 32 ≡ p.at % 2 ^ 32 → All (Well own.path own.from q) all.options =
           λ q same. kept_so (Well own.path own.from q) facts own.values first (p.offers q same) (All-nil (Well own.path own.from q)) in
+          let none = kept_so IsCalm facts own.values first (each_calm own.values p.none) (All-nil IsCalm) in
           let behind = positions_so facts all.options all.keys (record left { book = with_stream own.from all.stream left.book }) refl (opens_so d seen own flow f) p.at
-          (seq_so opened e) made.keys p.bears wells
+          (seq_so opened e) made.keys p.bears wells none
           (record { book = with_placed own.from all.stream left.book (record { top = top; untold = made.untold }) h.book; lanes = h.lanes }) in
           record { keys = made.keys; book = behind.book; lanes = behind.lanes }
 
@@ -195,7 +206,7 @@ module _ (d : Drawn) (limit : Side → ℕ) (few : (s : Side) → limit s < 2 ^ 
         (formed_so index flow f keys k (record left { book = with_stream own.from formed left.book })
         (record {
           book = with_placed own.from formed left.book
-              (subst (StreamPlaced (limit own.from)) (sym (readable_so packet own.values (stream_at own.from left.book))) (h.book own.from)) h.book;
+              (subst (StreamPlaced calm (limit own.from)) (sym (readable_so packet own.values (stream_at own.from left.book))) (h.book own.from)) h.book;
           lanes = h.lanes;
         })
         flow.opened refl))
@@ -205,7 +216,7 @@ module _ (d : Drawn) (limit : Side → ℕ) (few : (s : Side) → limit s < 2 ^ 
 
   new_lane : (path : ℕ) (s : Side) → Laned path s empty_lane
   new_lane path s =
-      record { placed = λ p. tt; octets = λ p. tt; waiting = All-nil (IsWaiting (limit s) (few s) (content s) (first_at s) (where_at path s)) }
+      record { placed = λ p. tt; octets = λ p. tt; waiting = All-nil (IsWaiting calm (limit s) (few s) (content s) (first_at s) (where_at path s)) }
 
   keep : SegmentsKeep d Any IsTelling BookPlaced LanesPlaced
   keep = record {
@@ -216,7 +227,7 @@ module _ (d : Drawn) (limit : Side → ℕ) (few : (s : Side) → limit s < 2 ^ 
         let was = h s in
         with_placed s _ book (record {
           top = was.top;
-          untold = others_keep is_place rule.Token wrong.packet (Found (Number32 wrong.expected wrong.was)) (stream_at s book).broken refl was.untold;
+          untold = others_keep (is_place calm) rule.Token wrong.packet (Found (Number32 wrong.expected wrong.was)) (stream_at s book).broken refl was.untold;
         }) h;
     flow = λ at packet seen p index flow f any belongs is keys left k h lanes.
         flow_so at packet seen p index flow f belongs is keys left k (record { book = h; lanes = lanes });
@@ -251,11 +262,11 @@ module _ (d : Drawn) (limit : Side → ℕ) (few : (s : Side) → limit s < 2 ^ 
 
   -- what each stream is
   pub stream_placed : (at : Option Side) (packets : List Captured) → All TellingPacket packets → (connection : ℕ) (s : Side) (stream : StreamValue)
-      → stream_in (judged_packets at true nothing_judged 1 packets) connection s ≡ Some stream → StreamPlaced (limit s) stream
+      → stream_in (judged_packets at true nothing_judged 1 packets) connection s ≡ Some stream → StreamPlaced calm (limit s) stream
   stream_placed at packets each connection s stream there = by (slice_get (judged_packets at true nothing_judged 1 packets).books connection) refl there
     where
       by : (o : Option BookValue) → slice_get (judged_packets at true nothing_judged 1 packets).books connection ≡ o → option_map (stream_at s) o ≡ Some stream
-          → StreamPlaced (limit s) stream
+          → StreamPlaced calm (limit s) stream
       by None e there = cc
       by (Some book) e there =
-          subst (StreamPlaced (limit s)) (some_same (stream_at s book) stream there) ((packets_so at packets 1 nothing_judged each begins).books connection book e s)
+          subst (StreamPlaced calm (limit s)) (some_same (stream_at s book) stream there) ((packets_so at packets 1 nothing_judged each begins).books connection book e s)

@@ -35,7 +35,7 @@ use Rattle.subflow_send.specs.Records.{Record}
 use Rattle.subflow_send.specs.declared.record.RecordKind.TheVariants.{Syn, Data, Fin}
 use Rattle.subflow_send.specs.declared.record.RecordKind.{RecordKind}
 use Rattle.world_laws.proofs.Lanes.Answering.{BeginsFirst}
-use Rattle.world_laws.proofs.Lanes.OfAWorld.{Carries as MayCarry, PathIsSteady, PathThere, Reached, WorldShows, anyhow, anyhow_free, duo_of, free_run}
+use Rattle.world_laws.proofs.Lanes.OfAWorld.{Carries as MayCarry, NoneIsFirm, PathIsSteady, PathThere, Reached, WorldShows, anyhow, anyhow_free, duo_of, free_run, plainly, plainly_free}
 use Rattle.world_laws.proofs.Lanes.Showing.{EndShows, IsPiece, KindShows}
 use Rattle.world_laws.proofs.Numbers.EveryTurn.{always_tells}
 use Rattle.world_laws.proofs.Numbers.PathSteps.{PathTells}
@@ -48,7 +48,7 @@ use Rattle.world_laws.specs.Actors.{Actor, ActorCrew}
 use Rattle.world_laws.specs.Fresh.{shown_crew, shown_member}
 use Rattle.world_laws.specs.Laws.{WritesTheFile}
 use Rattle.world_laws.specs.Openings.{Start, path_begins, opened_world}
-use Rattle.world_laws.specs.Promises.{HasRoom, NumbersFit}
+use Rattle.world_laws.specs.Promises.{HasRoom, IsPlain, NumbersFit}
 use Rattle.world_laws.specs.Worlds.{WorldState, Turn, world_run}
 use Rattle.world_laws.specs.declared.member.Member.TheVariants.{App, Path}
 use Rattle.own_runs.proofs.Bearing.{Carries, RecordsCarry, first_carries}
@@ -67,24 +67,22 @@ use Rattle.own_runs.proofs.Values.{drawn}
 
 -- ---- by the lanes of the last moment
 
-module _ (start : Start) (last : Duo) where
+module _ (start : Start) (Fails : Type 0) (last : Duo) where
   -- a payload
   abbrev pub Bearing : ℕ → Side → PlainSegment → Type 0
   Bearing path s sg = IsBorne start last path s sg.position sg.payload
 
-  -- each option of a segment maps such, and infinite mappings and MP_FAIL may be told, too
+  -- each option of a segment maps such, and infinite mappings may be told, too, and MP_FAIL where so much holds
   abbrev pub Tells : ℕ → Side → PlainSegment → Type 0
-  Tells path s sg = AllFine (file_len start) (IsMapped start last path) (Unit {0}) s sg.options × Carries (Bearing path) s sg
+  Tells path s sg = AllFine (file_len start) (IsMapped start last path) (Unit {0}) Fails s sg.options × Carries (Bearing path) s sg
 
 -- ---- a path at a moment
 
-module _ (start : Start) (turns : List Turn) (size : HasRoom start) (fit : NumbersFit start) (last : Duo)
-    (q : Reached (anyhow start size).links start (world_run values turns (opened_world start))) (grown : Grows (duo_at start (anyhow start size) (world_run values turns (opened_world start)) q) last) where
+-- links that alter payload only where MP_FAIL may be told
+module _ (start : Start) (can : MayCarry start) (Fails : Type 0) (failing : can.links.alters ≡ true → Fails) (turns : List Turn) (size : HasRoom start) (fit : NumbersFit start) (last : Duo)
+    (q : Reached can.links start (world_run values turns (opened_world start))) (grown : Grows (duo_at start can (world_run values turns (opened_world start)) q) last) where
   abbrev v : WorldState Carried
   v = world_run values turns (opened_world start)
-
-  abbrev can : MayCarry start
-  can = anyhow start size
 
   held : Holds (duo_at start can v q)
   held = any_held can.links.alters can.links.checked (length start.paths) start.buffer start.buffer q.events
@@ -138,7 +136,7 @@ module _ (start : Start) (turns : List Turn) (size : HasRoom start) (fit : Numbe
     module _ (s : Side) (e : PathEnd) (out back : Lane) (view : View) (shown : EndShows c s e out back) (hold : LaneHolds view n out) (tells : EndTells c s e)
         (begins : IsPrefix view.written (pick s start.file_a start.file_b)) (ends : (k : ℕ) → view.end ≡ Some k → k ≡ file_len start s)
         (later : Lane) (later_there : lane_of last n s ≡ Some later) (longer : Longer out later) (first_is : BeginsFirst s e out)
-        (pieces : Every (IsPart c s (pick s start.file_a start.file_b)) e.tcp.send.records) where
+        (pieces : Every (IsPart c s (pick s start.file_a start.file_b)) e.tcp.send.records) (alters : out.alters ≡ can.links.alters) where
       abbrev first : ℕ
       first = first_number (own_key (drawn start) s)
 
@@ -168,18 +166,22 @@ module _ (start : Start) (turns : List Turn) (size : HasRoom start) (fit : Numbe
       whatever None = tt
       whatever (Some x) = tt
 
-      end_so : EndFine (file_len start) (IsMapped start last n) (Unit {0}) c s e
+      may_fail : {X : Type 0} → (o : Option X) → IfSome o (λ _. out.alters ≡ true) → IfSome o (λ _. Fails)
+      may_fail None is = tt
+      may_fail (Some x) is = failing (sym alters ∙ is)
+
+      end_so : EndFine (file_len start) (IsMapped start last n) (Unit {0}) Fails c s e
       end_so = record {
         identity = λ is. tt;
         infinite = whatever e.modes.own_infinite;
-        told = whatever e.modes.failed_mapping;
-        telling = whatever e.treated.failed_mapping;
-        known = known_so start last n there.plan s e out back view shown hold begins ends later later_there longer first_is (Unit {0});
-        ends = λ place is. end_told start last n there.plan s e out back view shown hold begins ends later later_there longer first_is (Unit {0}) place;
-        records = record { each = λ i r there_one. kind_so start last n there.plan s e out back view shown hold begins ends later later_there longer first_is (Unit {0}) r.kind r (shown.sender.pieces.each i r there_one) (tells.sender.records.each i r there_one).mapped };
+        told = may_fail e.modes.failed_mapping shown.pairs.4;
+        telling = may_fail e.treated.failed_mapping shown.pairs.5;
+        known = known_so start last n there.plan s e out back view shown hold begins ends later later_there longer first_is (Unit {0}) Fails;
+        ends = λ place is. end_told start last n there.plan s e out back view shown hold begins ends later later_there longer first_is (Unit {0}) Fails place;
+        records = record { each = λ i r there_one. kind_so start last n there.plan s e out back view shown hold begins ends later later_there longer first_is (Unit {0}) Fails r.kind r (shown.sender.pieces.each i r there_one) (tells.sender.records.each i r there_one).mapped };
       }
 
-      bears_so : RecordsCarry (Bearing start last n) c s e
+      bears_so : RecordsCarry (Bearing start Fails last n) c s e
       bears_so = record {
         each = λ i r there_one.
             let told = tells.sender.records.each i r there_one in
@@ -206,75 +208,85 @@ module _ (start : Start) (turns : List Turn) (size : HasRoom start) (fit : Numbe
         let hold = holds.ab.lanes.each n n there.ab (omega arith) there.ab_there in
         first_at _ n six.control_b.fall.joined p there.ab there.ba refl hold steady there.stands unclear place len has
 
-    fine : (s : Side) → EndFine (file_len start) (IsMapped start last n) (Unit {0}) c s (end_at s p) × RecordsCarry (Bearing start last n) c s (end_at s p)
+    fine : (s : Side) → EndFine (file_len start) (IsMapped start last n) (Unit {0}) Fails c s (end_at s p) × RecordsCarry (Bearing start Fails last n) c s (end_at s p)
     fine A =
         let hold = holds.ab.lanes.each n n there.ab (omega arith) there.ab_there in
         let later = grows.ab n there.ab there.ab_there in (
-          end_so A p.a there.ab there.ba _ there.shows.a hold told.a writes_a.prefix (closed_so start.file_a six.send_a writes_a.whole) later.0 later.1 later.2 first_a (own_pieces A),
-          bears_so A p.a there.ab there.ba _ there.shows.a hold told.a writes_a.prefix (closed_so start.file_a six.send_a writes_a.whole) later.0 later.1 later.2 first_a (own_pieces A),
+          end_so A p.a there.ab there.ba _ there.shows.a hold told.a writes_a.prefix (closed_so start.file_a six.send_a writes_a.whole) later.0 later.1 later.2 first_a (own_pieces A) hold.link.alters_is,
+          bears_so A p.a there.ab there.ba _ there.shows.a hold told.a writes_a.prefix (closed_so start.file_a six.send_a writes_a.whole) later.0 later.1 later.2 first_a (own_pieces A) hold.link.alters_is,
         )
     fine B =
         let hold = holds.ba.lanes.each n n there.ba (omega arith) there.ba_there in
         let later = grows.ba n there.ba there.ba_there in (
           end_so B p.b there.ba there.ab _ there.shows.b hold told.b writes_b.prefix (closed_so start.file_b six.send_b writes_b.whole) later.0 later.1 later.2
-              (λ own unclear place len has. absurd (false≢true own)) (own_pieces B),
+              (λ own unclear place len has. absurd (false≢true own)) (own_pieces B) hold.link.alters_is,
           bears_so B p.b there.ba there.ab _ there.shows.b hold told.b writes_b.prefix (closed_so start.file_b six.send_b writes_b.whole) later.0 later.1 later.2
-              (λ own unclear place len has. absurd (false≢true own)) (own_pieces B),
+              (λ own unclear place len has. absurd (false≢true own)) (own_pieces B) hold.link.alters_is,
         )
 
-    offers : PathAlso (Tells start last) p
-    offers = subst (λ (k : ℕ). IfSome (first_sends p.agenda p) (λ t. Tells start last k t.from (segment_sent p t))) (sym there.numbered) (by (first_sends p.agenda p) maps carries)
+    offers : PathAlso (Tells start Fails last) p
+    offers = subst (λ (k : ℕ). IfSome (first_sends p.agenda p) (λ t. Tells start Fails last k t.from (segment_sent p t))) (sym there.numbered) (by (first_sends p.agenda p) maps carries)
       where
-        maps : IfSome (first_sends p.agenda p) (λ t. AllFine (file_len start) (IsMapped start last n) (Unit {0}) t.from (segment_sent p t).options)
+        maps : IfSome (first_sends p.agenda p) (λ t. AllFine (file_len start) (IsMapped start last n) (Unit {0}) Fails t.from (segment_sent p t).options)
         maps =
-            first_fine_sent (file_len start) (IsMapped start last n) (Unit {0}) p
-            (λ s. subst (λ (d : Profile). EndFine (file_len start) (IsMapped start last n) (Unit {0}) d s (end_at s p)) (sym there.shows.profile) (fine s).0) p.agenda
+            first_fine_sent (file_len start) (IsMapped start last n) (Unit {0}) Fails p
+            (λ s. subst (λ (d : Profile). EndFine (file_len start) (IsMapped start last n) (Unit {0}) Fails d s (end_at s p)) (sym there.shows.profile) (fine s).0) p.agenda
 
-        carries : IfSome (first_sends p.agenda p) (λ t. Carries (Bearing start last n) t.from (segment_sent p t))
+        carries : IfSome (first_sends p.agenda p) (λ t. Carries (Bearing start Fails last n) t.from (segment_sent p t))
         carries =
-            first_carries (Bearing start last n) p
-            (λ s. subst (λ (d : Profile). RecordsCarry (Bearing start last n) d s (end_at s p)) (sym there.shows.profile) (fine s).1) p.agenda
+            first_carries (Bearing start Fails last n) p
+            (λ s. subst (λ (d : Profile). RecordsCarry (Bearing start Fails last n) d s (end_at s p)) (sym there.shows.profile) (fine s).1) p.agenda
 
-        by : (o : Option ToSend) → IfSome o (λ t. AllFine (file_len start) (IsMapped start last n) (Unit {0}) t.from (segment_sent p t).options)
-            → IfSome o (λ t. Carries (Bearing start last n) t.from (segment_sent p t)) → IfSome o (λ t. Tells start last n t.from (segment_sent p t))
+        by : (o : Option ToSend) → IfSome o (λ t. AllFine (file_len start) (IsMapped start last n) (Unit {0}) Fails t.from (segment_sent p t).options)
+            → IfSome o (λ t. Carries (Bearing start Fails last n) t.from (segment_sent p t)) → IfSome o (λ t. Tells start Fails last n t.from (segment_sent p t))
         by None one other = tt
         by (Some t) one other = (one, other)
 
-  valued : WorldAlso (Tells start last) v
+  valued : WorldAlso (Tells start Fails last) v
   valued =
-      subst (λ (w : WorldState Carried). WorldAlso (Tells start last) w) (sym h.is)
-      (each_actor (λ i c. MemberAlso (Tells start last) c.member) h.cast tt tt (λ n x at. offers n x at))
+      subst (λ (w : WorldState Carried). WorldAlso (Tells start Fails last) w) (sym h.is)
+      (each_actor (λ i c. MemberAlso (Tells start Fails last) c.member) h.cast tt tt (λ n x at. offers n x at))
 
 -- ---- over octets
 
-module _ (start : Start) (last : Duo) where
-  path_shown : (p : PathState Carried) → PathAlso (Tells start last) p → PathAlso (Tells start last) (shown_path p)
+module _ (start : Start) (Fails : Type 0) (last : Duo) where
+  path_shown : (p : PathState Carried) → PathAlso (Tells start Fails last) p → PathAlso (Tells start Fails last) (shown_path p)
   path_shown p s = subst (λ (o : Option ToSend). IfSome o Shown) (sym (first_same p.agenda p)) (by (first_sends p.agenda p) s)
     where
       Shown : ToSend → Type 0
-      Shown = λ t. Tells start last (path_of p) t.from (segment_sent (shown_path p) t)
+      Shown = λ t. Tells start Fails last (path_of p) t.from (segment_sent (shown_path p) t)
 
-      by : (o : Option ToSend) → IfSome o (λ t. Tells start last (path_of p) t.from (segment_sent p t)) → IfSome o Shown
+      by : (o : Option ToSend) → IfSome o (λ t. Tells start Fails last (path_of p) t.from (segment_sent p t)) → IfSome o Shown
       by None said = tt
-      by (Some t) said = subst (λ (e : PathEnd). Tells start last (path_of p) t.from (said_by t.kind p.profile t.from e)) (end_shown t.from p) said
+      by (Some t) said = subst (λ (e : PathEnd). Tells start Fails last (path_of p) t.from (said_by t.kind p.profile t.from e)) (end_shown t.from p) said
 
-  member_shown : (m : Actor Carried) → MemberAlso (Tells start last) m → MemberAlso (Tells start last) (shown_member m)
+  member_shown : (m : Actor Carried) → MemberAlso (Tells start Fails last) m → MemberAlso (Tells start Fails last) (shown_member m)
   member_shown (App a) s = tt
   member_shown (Path p) s = path_shown p s
 
 -- at each moment of a run, by its last lanes
-pub run_tells : (start : Start) (turns : List Turn) → HasRoom start → NumbersFit start
-    → (last : Duo) × ((more later : List Turn) → more ++ later ≡ turns → WorldAlso (Tells start last) (world_run octets more (opened_world start)))
-run_tells start turns size fit =
-    let can = anyhow start size in
-    let reached = run_reaches start can turns (free_run can.links (anyhow_free start size) turns (opened_world start)) in
-    (reached.0, λ more later is. moment reached.0 more (reached.1 more later is))
-  where
-    moment : (last : Duo) (more : List Turn) → (q : Reached (anyhow start size).links start (world_run values more (opened_world start))) × Grows (duo_at start (anyhow start size) (world_run values more (opened_world start)) q) last
-        → WorldAlso (Tells start last) (world_run octets more (opened_world start))
-    moment last more r =
-        subst (λ (w : WorldState (List ℕ)). WorldAlso (Tells start last) w) (sym (run_fresh start more size fit))
-        (λ i c at.
-        let found = in_map shown_crew (world_run values more (opened_world start)).crew i c at in
-        subst (λ (y : ActorCrew (List ℕ)). MemberAlso (Tells start last) y.member) found.2
-        (member_shown start last found.0.member (valued start more size fit last r.0 r.1 i found.0 found.1)))
+abbrev pub RunTells : Start → Type 0 → List Turn → Type 0
+RunTells start Fails turns = (last : Duo) × ((more later : List Turn) → more ++ later ≡ turns → WorldAlso (Tells start Fails last) (world_run octets more (opened_world start)))
+
+module _ (start : Start) (can : MayCarry start) (free : NoneIsFirm can.links) (Fails : Type 0) (failing : can.links.alters ≡ true → Fails) (size : HasRoom start) (fit : NumbersFit start) where
+  tells_by : (turns : List Turn) → RunTells start Fails turns
+  tells_by turns =
+      let reached = run_reaches start can turns (free_run can.links free turns (opened_world start)) in
+      (reached.0, λ more later is. moment reached.0 more (reached.1 more later is))
+    where
+      moment : (last : Duo) (more : List Turn) → (q : Reached can.links start (world_run values more (opened_world start))) × Grows (duo_at start can (world_run values more (opened_world start)) q) last
+          → WorldAlso (Tells start Fails last) (world_run octets more (opened_world start))
+      moment last more r =
+          subst (λ (w : WorldState (List ℕ)). WorldAlso (Tells start Fails last) w) (sym (run_fresh start more size fit))
+          (λ i c at.
+          let found = in_map shown_crew (world_run values more (opened_world start)).crew i c at in
+          subst (λ (y : ActorCrew (List ℕ)). MemberAlso (Tells start Fails last) y.member) found.2
+          (member_shown start Fails last found.0.member (valued start can Fails failing more size fit last r.0 r.1 i found.0 found.1)))
+
+-- whatever the script does
+pub run_tells : (start : Start) (turns : List Turn) → HasRoom start → NumbersFit start → RunTells start (Unit {0}) turns
+run_tells start turns size fit = tells_by start (anyhow start size) (anyhow_free start size) (Unit {0}) (λ is. tt) size fit turns
+
+-- no MP_FAIL where it alters no payload
+pub plain_tells : (start : Start) (turns : List Turn) → IsPlain start → NumbersFit start → RunTells start ⊥ turns
+plain_tells start turns plain fit = tells_by start (plainly start plain) (plainly_free start plain) ⊥ false≢true plain.size fit turns

@@ -44,6 +44,12 @@ OfWholeRuns Holds = (start : Start) (turns : List Turn) → IsPlain start → Is
 abbrev pub NoWholeRunBreaks : Rule → Type 0
 NoWholeRunBreaks rule = OfWholeRuns (λ start s stream. broke rule stream ≡ false)
 
+-- nor in that of one whose script alters no payload, whatever options it takes away
+abbrev pub NoPlainRunBreaks : Rule → Type 0
+NoPlainRunBreaks rule = (start : Start) (turns : List Turn) → IsPlain start → NumbersFit start → RunFits start turns
+    → (side : Side) (at : Option Side) (judged : JudgedValue) → judged_capture at true (capture_of start turns side) ≡ Ok judged
+    → (connection : ℕ) (s : Side) (stream : StreamValue) → stream_in judged connection s ≡ Some stream → broke rule stream ≡ false
+
 abbrev pub file_of : Start → Side → List ℕ
 file_of start s = pick s start.file_a start.file_b
 

@@ -5,7 +5,7 @@ ghost use Rattle.own_runs.specs.Fitting.{TracesFit};
 ghost use Rattle.own_runs.specs.Handshakes.{EachComesInOrder};
 ghost use Rattle.own_runs.specs.KeysShown.{EachComesBehindKeys, EachShowsKeysSo};
 ghost use Rattle.own_runs.specs.Packets.{CapturesAreTheirPackets};
-ghost use Rattle.own_runs.specs.Runs.{DataFinsEndTheFiles, DeliveredRunsShowTheFiles, NoRunBreaks, NoWholeRunBreaks, SeenOctetsAreTheFiles, StreamsBeginTheFiles, WholeStreamsAreTheFiles};
+ghost use Rattle.own_runs.specs.Runs.{DataFinsEndTheFiles, DeliveredRunsShowTheFiles, NoPlainRunBreaks, NoRunBreaks, NoWholeRunBreaks, SeenOctetsAreTheFiles, StreamsBeginTheFiles, WholeStreamsAreTheFiles};
 ghost use Rattle.own_runs.specs.Segments.{SegmentsAreFound, WrittenSegmentsAreFound};
 ghost use Rattle.own_runs.specs.Traces.{TracesAreTheirPackets, TracesAreTheirSegments};
 ghost use Rattle.own_runs.specs.WholeKept.{DeliveredRunsAreKept, WholeRunsEndWell};
@@ -41,6 +41,7 @@ pub fn traces_are_their_segments()
 /// HMACs of both keys and nonces (`join_hmac`, section 3.2), an ADD_ADDR that of its address (`address_hmac`, section 3.4.1), and MP_FASTCLOSE
 /// the key of its receiver (`fast_close_key`, section 3.5). Nor is payload sent outside of a mapping of its segment (`within`, section 3.3.1),
 /// nor has a position of a subflow two places, nor a number none (`mapping`), and each checksum is that of its mapping and its octets (`dss_sum`).
+/// Where the script alters no payload no MP_FAIL names what is no mapping (`fail`, section 3.7), as there is none.
 ///
 /// The capture is that of a trace (`traces_are_their_segments`), with sums checked. It holds of every list of turns, lawful or not, whatever the
 /// script takes away or alters, where the numbers of the start fit and the run fits a capture (`traces_are_their_segments`), and wherever the
@@ -55,6 +56,7 @@ pub fn own_runs_break_no_rule()
     ensures within { NoRunBreaks Within }
     ensures mapping { NoRunBreaks Mapping }
     ensures dss_sum { NoRunBreaks DssSum }
+    ensures fail { NoPlainRunBreaks Fail }
 {}
 
 /// A law: where the script alters no payload and takes no options away, no side is told to break a rule on the end of a stream: the DATA_FIN
@@ -76,8 +78,9 @@ pub fn whole_runs_break_no_rule()
 {}
 
 /// A law: a path opens in its order, whatever the script does (RFC 9293, section 3.5; RFC 8684, sections 3.1 and 3.2). Each SYN of B's comes behind
-/// a SYN of A's on its path. Each segment that is no SYN and no reset comes behind a SYN/ACK of B's there, which acknowledges A's SYN. It holds of
-/// every list of turns, lawful or not, where the numbers of the start fit.
+/// a SYN of A's on its path. Each segment that is no SYN and no reset comes behind a SYN/ACK of B's there, which acknowledges A's SYN. And each SYN
+/// of A's that joins the connection comes behind the SYN/ACK of path 0. It holds of every list of turns, lawful or not, where the numbers of the
+/// start fit.
 pub fn paths_open_in_order()
     ensures { EachComesInOrder }
 {}

@@ -238,6 +238,7 @@ pub mod ReadSegments
 pub mod EndRounds
 pub mod UnitRounds
 pub mod PatientPaths
+pub mod QuietOpenings
 pub mod ShortWaits
 pub mod UnderWay
 pub mod ByTurns

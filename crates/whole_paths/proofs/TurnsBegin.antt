@@ -178,7 +178,7 @@ module _ {C : Type 0} where
         BeginsTurn t z.agenda ⊎ AsksNow (after_ask x six) t (with_agenda (d ∷ ds) p) z
     soon_so t (duties.Ask (ask_duties.Window u)) ds p is h = ⊎_elim
         (λ own. inr (subst (λ v. x ≡ Ask.Reassembly v ReassemblyCall.AckOut → AsksNow (after_ask x six) t (with_agenda (duties.Ask (ask_duties.Window v) ∷ ds) p) (takes k (reply_of six x) (with_agenda (duties.Ask (ask_duties.Window v) ∷ ds) p)))
-          (sym own.0) (λ at. asks_now t ds p at own.1) is))
+        (sym own.0) (λ at. asks_now t ds p at own.1) is))
         (λ away. inl (settled_begins t ds (to (duties.Ask (ask_duties.Window u)) ds p) away.1)) h
     soon_so t (duties.Send (send_duties.Update u)) ds p is h = inl (settled_begins t ds (to (duties.Send (send_duties.Update u)) ds p) h.1)
     soon_so t (duties.Step step_duties.Events) ds p is h = absurd (true≢false (sym h.0))

@@ -149,6 +149,7 @@ pub mod UnitRounds
 pub mod RisesOwed
 pub mod ToldStays
 pub mod PatientPaths
+pub mod QuietOpenings
 pub mod ShortWaits
 pub mod Rising
 pub mod FirstSigns

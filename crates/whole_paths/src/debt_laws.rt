@@ -62,8 +62,8 @@ pub fn directions_go_on()
 /// A law: of such debts one is mended within 62,000 ticks, unless a segment is harmed, over one path of a mild connection (RFC 6298, section 5).
 ///
 /// An end hears what it wasn't told: its timer runs out within a minute, its first record goes again, and the peer answers. A record that may be
-/// lost becomes the first one, since all before it comes within 400 ticks, and is acknowledged; then it goes again, as the timer runs out. That the
-/// direction's numbers agree, as they do (`numbers_agree`), is a premise.
+/// lost becomes the first one, since all before it comes within 400 ticks, and is acknowledged; then it goes again, as the timer runs out: no news
+/// starts that anew, as the direction's numbers agree (`numbers_agree`).
 pub fn directions_are_mended()
     ensures { DirectionsAreMended }
 {}

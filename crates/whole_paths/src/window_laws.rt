@@ -31,8 +31,9 @@ pub fn fitting_files_are_never_shut()
 /// A law: what an end told its peer of its window is no more than its side's reassembly book told it, and it tells a window that has grown by half of
 /// its buffer, or by two segments, as a turn begins (RFC 9293, section 3.8.6).
 ///
-/// By each turn on path 0: how far the end was told that its book takes bytes stays, and the edge that it told last stays, or lies below that; or the
-/// end asks its book, as a turn begins, and then tells the window next unless it hasn't grown so; or it asks behind a copy; or it dies, or is reset.
+/// By each turn on path 0: how far the end was told that its book takes bytes stays, and the edge that it told last stays, or is what it tells then: all of
+/// that, rounded to 32 bytes or as a SYN tells it. Or the end asks its book, as a turn begins, and then tells the window next unless it hasn't grown so; or
+/// it asks behind a copy; or it dies, or is reset.
 pub fn what_is_told_goes_on()
     ensures { WhatIsToldGoesOn }
 {}
