@@ -1,5 +1,5 @@
 -- A side stalls for six rounds until its end knows that the window is shut, or RCV.NXT of the peer rises; then for a timer, and what is asked so comes.
-use Rattle.std.proofs.Common.{◌≡◌, refl, sym, subst, ap, ◌∙◌, ◌⊎◌, inl, inr, ⊎_elim, ℕ, suc, ◌+◌, ◌*◌, ◌<◌, ◌≤◌, arith, true, false, List, [], ◌∷◌, ◌++◌, length}
+use Rattle.std.proofs.Common.{◌≡◌, refl, sym, subst, ap, ◌∙◌, ◌⊎◌, inl, inr, ⊎_elim, ℕ, suc, ◌+◌, ◌*◌, ◌<◌, ◌≤◌, arith, true, List, [], ◌∷◌, ◌++◌, length}
 use Rattle.std.proofs.lemmas.Bool.{cases_lt}
 use Rattle.sides.specs.declared.side.Side.{Side}
 use Rattle.sides.specs.declared.side.Side.TheVariants.{A, B}
@@ -17,7 +17,6 @@ use Rattle.whole_paths.specs.AsFar.{IsActorAsFar, IsPathAsFar}
 use Rattle.whole_paths.specs.Came.{HasCome}
 use Rattle.whole_paths.specs.Counts.{CountsAsMuch}
 use Rattle.whole_paths.specs.Courses.{harmed_so_far, round_end}
-use Rattle.whole_paths.specs.Debts.{Beginning, Stepping}
 use Rattle.whole_paths.specs.Delivery.{IsAllThere}
 use Rattle.whole_paths.specs.Directions.{DirectionIsWell}
 use Rattle.whole_paths.specs.Finish.{IsPathAt, is_harmed}
