@@ -291,3 +291,4 @@ pub mod SignPieces
 pub mod EarlyRecords
 pub mod ProbeWaits
 pub mod EachLane
+pub mod WindowStalls
