@@ -6,7 +6,7 @@ use Rattle.std.specs.Option.{IfSome}
 use Rattle.link_trace.specs.declared.sent.Sent.{Sent}
 use Rattle.path_core.specs.Looking.{first_sends, segment_sent}
 use Rattle.path_core.specs.Octets.{octets}
-use Rattle.path_core.specs.Values.{Carried, values}
+use Rattle.path_core.specs.Values.{values}
 use Rattle.path_core.specs.State.{PathState, path_of}
 use Rattle.path_segments.specs.Spelled.{PlainSegment}
 use Rattle.reassembly_book.specs.State.{Arriving}
@@ -16,7 +16,6 @@ use Rattle.sides.specs.declared.side.Side.TheVariants.{A, B}
 use Rattle.sides.specs.declared.side.Side.{Side}
 use Rattle.stream_lanes.proofs.Lists.{in_more}
 use Rattle.stream_lanes.proofs.Duos.{any_held}
-use Rattle.stream_lanes.proofs.Views.{is_end}
 use Rattle.stream_lanes.specs.Duo.{Duo, after_events}
 use Rattle.stream_lanes.specs.Holding.{Holds}
 use Rattle.stream_lanes.specs.Lane.{Cell, Lane}
@@ -48,7 +47,7 @@ use Rattle.own_runs.proofs.Moments.{MemberAlso, PathAlso, WorldAlso}
 use Rattle.own_runs.proofs.Reached.{AllGo, reaches, steps}
 use Rattle.own_runs.proofs.SentGrows.{Grows, LanesGrow, events_grow}
 use Rattle.own_runs.proofs.Speaking.{ToSend}
-use Rattle.own_runs.proofs.ToldAcks.{AckedBefore, AtEnd, also_acked, closed_whole, known_at_end}
+use Rattle.own_runs.proofs.ToldAcks.{AckedBefore, AtEnd, also_acked, known_at_end}
 use Rattle.own_runs.proofs.ReadEnds.{BothKnow, always_know}
 use Rattle.own_runs.proofs.WasSent.{Known, always_known, next_known, opened_known}
 
