@@ -19,8 +19,10 @@ use Rattle.world_laws.specs.Worlds.{Turn, WorldState, after_turn, world_run}
 use Rattle.world_laws.specs.declared.member.Member.TheVariants.{App, Path}
 use Rattle.own_runs.specs.Handshakes.{EachComesInOrder, IsOn, IsSyn, IsSynAck}
 use Rattle.own_runs.proofs.AckMoments.{one_turn}
-use Rattle.own_runs.proofs.InTime.{AnswersAt, OpensAt, Sending, WasSaid}
+use Rattle.own_runs.proofs.ComesTimes.{comes_at}
+use Rattle.own_runs.proofs.InTime.{AnswersAt, ComesAt, OpensAt, Sending, WasSaid}
 use Rattle.own_runs.proofs.Moments.{IsSpoken, MemberAlso, WorldAlso, turn_spoken, world_speaks}
+use Rattle.own_runs.proofs.ShownAcks.{both_worlds}
 use Rattle.own_runs.proofs.Speaking.{ToSend}
 use Rattle.own_runs.proofs.TimeRuns.{OpensSo, opens_so}
 use Rattle.own_runs.proofs.ToldAcks.{SentIn, sent_in}
@@ -71,9 +73,11 @@ module _ (start : Start) (size : HasRoom start) (fit : NumbersFit start) where
 pub comes_in_order : EachComesInOrder
 comes_in_order start turns size fit i x is =
     let m : SentIn turns (opened_world start) i x = sent_in turns (opened_world start) i x is in
-    let Q : ℕ → Side → PlainSegment → Type 0 = OpensSo start size fit m.before in
+    let w : WorldState (List ℕ) = world_run octets m.before (opened_world start) in
+    let Q : ℕ → Side → PlainSegment → Type 0 = λ path s sg. OpensSo start size fit m.before path s sg × ComesAt start m.before path s sg in
+    let also : WorldAlso Q w = both_worlds (OpensSo start size fit m.before) (ComesAt start m.before) w (opens_so start size fit m.before) (comes_at start size fit m.before) in
     let all : Every (IsSpoken Q start) (sent_at m.turn (world_run octets m.before (opened_world start))) =
-    turn_spoken Q start m.turn (world_run octets m.before (opened_world start)) (world_speaks start m.before size fit) (opens_so start size fit m.before) in
+    turn_spoken Q start m.turn (world_run octets m.before (opened_world start)) (world_speaks start m.before size fit) also in
     let said = all.each 0 x m.sends in
     record {
       spelling = (path_begins start x.path said.plan).profile.spelling;
@@ -89,7 +93,7 @@ comes_in_order start turns size fit i x is =
             octets = octets ∙ ap (λ (s : Side). made spelling s sg) opens.1;
             is = (opens.2.syn, opens.2.rst, opens.2.none);
           })
-          (said.also.answers of_b syn));
+          (said.also.0.answers of_b syn));
       behind = λ syn rst. subst (λ (front : List Sent). Has (IsOn x.path B IsSynAck) front) m.front
           (was_has start size fit (AnswersAt x.path) (IsOn x.path B IsSynAck) m.before
           (λ y sg spelling octets answers. record {
@@ -100,5 +104,16 @@ comes_in_order start turns size fit i x is =
             octets = octets ∙ ap (λ (s : Side). made spelling s sg) answers.1;
             is = (answers.2.syn, answers.2.acknowledged);
           })
-          (said.also.behind syn rst).0);
+          (said.also.0.behind syn rst).0);
+      joins = λ of_a syn more. subst (λ (front : List Sent). Has (IsOn 0 B IsSynAck) front) m.front
+          (was_has start size fit (AnswersAt 0) (IsOn 0 B IsSynAck) m.before
+          (λ y sg spelling octets answers. record {
+            path = answers.0;
+            from = answers.1;
+            spelling = spelling;
+            segment = sg;
+            octets = octets ∙ ap (λ (s : Side). made spelling s sg) answers.1;
+            is = (answers.2.syn, answers.2.acknowledged);
+          })
+          (said.also.1.joins of_a syn more));
     }

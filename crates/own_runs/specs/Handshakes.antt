@@ -1,5 +1,5 @@
 -- In which order a path opens: A's SYN, B's answer, and then all else.
-use Rattle.std.specs.Prelude.{◌≡◌, ℕ, true, false, Some, None, List, take}
+use Rattle.std.specs.Prelude.{◌≡◌, ◌<◌, ℕ, true, false, Some, None, List, take}
 use Rattle.std.specs.List.{slice_get}
 use Rattle.link_trace.specs.declared.sent.Sent.{Sent}
 use Rattle.path_core.specs.Octets.{made}
@@ -29,13 +29,15 @@ pub record IsOn (number : ℕ) (side : Side) (Is : PlainSegment → Type 0) (x :
   pub octets : x.octets ≡ made spelling side segment
   pub is : Is segment
 
--- A SYN of B's answers one of A's that was sent on its path. What is no SYN and no reset comes behind the answer.
+-- A SYN of B's answers one of A's that was sent on its path. What is no SYN and no reset comes behind the answer, and A's SYN of another path
+-- behind the answer on path 0.
 pub record ComesInOrder (before : List Sent) (x : Sent) : Type 0 where
   pub spelling : Spelling
   pub segment : PlainSegment
   pub octets : x.octets ≡ made spelling x.from segment
   pub answers : x.from ≡ B → segment.syn ≡ true → Has (IsOn x.path A IsSyn) before
   pub behind : segment.syn ≡ false → segment.rst ≡ false → Has (IsOn x.path B IsSynAck) before
+  pub joins : x.from ≡ A → segment.syn ≡ true → 0 < x.path → Has (IsOn 0 B IsSynAck) before
 
 -- each segment of a trace, whatever its script does
 abbrev pub EachComesInOrder : Type 0

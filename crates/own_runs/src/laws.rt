@@ -78,8 +78,9 @@ pub fn whole_runs_break_no_rule()
 {}
 
 /// A law: a path opens in its order, whatever the script does (RFC 9293, section 3.5; RFC 8684, sections 3.1 and 3.2). Each SYN of B's comes behind
-/// a SYN of A's on its path. Each segment that is no SYN and no reset comes behind a SYN/ACK of B's there, which acknowledges A's SYN. It holds of
-/// every list of turns, lawful or not, where the numbers of the start fit.
+/// a SYN of A's on its path. Each segment that is no SYN and no reset comes behind a SYN/ACK of B's there, which acknowledges A's SYN. And each SYN
+/// of A's that joins the connection comes behind the SYN/ACK of path 0. It holds of every list of turns, lawful or not, where the numbers of the
+/// start fit.
 pub fn paths_open_in_order()
     ensures { EachComesInOrder }
 {}

@@ -166,13 +166,13 @@ module _ (start : Start) (plan : PathPlan) (one : start.paths ≡ plan ∷ []) (
       none_late x h late = is_due h.path h.here (opened h.path h.here) (silent h.path h.here) h.side h.place h.fin h.by
           (let low = h.soon in let ends = until h.path h.here in omega (arith, low, ends, late)) h.waits.inquiry h.waits.unanswered
 
-      wait_begins : (way : ℕ) → HasAnAsk start way v → AwaitsAnAnswer start (round_end values start v + (60000 + way)) u
-      wait_begins way h = ⊎_elim
+      wait_begins : HasAnAsk start v → AwaitsAnAnswer start (round_end values start v + 60800) u
+      wait_begins h = ⊎_elim
           (λ rises. absurd (let same = ap (counted values start) step.is ∙ no_round_counts start v step.over in omega (arith, rises, same)))
           (λ waits. waits)
-          (opens_on (round_end values start v + (60000 + way)) awaited)
+          (opens_on (round_end values start v + 60800) awaited)
         where
-          awaited : AwaitsAnAnswer start (round_end values start v + (60000 + way)) v
+          awaited : AwaitsAnAnswer start (round_end values start v + 60800) v
           awaited = record {
             path = h.path;
             here = h.here;
@@ -180,14 +180,14 @@ module _ (start : Start) (plan : PathPlan) (one : start.paths ≡ plan ∷ []) (
             place = h.place;
             fin = h.fin;
             by = h.path.clock + 60000 + 400 + 400;
-            soon = (let clock = (near h.path h.here).clock in let low = h.near in let ends = until h.path h.here in omega (arith, clock, low, ends));
+            soon = (let clock = (near h.path h.here).clock in let ends = until h.path h.here in omega (arith, clock, ends));
             room = h.room;
             waits = begun h.path h.here (opened h.path h.here) (silent h.path h.here) h.side h.none h.place h.fin h.unanswered h.has;
           }
 
 pub answers_are_awaited_always : AnswersAreAwaitedAlways
 answers_are_awaited_always start plan most one mild = record {
-  begins = λ way v u step h. wait_begins start plan one mild most v u step way h;
+  begins = λ v u step h. wait_begins start plan one mild most v u step h;
   on = λ x v u step h. steps_on start plan one mild most x v u step h;
   next = λ x v u step h. opens_on start plan one mild most v u step x h;
   due = λ x v u step h late. absurd (none_late start plan one mild most v u step x h late);

@@ -55,7 +55,7 @@ use Rattle.path_core.specs.OptionsIn.{hint_of, items_of, options_heard, owes_by}
 use Rattle.path_core.specs.Profile.{Profile}
 use Rattle.path_core.specs.Standing.{after_ack_out, answered_ack_out}
 use Rattle.path_core.specs.State.{PathState, at_tick, end_at, goes_on, with_agenda}
-use Rattle.path_core.specs.Steps.{next_round, takes}
+use Rattle.path_core.specs.Steps.{begins_turn, next_round, takes}
 use Rattle.path_core.specs.Timer.{after_firing, timer_fired, with_timer_settled}
 use Rattle.path_core.specs.Treating.{answered_heard, answered_item, item_of, item_passed}
 use Rattle.path_core.specs.declared.events.Event.{Event}
@@ -395,6 +395,9 @@ module _ (Holds : EndState → Type 0) (May : Profile → Type 0) where
               let x : PathState C = with_agenda (d ∷ ds) p in let q : PathState C = answered k d r x in
               let same : q.profile ≡ p.profile = ap (λ (v : PathView C). v.profile) (writes_no_more k d r x).same in
               ⊎_elim (λ held. inl ((settled_lasts Lasting goes_lasts q.agenda q).1 (subst May (sym same) fit.may) s held)) (λ over. inr over) (duty_goes s d ds r p fit h)
+
+      pub begins_goes : (p : PathState C) (s : Side) → May p.profile → At s p → At s (begins_turn p)
+      begins_goes p s may h = (begins_lasts Lasting goes_lasts p).1 may s h
 
       pub next_goes : (p : PathState C) (s : Side) → May p.profile → At s p → At s (next_round p)
       next_goes p s may h = (begins_lasts Lasting goes_lasts (record p { clock = p.until; until = p.until + 100 })).1 may s h

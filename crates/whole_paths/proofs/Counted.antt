@@ -1,20 +1,9 @@
 -- What holds up an exchange between open ends is counted: as news, or as a segment of path 0 that is harmed.
-use Rattle.std.proofs.Common.{◌≡◌, refl, sym, subst, ap, ◌∙◌, inl, inr, ℕ, suc, ◌+◌, ◌-◌, ◌^◌, ◌==◌, ◌<◌, ◌≤◌, arith, nat_lt, nat_le, Bool, true, false, true≢false, not, ◌&&◌, ◌||◌, Some, List, [], ◌∷◌, ◌++◌, length}
-use Rattle.std.specs.List.{list_any, slice_get}
-use Rattle.std.proofs.lemmas.Bool.{and_from, lt-ltb, ne_eqb, or_from}
+use Rattle.std.proofs.Common.{◌≡◌, refl, sym, subst, ap, ◌∙◌, inl, inr, ℕ, ◌+◌, ◌-◌, ◌^◌, ◌<◌, ◌≤◌, arith, true, false, true≢false, Some, List, [], ◌∷◌, ◌++◌}
+use Rattle.std.specs.List.{slice_get}
 use Rattle.sides.specs.declared.side.Side.{Side}
 use Rattle.sides.specs.declared.side.Side.TheVariants.{A, B}
-use Rattle.sides.specs.Side.{peer}
-use Rattle.link_script.specs.Places.{same_side}
-use Rattle.path_segments.specs.Spelled.{PlainSegment}
-use Rattle.link_model.specs.declared.fate.Fate.{Fate}
-use Rattle.link_model.specs.declared.flight.Flight.{Flight}
-use Rattle.link_model.specs.Fate.{fate_of}
-use Rattle.link_model.specs.State.{LinkState}
-use Rattle.link_model.specs.Steps.{after_send, arrivals, fate_by, first_arrival, is_lost, is_lost_by_chance, is_refused, next_number, segments_sent, with_flights}
-use Rattle.stream_lanes.specs.Words.{Every}
-use Rattle.path_core.specs.Handover.{handed}
-use Rattle.path_core.specs.Octets.{made}
+use Rattle.link_model.specs.Steps.{segments_sent}
 use Rattle.subflow_tcp.specs.States.{is_dead}
 use Rattle.path_core.specs.State.{PathState, end_at}
 use Rattle.path_core.specs.Values.{Carried, values}
@@ -24,18 +13,15 @@ use Rattle.world_laws.specs.Openings.{Start, opened_world}
 use Rattle.world_laws.specs.RoundDone.{reached}
 use Rattle.world_laws.specs.Worlds.{WorldState, Turn, after_turn, world_run}
 use Rattle.world_laws.proofs.Weaving.WholeRounds.{run_append}
-use Rattle.world_laws.proofs.Worlds.Finding.{one_side}
 use Rattle.whole_paths.specs.Courses.{counted}
 use Rattle.whole_paths.specs.Exchanges.{IsHeldUp}
 use Rattle.whole_paths.specs.Exchanges.{IsHeldUp as held}
 use Rattle.whole_paths.specs.Finish.{harmed, harms_between, harms_of, is_harmed}
-use Rattle.whole_paths.specs.Harms.{as_it_arrives, loses}
 use Rattle.whole_paths.specs.News.{ActorCounts, news, one_if}
 use Rattle.whole_paths.specs.News.{Counts as counts}
 use Rattle.whole_paths.specs.OpenCourses.{HoldUpsCount, WhatHoldsUpCounts}
-use Rattle.whole_paths.proofs.Arrivals.{sender_of}
 use Rattle.whole_paths.proofs.Courses.{harmed_append}
-use Rattle.whole_paths.proofs.Due.{Counted, LinkIs, LinkMember, each_link}
+use Rattle.whole_paths.proofs.Due.{LinkIs, LinkMember, each_link}
 use Rattle.whole_paths.proofs.News.{each_news_counts, news_never_falls}
 
 pub one_harmed : (s : Side) (p q : PathState Carried) → is_harmed s p q ≡ true → 0 < harms_between (Path p) (Path q)

@@ -1,5 +1,5 @@
 -- What an end asks again that has no record left comes to the peer, whatever is lost.
-use Rattle.std.proofs.Common.{◌≡◌, refl, sym, subst, ap, ◌∙◌, ◌⊎◌, inl, inr, ⊎_elim, ℕ, ◌+◌, ◌-◌, ◌^◌, ◌<◌, ◌≤◌, max, Bool, false, true≢false, if◌then◌else◌, Option, Some, None, IfSome, List, [], ◌∷◌, length, arith}
+use Rattle.std.proofs.Common.{◌≡◌, refl, sym, subst, ap, ◌∙◌, ◌⊎◌, inl, inr, ⊎_elim, ℕ, ◌+◌, ◌-◌, ◌^◌, ◌<◌, ◌≤◌, max, Bool, false, true≢false, if◌then◌else◌, Option, Some, None, IfSome, List, [], ◌∷◌, arith}
 use Rattle.std.specs.Prelude.{IsSome}
 use Rattle.std.specs.List.{slice_get}
 use Rattle.std.proofs.lemmas.Bool.{cases_lt}
@@ -7,10 +7,8 @@ use Rattle.std.proofs.lemmas.Option.{same_Some}
 use Rattle.sides.specs.declared.side.Side.{Side}
 use Rattle.sides.specs.declared.side.Side.TheVariants.{A, B}
 use Rattle.link_model.specs.declared.flight.Flight.{Flight}
-use Rattle.link_model.specs.State.{LinkState}
 use Rattle.link_model.specs.Steps.{next_number, segments_sent, changed}
 use Rattle.link_model.specs.Fate.{is_stripped, is_altered}
-use Rattle.stream_lanes.specs.Words.{Has}
 use Rattle.path_segments.specs.Spelled.{PlainSegment}
 use Rattle.subflow_send.specs.Records.{Record}
 use Rattle.subflow_tcp.specs.State.{is_some_record, has_records}
@@ -26,7 +24,6 @@ use Rattle.path_core.specs.Emission.{ack_resent, first_record}
 use Rattle.path_core.specs.End.{PathEnd}
 use Rattle.path_core.specs.Handover.{handed}
 use Rattle.path_core.specs.Looking.{first_sends, segment_sent}
-use Rattle.path_core.specs.Octets.{made}
 use Rattle.path_core.specs.OptionsOut.{record_or_ack}
 use Rattle.path_core.specs.Profile.{Profile}
 use Rattle.path_core.specs.Shown.{AltersNothing}

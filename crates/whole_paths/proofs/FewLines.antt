@@ -1,6 +1,6 @@
 -- Each segment that is harmed uses a line of the script, where no line speaks of a direction. So few such lines are few losses, and rounds enough for
 -- the lines are enough for the segments that they harm.
-use Rattle.std.proofs.Common.{subst, ℕ, suc, ◌+◌, ◌*◌, ◌/◌, ◌≤◌, arith, List}
+use Rattle.std.proofs.Common.{subst, ℕ, suc, ◌+◌, ◌/◌, ◌≤◌, arith, List}
 use Rattle.std.proofs.Math.Nat.{div-mul-le_self, lt-div-mul-add}
 use Rattle.link_script.specs.declared.script.PathLine.{PathLine}
 use Rattle.link_script.specs.declared.script.Script.{Script}
@@ -12,7 +12,6 @@ use Rattle.whole_paths.specs.News.{most_news}
 use Rattle.whole_paths.specs.OnlyPaths.{news_within}
 use Rattle.whole_paths.specs.OnePathScripts.{for_all_news}
 use Rattle.whole_paths.specs.OpeningCourses.{opening_patience, with_opening}
-use Rattle.whole_paths.specs.Rounds.{ticks_for}
 use Rattle.whole_paths.proofs.FewLossesDeliver.{few_losses_finish, few_losses_finish_in_octets}
 use Rattle.whole_paths.proofs.Harmed.{harms_use_lines}
 use Rattle.whole_paths.proofs.OverOctets.{as_far}

@@ -28,7 +28,7 @@ use Rattle.whole_paths.specs.Copies.{IsUnderWay}
 use Rattle.whole_paths.specs.InTime.{ComesFrom}
 use Rattle.whole_paths.specs.Exchanges.{IsFaithful}
 use Rattle.whole_paths.proofs.Acking.{same_actor}
-use Rattle.whole_paths.proofs.Exchanges.{Known, OfPaths, Shown, SameHeader, below_limit, changed_said, under_way}
+use Rattle.whole_paths.proofs.Exchanges.{Known, OfPaths, SameHeader, below_limit, changed_said, under_way}
 use Rattle.whole_paths.proofs.Flying.{Frames, FramesStay, frames_stay}
 use Rattle.whole_paths.proofs.GoesOn.{goes_on_so}
 use Rattle.whole_paths.proofs.InTime.{nothing_is_overdue}

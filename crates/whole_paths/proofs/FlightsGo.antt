@@ -1,5 +1,5 @@
 -- What an open end is to send next: the record that had no room in the window, or what it is granted then. Once it is first it goes.
-use Rattle.std.proofs.Common.{◌≡◌, refl, sym, subst, ap, ◌∙◌, ◌⊎◌, inl, inr, ⊎_elim, ℕ, zero, suc, ◌+◌, ◌<◌, ◌≤◌, arith, Bool, true, false, if◌then◌else◌, Option, Some, None, List, [], ◌∷◌, length, map, le_refl}
+use Rattle.std.proofs.Common.{◌≡◌, refl, sym, subst, ap, ◌∙◌, ◌⊎◌, inl, inr, ℕ, zero, suc, ◌+◌, ◌<◌, ◌≤◌, arith, Bool, true, false, if◌then◌else◌, Option, Some, None, List, [], ◌∷◌, length, map, le_refl}
 use Rattle.std.specs.List.{slice_get}
 use Rattle.std.specs.Prelude.{find}
 use Rattle.std.proofs.lemmas.Option.{same_Some}

@@ -41,9 +41,9 @@ pub mod ExpirySegments
 pub mod AnsweredExpiries
 pub mod FewLossesDeliver
 pub mod FinDebts
+pub mod FinsMended
 pub mod FinWaits
 pub mod FinsHeard
-pub mod FinsMended
 pub mod HarmlessDeaths
 pub mod HeardBelow
 pub mod HeardSaid
@@ -173,6 +173,8 @@ pub mod WindowsAssured
 pub mod FilesFit
 pub mod AnswersAssure
 pub mod AsksOwed
+pub mod OfferedTaken
+pub mod TurnsBegin
 pub mod ToldEdges
 pub mod WindowRounds
 pub mod Unharmed
@@ -234,6 +236,7 @@ pub mod SegmentRounds
 pub mod ReadSegments
 pub mod EndRounds
 pub mod UnitRounds
+pub mod PatientPaths
 pub mod ShortWaits
 pub mod UnderWay
 pub mod ByTurns
@@ -278,6 +281,8 @@ pub mod OldRecords
 pub mod PassedWhole
 pub mod Uncut
 pub mod WholePieces
+pub mod DataPast
+pub mod OpenQuietly
 pub mod Opened
 pub mod SignPieces
 pub mod EarlyRecords

@@ -83,11 +83,11 @@ pub edge_up : (x : Ask) (six : SixBooks) (s : Side) → arriving.edge (reassembl
 edge_up x six s = let up = (side_up x six s).arrival.read in let same = ask_size x six s in omega (arith, up, same)
 
 -- what is answered to an end that asks what is to be acknowledged
-abbrev IsFairOf : Arriving → ReassemblyReply → Type 0
+abbrev pub IsFairOf : Arriving → ReassemblyReply → Type 0
 IsFairOf b (ReassemblyReply.Ack next window) = arriving.edge b ≤ next + window
 IsFairOf b _ = Unit {0}
 
-abbrev IsFair : Side → SixBooks → Reply → Type 0
+abbrev pub IsFair : Side → SixBooks → Reply → Type 0
 IsFair s six (Reply.Reassembly r) = IsFairOf (reassembly_of s six) r
 IsFair s six _ = Unit {0}
 
@@ -121,7 +121,7 @@ fair_call b (ReassemblyCall.Read most) = by b.aborted
 fair_call b ReassemblyCall.AckOut = fair_book b
 fair_call b (ReassemblyCall.Abort by_peer) = tt
 
-fair_so : (s : Side) (x : Ask) (six : SixBooks) → IsAt s x → IsFair s six (reply_of six x)
+pub fair_so : (s : Side) (x : Ask) (six : SixBooks) → IsAt s x → IsFair s six (reply_of six x)
 fair_so A (Ask.Reassembly A call) six at = fair_call six.reassembly_a call
 fair_so B (Ask.Reassembly B call) six at = fair_call six.reassembly_b call
 fair_so A (Ask.Reassembly B call) six at = cc
@@ -133,18 +133,18 @@ fair_so s (Ask.Local step) six at = tt
 -- ---- an end
 
 -- what it was told stays
-record Same (e f : PathEnd) : Type 0 where
-  next : f.receiving.next ≡ e.receiving.next
-  window : f.receiving.window ≡ e.receiving.window
+pub record Same (e f : PathEnd) : Type 0 where
+  pub next : f.receiving.next ≡ e.receiving.next
+  pub window : f.receiving.window ≡ e.receiving.window
 
-same_so : (e f : PathEnd) → f.receiving.next ≡ e.receiving.next → f.receiving.window ≡ e.receiving.window → Same e f
+pub same_so : (e f : PathEnd) → f.receiving.next ≡ e.receiving.next → f.receiving.window ≡ e.receiving.window → Same e f
 same_so e f next window = record { next = next; window = window }
 
-same_offers : (at : ℕ) (e f : PathEnd) → Same e f → Offers at e → Offers at f
+pub same_offers : (at : ℕ) (e f : PathEnd) → Same e f → Offers at e → Offers at f
 same_offers at e f x h = (let n = x.next in let w = x.window in omega (arith, n, w, h))
 
 -- or it was answered what is to be acknowledged
-data Knows (r : Reply) (e f : PathEnd) : Type 0 where
+pub data Knows (r : Reply) (e f : PathEnd) : Type 0 where
   stays : Same e f → Knows r e f
   asked : Same (after_ack_out r e) f → Knows r e f
 
@@ -173,7 +173,7 @@ item_same s (Some _) e = same_so e _ refl refl
 
 -- ---- duties before the book is asked
 
-treats_breaks : (d : Duty) → treats_copy d ≡ true → may_break d ≡ true
+pub treats_breaks : (d : Duty) → treats_copy d ≡ true → may_break d ≡ true
 treats_breaks (duties.Ask (ask_duties.BreakAck s reason)) is = refl
 treats_breaks (duties.Send (send_duties.BreakReset s reason)) is = refl
 treats_breaks d is = is
@@ -230,7 +230,7 @@ module _ {C : Type 0} where
     window = unwritten false (end_at t p).receiving.window (end_at t (passed d p)).receiving.window refl (ap (λ (v : PathView C). v.other.window) (passes_no_more d p).same);
   }
 
-  passed_same : (s : Side) (d : Duty) (p : PathState C) → Same (end_at s p) (end_at s (passed d p))
+  pub passed_same : (s : Side) (d : Duty) (p : PathState C) → Same (end_at s p) (end_at s (passed d p))
   passed_same s d p = ⊎_elim
       (λ own. subst (λ t. Same (end_at t p) (end_at t (passed d p))) own (passed_own d p))
       (λ away. subst (λ t. Same (end_at t p) (end_at t (passed d p))) away (passed_other d p))
@@ -285,7 +285,7 @@ module _ {C : Type 0} where
         (unwritten (writes d).own.next (end_at (side_of d) p).receiving.next (end_at (side_of d) (answered k d r p)).receiving.next next (ap (λ (v : EndView). v.next) x.same))
         (unwritten (writes d).own.window (end_at (side_of d) p).receiving.window (end_at (side_of d) (answered k d r p)).receiving.window window (ap (λ (v : EndView). v.window) x.same))
 
-    own_knows : (d : Duty) → Knows r (end_at (side_of d) p) (end_at (side_of d) (answered k d r p))
+    pub own_knows : (d : Duty) → Knows r (end_at (side_of d) p) (end_at (side_of d) (answered k d r p))
     own_knows (duties.Ask (ask_duties.Window s)) = ack_knows s (left p)
     own_knows (duties.Ask (ask_duties.AckOut s)) = ack_knows s (left p)
     own_knows (duties.Ask (ask_duties.BreakAck s reason)) = ack_knows s (resets s reason)
@@ -300,7 +300,7 @@ module _ {C : Type 0} where
     own_knows (duties.Send (send_duties.Update s)) = unwritten_knows (duties.Send (send_duties.Update s)) refl refl
     own_knows d = unwritten_knows d refl refl
 
-    other_same : (d : Duty) → Same (end_at (peer (side_of d)) p) (end_at (peer (side_of d)) (answered k d r p))
+    pub other_same : (d : Duty) → Same (end_at (peer (side_of d)) p) (end_at (peer (side_of d)) (answered k d r p))
     other_same (duties.Step step_duties.Events) = let d : Duty = duties.Step step_duties.Events in let t = peer (side_of d) in record {
       next = unwritten (writes d).other.next (end_at t p).receiving.next (end_at t (answered k d r p)).receiving.next refl (ap (λ (v : PathView C). v.other.next) (writes_no_more k d r p).same);
       window = unwritten (writes d).other.window (end_at t p).receiving.window (end_at t (answered k d r p)).receiving.window refl (ap (λ (v : PathView C). v.other.window) (writes_no_more k d r p).same);
@@ -311,7 +311,7 @@ module _ {C : Type 0} where
     }
 
     -- of either end
-    answered_knows : (s : Side) (d : Duty) (six : SixBooks) (at : ℕ) → at ≤ arriving.edge (reassembly_of s six) → IsFair (side_of d) six r → Offers at (end_at s p) → Offers at (end_at s (answered k d r p))
+    pub answered_knows : (s : Side) (d : Duty) (six : SixBooks) (at : ℕ) → at ≤ arriving.edge (reassembly_of s six) → IsFair (side_of d) six r → Offers at (end_at s p) → Offers at (end_at s (answered k d r p))
     answered_knows s d six at low fair h = ⊎_elim
         (λ own. knows_offers at s six r (end_at s p) (end_at s (answered k d r p)) low (subst (λ t. IsFair t six r) own fair) (subst (λ t. Knows r (end_at t p) (end_at t (answered k d r p))) own (own_knows d)) h)
         (λ away. same_offers at (end_at s p) (end_at s (answered k d r p)) (subst (λ t. Same (end_at t p) (end_at t (answered k d r p))) away (other_same d)) h)
@@ -321,7 +321,7 @@ module _ {C : Type 0} where
     abbrev to : Duty → PathState C
     to d = answered k d (reply_of six x) (with_agenda (d ∷ ds) p)
 
-    window_offers : (s : Side) (at : ℕ) → at ≤ arriving.edge (reassembly_of s six) → x ≡ Ask.Reassembly s ReassemblyCall.AckOut → Offers at (end_at s (to (duties.Ask (ask_duties.Window s))))
+    pub window_offers : (s : Side) (at : ℕ) → at ≤ arriving.edge (reassembly_of s six) → x ≡ Ask.Reassembly s ReassemblyCall.AckOut → Offers at (end_at s (to (duties.Ask (ask_duties.Window s))))
     window_offers s at low is = subst (λ r. Offers at (end_at s (answered_ack_out s r ds (with_agenda (duties.Ask (ask_duties.Window s) ∷ ds) p)))) (sym (ap (reply_of six) is))
         (subst (λ (f : PathEnd). Offers at f) (sym (own_end s (after_ack_out (reply_of six (Ask.Reassembly s ReassemblyCall.AckOut)) (end_at s p)) p.a p.b))
         (let room = fair_book (reassembly_of s six) in omega (arith, low, room)))

@@ -31,6 +31,7 @@ use Rattle.whole_paths.specs.EndSteps.{PathStep, SubflowStep, SubflowSteps}
 use Rattle.whole_paths.specs.EndSteps.SubflowStep.{advances, arrives, begins, dies, drops, finishes, fires, forgets, grows, holds, joins, keeps, owes, passes, pushes, sends, settles}
 use Rattle.whole_paths.specs.EndSteps.SubflowSteps.{none, more}
 use Rattle.whole_paths.specs.Kept.{IsSameRecord}
+use Rattle.whole_paths.proofs.ByTurns.{Becomes}
 use Rattle.whole_paths.proofs.Duties.{answered_steps, passed_steps}
 use Rattle.whole_paths.proofs.Flying.{same_record}
 
@@ -190,7 +191,7 @@ module _ {C : Type 0} where
   step_both p q x A = steps_old q.clock p.a.tcp q.a.tcp x.a.subflow
   step_both p q x B = steps_old q.clock p.b.tcp q.b.tcp x.b.subflow
 
-  pub both_same : (p : PathState C) → BothOld p p
+  both_same : (p : PathState C) → BothOld p p
   both_same p s = send_stays (end_at s p).tcp.send
 
   both_last : Lasts BothOld
@@ -200,8 +201,13 @@ module _ {C : Type 0} where
     passes = λ d p. step_both p (passed d p) (passed_steps d p);
   }
 
-  pub takes_old : (k : Codec C) (r : Reply) (p : PathState C) → BothOld p (takes k r p)
+  takes_old : (k : Codec C) (r : Reply) (p : PathState C) → BothOld p (takes k r p)
   takes_old k r p = takes_lasts BothOld both_last k r p (λ d. step_both p (answered k d r p) (answered_steps k d r p))
 
-  pub next_old : (p : PathState C) → BothOld p (next_round p)
+  next_old : (p : PathState C) → BothOld p (next_round p)
   next_old p = begins_lasts BothOld both_last (record p { clock = p.until; until = p.until + 100 })
+
+  pub becomes_old : (k : Codec C) (p q : PathState C) → Becomes k p q → BothOld p q
+  becomes_old k p q Becomes.stays = both_same p
+  becomes_old k p q (Becomes.takes_a_reply r) = takes_old k r p
+  becomes_old k p q Becomes.begins_anew = next_old p

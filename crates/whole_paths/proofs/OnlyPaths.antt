@@ -1,13 +1,11 @@
 -- Over one path both files are delivered once it is whole, or an end dies early: what is said of each start holds of each script, over octets too.
-use Rattle.std.proofs.Common.{◌+◌, arith, le_refl}
-use Rattle.sides.specs.declared.side.Side.TheVariants.{A}
+use Rattle.std.proofs.Common.{arith}
 use Rattle.path_core.specs.Octets.{octets}
 use Rattle.path_core.specs.Values.{values}
-use Rattle.world_laws.specs.Openings.{PathPlan, Start}
 use Rattle.whole_paths.specs.Finish.{BriefPathsDeliver}
-use Rattle.whole_paths.specs.OnePathScripts.{BeginsWithOnePath, EndsWithin, BriefPathsEnd, for_all_news}
+use Rattle.whole_paths.specs.OnePathScripts.{EndsWithin, BriefPathsEnd, for_all_news}
 use Rattle.whole_paths.specs.OnlyPaths.{long_patience, news_within}
-use Rattle.whole_paths.specs.WholeCourses.{IsAwaited, WaysAreShort}
+use Rattle.whole_paths.specs.WholeCourses.{IsAwaited}
 use Rattle.whole_paths.specs.WindowWaits.{AwaitsAWindow}
 use Rattle.whole_paths.proofs.OnePathScripts.{ends_as_it_begins}
 use Rattle.whole_paths.proofs.OverOctets.{ends_as_it_begins_in_octets}
@@ -15,17 +13,14 @@ use Rattle.whole_paths.proofs.ShutWaits.{shut_windows_open_in_time}
 use Rattle.whole_paths.proofs.ThereInTime.{exchanges_bring_all, what_is_there_in_time_is_delivered, whole_paths_didnt_die}
 use Rattle.whole_paths.proofs.WholeCourses.{exchanges}
 
-pub ways_short : (start : Start) (plan : PathPlan) → BeginsWithOnePath start plan → WaysAreShort start 800
-ways_short start plan begins turns p here = omega arith
-
 -- of a start
 pub only_paths_end : EndsWithin (for_all_news news_within)
 only_paths_end = what_is_there_in_time_is_delivered (for_all_news news_within) (exchanges_bring_all news_within
     (λ start most n x turns. IsAwaited start 60800 (λ n x turns. AwaitsAWindow start x turns) n x turns)
     (λ start plan most begins. (
     let least = begins.buffer in
-    exchanges start plan most 800 60800 (λ n x turns. AwaitsAWindow start x turns) begins.one begins.mild (omega (arith, least)) (ways_short start plan begins) (omega arith)
-    (shut_windows_open_in_time start plan most 800 begins.one begins.mild (omega (arith, least))))))
+    exchanges start plan most 60800 (λ n x turns. AwaitsAWindow start x turns) begins.one begins.mild (omega (arith, least)) (omega arith)
+    (shut_windows_open_in_time start plan most begins.one begins.mild (omega (arith, least))))))
 
 pub paths_end : BriefPathsEnd values long_patience
 paths_end = ends_as_it_begins (for_all_news news_within) only_paths_end

@@ -48,12 +48,12 @@ parted (t ∷ ts) = by (parted ts)
 
 -- ---- a turn
 
-becomes_far : (p q : PathState Carried) → Becomes values p q → AllFar p q
+pub becomes_far : (p q : PathState Carried) → Becomes values p q → AllFar p q
 becomes_far p q Becomes.stays = record { at = λ s. same_far (end_at s p) }
 becomes_far p q (Becomes.takes_a_reply r) = takes_far r p
 becomes_far p q Becomes.begins_anew = next_far p
 
-becomes_fewer : (p q : PathState Carried) → Becomes values p q → few_links p.link q.link
+pub becomes_fewer : (p q : PathState Carried) → Becomes values p q → few_links p.link q.link
 becomes_fewer p q Becomes.stays = λ s few. few
 becomes_fewer p q (Becomes.takes_a_reply r) = (takes_later r p).fewer
 becomes_fewer p q Becomes.begins_anew = (next_later p).fewer

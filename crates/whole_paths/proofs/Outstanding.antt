@@ -60,8 +60,8 @@ only_end joined e knows alone first none empty unshut (outstanding.shut is) = ab
 only_end joined e knows alone first none empty unshut (outstanding.third is) = absurd (both_ways joined first (alone.third is))
 only_end joined e knows alone first none empty unshut (outstanding.fast_close is) = absurd (alone.carries (knows.closed is))
 
-module _ (start : Start) (plan : PathPlan) (way : ℕ) (since : List Turn) (order : List ℕ) (one : start.paths ≡ plan ∷ []) (mild : IsMildStart start) (begin : BeginsRound values start (reached values start since))
-    (over : all_over (reached values start (since ++ steps_of order)).crew ≡ true) (h : HasOutstanding start way (since ++ steps_of order)) where
+module _ (start : Start) (plan : PathPlan) (since : List Turn) (order : List ℕ) (one : start.paths ≡ plan ∷ []) (mild : IsMildStart start) (begin : BeginsRound values start (reached values start since))
+    (over : all_over (reached values start (since ++ steps_of order)).crew ≡ true) (h : HasOutstanding start (since ++ steps_of order)) where
   abbrev turns : List Turn
   turns = since ++ steps_of order
 
@@ -84,7 +84,7 @@ module _ (start : Start) (plan : PathPlan) (way : ℕ) (since : List Turn) (orde
   e = end_at s p
 
   abbrev Goal : Type 0
-  Goal = (counted values start since < counted values start turns) ⊎ WaitsForOne start way turns h
+  Goal = (counted values start since < counted values start turns) ⊎ WaitsForOne start turns h
 
   ended : w ≡ after_steps values order begun
   ended = run_append values since (steps_of order) (opened_world start)
@@ -108,7 +108,7 @@ module _ (start : Start) (plan : PathPlan) (way : ℕ) (since : List Turn) (orde
   alone = of_path EndsAskForThemselves (ends_ask_for_themselves start turns mild 2 h.here.crew h.here.there)
 
   answers : (place : ℕ) (fin : Bool) → e.tcp.send.records ≡ [] → IsUnansweredAt six s place fin p → place ≤ received (arrived_at (peer s) w) + one_if fin → Goal
-  answers place fin none still has = inr (waits.answer (record { path = p; here = h.here; side = s; place = place; fin = fin; none = none; unanswered = still; has = has; room = h.room; near = h.near }))
+  answers place fin none still has = inr (waits.answer (record { path = p; here = h.here; side = s; place = place; fin = fin; none = none; unanswered = still; has = has; room = h.room }))
 
   -- ---- bytes
 
@@ -188,5 +188,5 @@ module _ (start : Start) (plan : PathPlan) (way : ℕ) (since : List Turn) (orde
   by_records (r ∷ others) is = inr (waits.piece r others is)
 
 pub what_is_outstanding_is_awaited : WhatIsOutstandingIsAwaited
-what_is_outstanding_is_awaited start plan way since order one mild begin over h =
-    by_records start plan way since order one mild begin over h (end_at h.side h.path).tcp.send.records refl
+what_is_outstanding_is_awaited start plan since order one mild begin over h =
+    by_records start plan since order one mild begin over h (end_at h.side h.path).tcp.send.records refl

@@ -1,12 +1,11 @@
 -- Without checksums, too, an end passes each record of data of its peer's whole: none of its octets came, or all.
-use Rattle.std.proofs.Common.{◌≡◌, refl, sym, subst, ap, ◌∙◌, ◌⊎◌, inl, inr, ⊎_elim, ℕ, zero, suc, ◌+◌, ◌<◌, ◌≤◌, ◌&&◌, ◌==◌, arith, Bool, true, false, true≢false, Option, Some, None, IfSome, List, [], ◌∷◌, ◌++◌, length}
+use Rattle.std.proofs.Common.{◌≡◌, refl, sym, subst, ap, ◌∙◌, ◌⊎◌, inl, inr, ⊎_elim, ℕ, suc, ◌+◌, ◌<◌, ◌≤◌, ◌&&◌, ◌==◌, arith, Bool, true, false, true≢false, Option, Some, None, IfSome, List, [], ◌∷◌, ◌++◌, length}
 use Rattle.std.specs.List.{slice_get}
 use Rattle.std.proofs.lemmas.Bool.{and_parts, cases_lt}
 use Rattle.std.proofs.lemmas.Option.{same_Some}
 use Rattle.path_segments.specs.Heard.{HeardSegment}
 use Rattle.path_segments.specs.Laws.{meant}
 use Rattle.sides.specs.declared.side.Side.{Side}
-use Rattle.sides.specs.declared.side.Side.TheVariants.{A, B}
 use Rattle.sides.specs.Side.{peer}
 use Rattle.link_script.specs.Places.{same_side}
 use Rattle.link_model.specs.declared.flight.Flight.{Flight}
@@ -16,9 +15,7 @@ use Rattle.dss_mapping.specs.Mappings.{octets_of}
 use Rattle.dss_mapping.specs.declared.kept.KeptMapping.{KeptMapping}
 use Rattle.subflow_recv.specs.Receiving.{after_keep_held, window_end}
 use Rattle.subflow_send.specs.Records.{Record, end_of}
-use Rattle.subflow_send.specs.Sendings.{never_sent}
-use Rattle.subflow_send.specs.Rules.{syn_record}
-use Rattle.subflow_send.specs.declared.record.RecordKind.TheVariants.{Data, Syn}
+use Rattle.subflow_send.specs.declared.record.RecordKind.TheVariants.{Data}
 use Rattle.subflow_tcp.specs.Judging.{meaning_of}
 use Rattle.subflow_tcp.specs.State.{EndState, is_fin_passed}
 use Rattle.subflow_tcp.specs.States.{is_dead}
@@ -41,7 +38,6 @@ use Rattle.world_laws.specs.Worlds.{Turn}
 use Rattle.world_laws.proofs.Rounds.Lifting.{opened_lifted}
 use Rattle.world_laws.proofs.Whole.Ends.{MeansIs, means_so}
 use Rattle.world_laws.proofs.Worlds.Finding.{find_every, one_side}
-use Rattle.world_laws.proofs.Writes.Steps.{begins_lasts}
 use Rattle.whole_paths.specs.Brought.{Brings, Comes}
 use Rattle.whole_paths.specs.Came.{HasCome}
 use Rattle.whole_paths.specs.Copies.{IsUnderWay}
@@ -59,16 +55,16 @@ use Rattle.whole_paths.proofs.Arrivals.{sender_of}
 use Rattle.whole_paths.proofs.ByCopies.{IsFit, next_goes, takes_goes}
 use Rattle.whole_paths.proofs.ByTurns.{Becomes, Of, OfFirst, each_step}
 use Rattle.whole_paths.proofs.Came.{what_is_acknowledged_came}
+use Rattle.whole_paths.proofs.DataPast.{opened_without}
 use Rattle.whole_paths.proofs.Exchanges.{under_way}
 use Rattle.whole_paths.proofs.Handshaking.{living_before, next_far, takes_far}
 use Rattle.whole_paths.proofs.Knowing.{what_is_told_is_known}
 use Rattle.whole_paths.proofs.LastFin.{fins_are_last}
 use Rattle.whole_paths.proofs.Mild.{mapping_is_kept}
-use Rattle.whole_paths.proofs.OldRecords.{BothOld, both_same, next_old, takes_old}
+use Rattle.whole_paths.proofs.OldRecords.{BothOld, becomes_old}
 use Rattle.whole_paths.proofs.OpenCourses.{IsFirstPath, each_first}
 use Rattle.whole_paths.proofs.Overruns.{no_end_overruns}
 use Rattle.whole_paths.proofs.Reached.{EndsAreReached, each_is_reached}
-use Rattle.whole_paths.proofs.RecordsGo.{SameRecords, same_lasts}
 use Rattle.whole_paths.proofs.Sent.{what_came_was_sent}
 use Rattle.whole_paths.proofs.SentWithin.{EndsWithin, SentWithin, all_sent_within}
 use Rattle.whole_paths.proofs.Uncut.{AllOrNone, IsUncut, passes_uncut, taken_uncut, uncut_so}
@@ -272,30 +268,13 @@ module _ (start : Start) (mild : IsMildStart start) (unchecked : start.checksums
   earlier p q (Becomes.takes_a_reply r) living = λ s. living_before (end_at s p) (end_at s (takes values r p)) ((takes_far r p).at s) (living s)
   earlier p q Becomes.begins_anew living = λ s. living_before (end_at s p) (end_at s (next_round p)) ((next_far p).at s) (living s)
 
-  old_by : (p q : PathState Carried) → Becomes values p q → BothOld p q
-  old_by p q Becomes.stays = both_same p
-  old_by p q (Becomes.takes_a_reply r) = takes_old values r p
-  old_by p q Becomes.begins_anew = next_old p
-
   step_on : (turns : List Turn) (turn : Turn) (p q : PathState Carried) → IsPathAt 0 (reached values start turns) p → IsPathAt 0 (reached values start (turns ++ turn ∷ [])) q → Becomes values p q → AllUncut p → AllUncut q
   step_on turns turn p q here there becomes h living s =
-      next_uncut p q (known start turns p mild here) (known start (turns ++ turn ∷ []) q mild there) becomes (earlier p q becomes living) s h (old_by p q becomes)
+      next_uncut p q (known start turns p mild here) (known start (turns ++ turn ∷ []) q mild there) becomes (earlier p q becomes living) s h (becomes_old values p q becomes)
 
   -- at first no end has a record of data
   opened_uncut : (number : ℕ) (plan : PathPlan) → AllUncut (begins_turn (waiting_path (path_begins start number plan) start.lines))
-  opened_uncut number plan living s r one kind = absurd (let p : PathState Carried = waiting_path (path_begins start number plan) start.lines in none s ((begins_lasts SameRecords same_lasts p) s) one)
-    where
-      syn_alone : (rs : List Record) (i : ℕ) → rs ≡ syn_record never_sent ∷ [] → slice_get rs i ≡ Some r → ⊥
-      syn_alone rs i is at = by i (sym (ap (λ (xs : List Record). slice_get xs i) is) ∙ at)
-        where
-          by : (i : ℕ) → slice_get (syn_record never_sent ∷ []) i ≡ Some r → ⊥
-          by zero at = let same = ap (λ (x : Record). x.kind) (same_Some (syn_record never_sent) r at) in let apart : Syn ≡ Data = same ∙ kind in cc
-          by (suc i) at = cc
-
-      none : (s : Side) → (end_at s (begins_turn (waiting_path {C = Carried} (path_begins start number plan) start.lines))).tcp.send.records ≡ (end_at s (waiting_path {C = Carried} (path_begins start number plan) start.lines)).tcp.send.records
-          → IsRecordOf (end_at s (begins_turn (waiting_path {C = Carried} (path_begins start number plan) start.lines))) r → ⊥
-      none A same one = syn_alone _ one.at same (one.there ∙ ap Some one.holds)
-      none B same one = syn_alone _ one.at same (one.there ∙ ap Some one.holds)
+  opened_uncut number plan living s r one kind = absurd (opened_without start number plan s r one kind)
 
   opened_first : OfFirst AllUncut (opened_world start)
   opened_first = record { each = λ c there. (opened_lifted (λ c. Of AllUncut c.member) start tt tt (λ number plan at. opened_uncut number plan)).each 2 c there }

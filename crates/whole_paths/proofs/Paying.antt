@@ -1,5 +1,5 @@
 -- An acknowledgement that an end owes comes to the peer, whatever is lost.
-use Rattle.std.proofs.Common.{◌≡◌, refl, sym, subst, ap, ◌∙◌, ◌⊎◌, ⊎_elim, ℕ, ◌+◌, ◌-◌, ◌^◌, ◌<◌, ◌≤◌, arith, Bool, true, false, true≢false, if◌then◌else◌, Option, Some, None, IfSome, List, [], ◌∷◌, length}
+use Rattle.std.proofs.Common.{◌≡◌, refl, sym, subst, ap, ◌∙◌, ◌⊎◌, ⊎_elim, ℕ, ◌+◌, ◌-◌, ◌^◌, ◌<◌, ◌≤◌, arith, Bool, true, false, true≢false, if◌then◌else◌, Option, Some, None, IfSome, List, [], ◌∷◌}
 use Rattle.std.specs.List.{slice_get}
 use Rattle.std.proofs.lemmas.Option.{same_Some}
 use Rattle.path_segments.specs.Spelled.{PlainSegment}
@@ -7,11 +7,8 @@ use Rattle.sides.specs.declared.side.Side.{Side}
 use Rattle.sides.specs.declared.side.Side.TheVariants.{A}
 use Rattle.sides.specs.Side.{peer}
 use Rattle.fallback_state.specs.declared.fall.Event.TheVariants as events
-use Rattle.link_model.specs.Fate.{is_stripped, is_altered}
-use Rattle.link_model.specs.State.{LinkState}
-use Rattle.link_model.specs.Steps.{next_number, segments_sent, changed}
+use Rattle.link_model.specs.Steps.{segments_sent, changed}
 use Rattle.link_model.specs.declared.flight.Flight.{Flight}
-use Rattle.stream_lanes.specs.Words.{Has}
 use Rattle.subflow_send.specs.Records.{Record}
 use Rattle.subflow_tcp.specs.Opening.{after_begin}
 use Rattle.subflow_tcp.specs.State.{EndState}
@@ -44,7 +41,6 @@ use Rattle.path_core.specs.Fallback.{breaks_by_ack, after_fell, fell_duties, wit
 use Rattle.path_core.specs.Handover.{handed}
 use Rattle.path_core.specs.Looking.{first_sends, duty_sends, segment_sent, send_of, unsent_sends}
 use Rattle.path_core.specs.MpJoin.{is_never, never_joined, keys_begun, opened_by, with_keys}
-use Rattle.path_core.specs.Octets.{made}
 use Rattle.path_core.specs.Profile.{Profile}
 use Rattle.path_core.specs.Standing.{answered_ack_out, after_ack_out}
 use Rattle.path_core.specs.Shown.{AltersNothing}

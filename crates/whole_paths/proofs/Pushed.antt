@@ -1,13 +1,9 @@
 -- What there is room for is sent: as the turn is over no record waits that fits, and where there is room for a full segment the last grant was refused.
-use Rattle.std.proofs.Common.{◌≡◌, refl, sym, subst, ap, ◌∙◌, inl, ⊎_elim, ℕ, zero, suc, ◌+◌, ◌-◌, ◌^◌, ◌<◌, ◌≤◌, min, ◌&&◌, ◌||◌, nat_le, not, cond, arith, Bool, true, false, true≢false, if◌then◌else◌, Option, Some, None, List, [], ◌∷◌, ◌++◌, length, map, sum_by}
+use Rattle.std.proofs.Common.{◌≡◌, refl, sym, subst, ap, ◌∙◌, inl, ⊎_elim, ℕ, ◌-◌, ◌^◌, ◌<◌, ◌≤◌, min, ◌&&◌, ◌||◌, nat_le, not, arith, Bool, true, false, if◌then◌else◌, Option, Some, None, List, [], ◌∷◌, ◌++◌, length, map, sum_by}
 use Rattle.std.specs.List.{slice_get}
 use Rattle.std.specs.Prelude.{find}
 use Rattle.std.proofs.lemmas.Bool.{and_from, both_ways, cases_lt, le-leb, lt-leb, or_from}
 use Rattle.sides.specs.declared.side.Side.{Side}
-use Rattle.stream_lanes.specs.Marks.{spent}
-use Rattle.send_book.specs.declared.mark.ByteMark.{ByteMark}
-use Rattle.send_book.specs.declared.mark.ByteMark.TheVariants.{Acked, Held, Free}
-use Rattle.send_book.specs.Marks.{is_free_for}
 use Rattle.send_book.specs.State.{Sending}
 use Rattle.subflow_send.specs.Records.{Record, end_of}
 use Rattle.subflow_send.specs.Rules.{flight, is_unsent, octets_under_way}

@@ -207,7 +207,7 @@ module _ (n : ℕ) (Ok : ℕ → Type 0) (never : Ok n → ⊥) where
 
   -- ---- a copy
 
-  taken_below : (e t : EndState) (pos a : ℕ) (payload : List ℕ) (has_fin : Bool) → t.recv ≡ (with_payload (means.Taken pos a) payload e).recv → t.fin_at ≡ first_fin e.fin_at has_fin (pos + length payload)
+  pub taken_below : (e t : EndState) (pos a : ℕ) (payload : List ℕ) (has_fin : Bool) → t.recv ≡ (with_payload (means.Taken pos a) payload e).recv → t.fin_at ≡ first_fin e.fin_at has_fin (pos + length payload)
       → ((m : ℕ) → pos ≤ m → m < pos + length payload + one_if has_fin → Ok m) → AllBelow e → AllBelow t
   taken_below e t pos a payload has_fin recv_is fin_is few h = record { recv = low; held = held; fin = λ at is. fin e.fin_at refl has_fin few at (sym fin_is ∙ is) }
     where
@@ -246,10 +246,20 @@ module _ (n : ℕ) (Ok : ℕ → Type 0) (never : Ok n → ⊥) where
       fin None was true few at is = let same = same_Some (pos + length payload) at is in few at (omega (arith, same)) (omega (arith, same))
       fin None was false few at is = cc
 
-  piece_below : (c : Profile) (e : PathEnd) (piece : Piece) → next_piece c e ≡ Some piece → AllBelow e.tcp → AllBelow (record e.tcp { recv = after_advance (e.tcp.recv.edge + length piece.octets) e.tcp.recv })
+  pub piece_below : (c : Profile) (e : PathEnd) (piece : Piece) → next_piece c e ≡ Some piece → AllBelow e.tcp → AllBelow (record e.tcp { recv = after_advance (e.tcp.recv.edge + length piece.octets) e.tcp.recv })
   piece_below c e piece is h =
       let low = advanced_low (e.tcp.recv.edge + length piece.octets) e.tcp.recv (omega arith) (in_order_low (length piece.octets) e.tcp.recv (piece_short c e piece is) h.recv) h.recv in
       record { recv = low; held = λ pos octet at. inl (low.kept pos octet at); fin = h.fin }
+
+  pub all_kept : IsKeptSo AllBelow (λ c. Unit {0})
+  all_kept = record {
+    same = same_below;
+    dies = died_below;
+    keeps = keep_below;
+    fin = fin_below;
+    checks = λ c may e h. forgets_so (λ f. AllBelow f.tcp) c.spelling.checksums (mapping_here e) e (λ recv forgotten. forgets_below e.tcp recv forgotten h);
+    fails = λ c may r e h. check_failed_so (λ f. AllBelow f.tcp) c.spelling.checksums r e (λ told broken recv forgotten. forgets_below e.tcp recv forgotten h);
+  }
 
   module _ (Over : ℕ → ℕ → Bool → Type 0) (decide : (at len : ℕ) (fin : Bool) → ((m : ℕ) → at ≤ m → m < at + len + one_if fin → Ok m) ⊎ Over at len fin) {C : Type 0} (k : Codec C) where
     -- the end takes a copy next that does so
@@ -257,16 +267,6 @@ module _ (n : ℕ) (Ok : ℕ → Type 0) (never : Ok n → ⊥) where
       pub brings : Brings k p
       pub to : brings.copy.due.to ≡ s
       pub over : Over brings.position (length brings.copy.segment.payload) brings.copy.segment.fin
-
-    all_kept : IsKeptSo AllBelow (λ c. Unit {0})
-    all_kept = record {
-      same = same_below;
-      dies = died_below;
-      keeps = keep_below;
-      fin = fin_below;
-      checks = λ c may e h. forgets_so (λ f. AllBelow f.tcp) c.spelling.checksums (mapping_here e) e (λ recv forgotten. forgets_below e.tcp recv forgotten h);
-      fails = λ c may r e h. check_failed_so (λ f. AllBelow f.tcp) c.spelling.checksums r e (λ told broken recv forgotten. forgets_below e.tcp recv forgotten h);
-    }
 
     -- an end that is past the handshake
     fits : (s : Side) (p : PathState C) → 3 ≤ stage (end_at s p).tcp.state → IsFit AllBelow (λ c. Unit {0}) k OvertakesSo s p

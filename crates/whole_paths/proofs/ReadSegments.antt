@@ -1,6 +1,6 @@
 -- A segment is read: the end is told how far the peer is, the application writes, what is under way is acknowledged, the end sends what it was to send
 -- next, that comes, and is read.
-use Rattle.std.proofs.Common.{◌≡◌, inl, inr, refl, sym, subst, ap, ◌∙◌, ◌⊎◌, ⊎_elim, ℕ, ◌+◌, ◌-◌, ◌<◌, ◌≤◌, min, arith, true, Some, List, [], ◌∷◌, ◌++◌, length, length-append}
+use Rattle.std.proofs.Common.{◌≡◌, refl, sym, subst, ap, ◌∙◌, ⊎_elim, ℕ, ◌+◌, ◌-◌, ◌<◌, ◌≤◌, min, arith, true, Some, List, [], ◌∷◌, ◌++◌, length, length-append}
 use Rattle.std.specs.List.{slice_get}
 use Rattle.std.proofs.lemmas.List.{append-nil, append_assoc}
 use Rattle.sides.specs.declared.side.Side.{Side}

@@ -318,8 +318,7 @@ module _ (start : Start) (most : ℕ) (mild : IsMildStart start) (Holds : PathSt
             let left = waits.waits.left in omega (arith, reached_end, left)
 
     -- where an end of path 0 sent no FIN
-    module _ (way : ℕ) (path : PathState Carried) (here : IsPathAt 0 ended path) (side : Side) (unsent : (end_at side path).tcp.send.finished ≡ false)
-        (short : 400 + 400 ≤ way) (of : Of side) where
+    module _ (path : PathState Carried) (here : IsPathAt 0 ended path) (side : Side) (unsent : (end_at side path).tcp.send.finished ≡ false) (of : Of side) where
       near : TimersAreNear path
       near = subst (HoldsOfKind (λ app. Unit {0}) TimersAreNear) here.is ((timers_run_out values start v).each 2 here.crew here.there)
 
@@ -350,14 +349,14 @@ module _ (start : Start) (most : ℕ) (mild : IsMildStart start) (Holds : PathSt
       -- with the first record of a side
       side_begins : (t : Side) (r : Record) (others : List Record) → (end_at t path).tcp.send.records ≡ r ∷ others → IsData r (end_at t path)
           → ((end_at t path).tcp.send.finished ≡ false) ⊎ ((end_at (peer t) path).tcp.recv.edge < end_of r)
-          → (end_at (peer t) path).tcp.send.nxt ≤ (end_at t path).tcp.recv.edge + 1048576 → 400 + 400 ≤ way → Of t
-          → Awaits (round_end values start v + (60000 + way)) u
-      side_begins t r others is data_is ahead room low of_t = ⊎_elim
+          → (end_at (peer t) path).tcp.send.nxt ≤ (end_at t path).tcp.recv.edge + 1048576 → Of t
+          → Awaits (round_end values start v + 60800) u
+      side_begins t r others is data_is ahead room of_t = ⊎_elim
           (λ rises. absurd (let same = ap (counted values start) step.is ∙ no_round_counts start v step.over in omega (arith, rises, same)))
           (λ waits. waits)
-          (opens_on (round_end values start v + (60000 + way)) v u step (record { path = path; here = here; waits = awaited; of = of_t }))
+          (opens_on (round_end values start v + 60800) v u step (record { path = path; here = here; waits = awaited; of = of_t }))
         where
-          awaited : IsRecordAwaited (round_end values start v + (60000 + way)) path
+          awaited : IsRecordAwaited (round_end values start v + 60800) path
           awaited = record {
             side = t;
             awaited = r;
@@ -367,8 +366,8 @@ module _ (start : Start) (most : ℕ) (mild : IsMildStart start) (Holds : PathSt
             within = data_is.within;
             ahead = ahead;
             room = room;
-            exchange = exchange_later t r (path.clock + 60000 + 400 + 400) (round_end values start v + (60000 + way)) path
-                (let clock = near.clock in omega (arith, clock, low, until)) (begun silent t (living_open (end_at t path).tcp.state (opened.past t) (opened.living t)) r others is);
+            exchange = exchange_later t r (path.clock + 60000 + 400 + 400) (round_end values start v + 60800) path
+                (let clock = near.clock in omega (arith, clock, until)) (begun silent t (living_open (end_at t path).tcp.state (opened.past t) (opened.living t)) r others is);
           }
 
       abbrev other : Side
@@ -382,7 +381,7 @@ module _ (start : Start) (most : ℕ) (mild : IsMildStart start) (Holds : PathSt
 
       -- the peer filled the window, and its FIN stands behind: its own first record is waited for
       other_begins : (end_at side path).tcp.recv.edge + 1048576 < (end_at other path).tcp.send.nxt → Of other → (rs : List Record) → (end_at other path).tcp.send.records ≡ rs
-          → Awaits (round_end values start v + (60000 + way)) u
+          → Awaits (round_end values start v + 60800) u
       other_begins past of_other [] is = absurd (let none = none_left (end_at other path).tcp (ends other) is in let low = came.una other (opened.living other) in omega (arith, past, none, low, edge_same))
       other_begins past of_other (r ∷ others) is =
           let low = came.una other (opened.living other) in
@@ -390,23 +389,23 @@ module _ (start : Start) (most : ℕ) (mild : IsMildStart start) (Holds : PathSt
           let most_sent = few other in let one = one_most (end_at other path).tcp.send.finished in
           let left = data_is.left in
           let own = few side in let none = ap one_if unsent in let came_here = came.una side (opened.living side) in
-          side_begins other r others is data_is (inr (omega (arith, past, most_sent, one, left, edge_same))) (omega (arith, own, none, came_here, nxt_same)) short of_other
+          side_begins other r others is data_is (inr (omega (arith, past, most_sent, one, left, edge_same))) (omega (arith, own, none, came_here, nxt_same)) of_other
 
-      pub room_or : Of other → Awaits (round_end values start v + (60000 + way)) u ⊎ ((end_at other path).tcp.send.nxt ≤ (end_at side path).tcp.recv.edge + 1048576)
+      pub room_or : Of other → Awaits (round_end values start v + 60800) u ⊎ ((end_at other path).tcp.send.nxt ≤ (end_at side path).tcp.recv.edge + 1048576)
       room_or of_other = ⊎_elim (λ past. inl (other_begins past of_other (end_at other path).tcp.send.records refl)) (λ room. inr room) (cases_lt ((end_at side path).tcp.recv.edge + 1048576) (end_at other path).tcp.send.nxt)
 
     -- where the end's own window has room for what the peer sent
-    pub begins_with_room : (way : ℕ) (h : HasARecord start way v) → Of h.side → (end_at (peer h.side) h.path).tcp.send.nxt ≤ (end_at h.side h.path).tcp.recv.edge + 1048576 → Awaits (round_end values start v + (60000 + way)) u
-    begins_with_room way h of room =
-        let open_h : IsOpenFrom h.side h.path = opened way h.path h.here h.side h.unfinished h.near of in
-        side_begins way h.path h.here h.side h.unfinished h.near of h.side h.first h.others h.records
-        (is_left way h.path h.here h.side h.unfinished h.near of h.side (open_h.past h.side) (open_h.living h.side) (inl h.unfinished) h.first h.others h.records) (inl h.unfinished) room h.near of
+    pub begins_with_room : (h : HasARecord start v) → Of h.side → (end_at (peer h.side) h.path).tcp.send.nxt ≤ (end_at h.side h.path).tcp.recv.edge + 1048576 → Awaits (round_end values start v + 60800) u
+    begins_with_room h of room =
+        let open_h : IsOpenFrom h.side h.path = opened h.path h.here h.side h.unfinished of in
+        side_begins h.path h.here h.side h.unfinished of h.side h.first h.others h.records
+        (is_left h.path h.here h.side h.unfinished of h.side (open_h.past h.side) (open_h.living h.side) (inl h.unfinished) h.first h.others h.records) (inl h.unfinished) room of
 
-    pub wait_begins : (way : ℕ) (h : HasARecord start way v) → Of h.side → Of (peer h.side) → Awaits (round_end values start v + (60000 + way)) u
-    wait_begins way h of of_other = ⊎_elim
+    pub wait_begins : (h : HasARecord start v) → Of h.side → Of (peer h.side) → Awaits (round_end values start v + 60800) u
+    wait_begins h of of_other = ⊎_elim
         (λ waits. waits)
-        (λ room. begins_with_room way h of room)
-        (room_or way h.path h.here h.side h.unfinished h.near of of_other)
+        (λ room. begins_with_room h of room)
+        (room_or h.path h.here h.side h.unfinished of of_other)
 
 -- ---- a path that is open
 
@@ -428,9 +427,9 @@ module _ (start : Start) (most : ℕ) (mild : IsMildStart start) where
 
   pub open_records : RecordsAreAwaited start most
   open_records = record {
-    begins = λ way v u step h. plainly (round_end values start v + (60000 + way)) u (wait_begins start most mild IsOpen Each from_both v u step way h tt tt);
-    room = λ way v u step h. ⊎_elim (λ waits. inl (plainly (round_end values start v + (60000 + way)) u waits)) (λ room. inr room)
-        (room_or start most mild IsOpen Each from_both v u step way h.path h.here h.side h.unfinished h.near tt tt);
+    begins = λ v u step h. plainly (round_end values start v + 60800) u (wait_begins start most mild IsOpen Each from_both v u step h tt tt);
+    room = λ v u step h. ⊎_elim (λ waits. inl (plainly (round_end values start v + 60800) u waits)) (λ room. inr room)
+        (room_or start most mild IsOpen Each from_both v u step h.path h.here h.side h.unfinished tt tt);
     on = λ x v u step h. ⊎_elim (λ rises. inl rises) (λ waits. inr (plainly x u waits)) (steps_on start most mild IsOpen Each from_both x v u step (as_one x v h));
     next = λ x v u step h. ⊎_elim (λ rises. inl rises) (λ waits. inr (plainly x u waits)) (opens_on start most mild IsOpen Each from_both x v u step (as_one x v h));
     due = λ x v u step h late. none_late start most mild IsOpen Each from_both v u step x (as_one x v h) late;

@@ -102,7 +102,7 @@ first_low : (rs : List Record) (una nxt : ℕ) (r : Record) → Line una nxt (ma
 first_low [] una nxt r line at = cc
 first_low (x ∷ xs) una nxt r line at = let low : x.pos ≤ una = line.0 in subst (λ (y : Record). y.pos ≤ una) (same_Some x r at) low
 
-is_data_or : {X : Type 0} (u : Record) → (u.kind ≡ Data → X) → ((u.kind ≡ Data → ⊥) → X) → X
+pub is_data_or : {X : Type 0} (u : Record) → (u.kind ≡ Data → X) → ((u.kind ≡ Data → ⊥) → X) → X
 is_data_or {X} u then_data otherwise = by u.kind refl
   where
     by : (kind : RecordKind) → u.kind ≡ kind → X
@@ -203,6 +203,108 @@ module _ (start : Start) (mild : IsMildStart start) (turns : List Turn) (turn : 
     pub numbered : (f : Flight Carried) → IsUnderWay f p → f.number < 2 ^ 64 - 1
     numbered f here = let low = under_way (λ (g : Flight Carried). g.number ≤ segments_sent (peer g.to) p.link) f p here known.link.low in let most = before.few (peer f.to) in omega (arith, low, most)
 
+    -- ---- a copy that is under way stays
+
+    pub copy_stays : (s : Side) (r : Record) (f : Flight Carried) (of_it : IsCopyOf values s r p f) → IsSentWhole p.profile s r of_it.sender of_it.stripped of_it.altered → (tick : ℕ) → f.tick ≤ tick → IsUnderWay f q → ComesBy s r tick q
+    copy_stays s r f of_it whole tick soon on = record {
+      copy = f;
+      there = on;
+      of_it = record {
+        to = of_it.to;
+        segment = of_it.segment;
+        of_it = of_it.of_it;
+        sender = of_it.sender;
+        says = subst (λ c. IsSaidAt c s r of_it.sender of_it.segment) (sym frames.profile) of_it.says;
+        stripped = of_it.stripped;
+        altered = of_it.altered;
+        whole = λ strips. of_it.whole (subst StripsNothing frames.lines strips);
+        plain = λ alters. of_it.plain (subst AltersNothing frames.lines alters);
+        carried = subst (λ (c : Profile). f.carried ≡ changed (values.strips c.spelling s) (values.alters c.spelling s) of_it.stripped of_it.altered (values.makes c.spelling s of_it.segment)) (sym frames.profile) of_it.carried;
+      };
+      whole = subst (λ c. IsSentWhole c s r of_it.sender of_it.stripped of_it.altered) (sym frames.profile) whole;
+      soon = soon;
+    }
+
+    -- ---- what a side sends that is past the handshake
+
+    module _ (s : Side) (past : 3 ≤ stage (end_at s p).tcp.state) (living : is_dead (end_at s p).tcp.state ≡ false) (keyed : is_some p.a.modes.peer_key ≡ true) where
+      abbrev Goes : Record → Type 0
+      Goes u = WasSent (end_at s p) u ⊎ ((is_harmed s p q ≡ true) ⊎ IsThereBy s u (p.clock + 400) q)
+
+      begun : EndsAreBegun p
+      begun = holds_p EndsAreBegun (each_is_begun values start turns).each
+
+      alive : (state : EndPhase) → is_dead state ≡ false → stage state ≤ 6
+      alive phase.Dead living = absurd (true≢false living)
+      alive _ living = omega arith
+
+      some : 0 < (end_at s p).tcp.send.una
+      some = let one = (begun s).past past (alive (end_at s p).tcp.state living) in omega (arith, one)
+
+      -- what is sent goes with its own mapping
+      mapped_now : (u : Record) → IsRecordOf (end_at s q) u → u.kind ≡ Data → HasItsMapping p.profile s u (end_at s p)
+      mapped_now u h kind =
+          let shown : Shown q = holds_q Shown (each_shown start later mild.plain.size mild.fit) in
+          let stand : DataStands q = holds_q DataStands (data_always_stands start later mild.plain.size).each in
+          let there : slice_get (end_at s q).tcp.send.records h.at ≡ Some u = h.there ∙ ap Some h.holds in
+          let told = (shown.tells s).sender.records.each h.at u there in
+          let tells : RecordKindTells p.profile s Data u = subst (λ c. RecordKindTells c s Data u) frames.profile (subst (λ k. RecordKindTells q.profile s k u) kind told.mapped) in
+          let one : 1 ≤ u.mapping.length = tells.0 in
+          let place : place_numbered p.profile s u.mapping.number < 2 ^ 31 = tells.3 in
+          let whole = tells.4 in
+          let few : length u.piece ≤ 65475 = told.octets in
+          let reaches : u.pos + length u.piece + 1 < 2 ^ 31 = told.reaches in
+          let behind = ((stand s).each h.at u there kind).behind in
+          let told_by : (y : Side) → (is_first_piece y u (end_at y p) ≡ false) ⊎ (is_some (end_at y p).modes.peer_key ≡ true) = elim [ A ↦ inr keyed | B ↦ inl refl ] in
+          record {
+            kind = kind;
+            some = omega (arith, one, whole);
+            behind_syn = omega (arith, behind);
+            short = omega (arith, reaches);
+            whole = whole;
+            low = omega (arith, place, few);
+            mapped = (mapped_p s).identity;
+            finite = (mapped_p s).own;
+            few = few;
+            told = told_by s;
+          }
+
+      sent_now : (u : Record) → IsRecordOf (end_at s q) u → u.kind ≡ Data → (x : PlainSegment) → IsSegmentOf u x → IsSaidAt p.profile s u (end_at s p) x → IsSentSoon values s x p q
+          → ComesBy s u (p.clock + 400) q
+      sent_now u is_one kind x of_it says h = record {
+        copy = h.copy;
+        there = h.there;
+        of_it = record {
+          to = h.to;
+          segment = x;
+          of_it = of_it;
+          sender = end_at s p;
+          says = subst (λ c. IsSaidAt c s u (end_at s p) x) (sym frames.profile) says;
+          stripped = h.stripped;
+          altered = h.altered;
+          whole = λ strips. h.whole (subst StripsNothing frames.lines strips);
+          plain = λ alters. h.plain (subst AltersNothing frames.lines alters);
+          carried = subst (λ (c : Profile). h.copy.carried ≡ changed (values.strips c.spelling s) (values.alters c.spelling s) h.stripped h.altered (values.makes c.spelling s x)) (sym frames.profile) h.carried;
+        };
+        whole = subst (λ c. IsSentWhole c s u (end_at s p) h.stripped h.altered) (sym frames.profile) (record {
+          mapped = mapped_now u is_one kind;
+          acknowledges = ap (λ b. if b then None else Some (end_at s p).tcp.recv.edge) (unopening (end_at s p).tcp.state past);
+          edge = known.edge s;
+          unstripped = h.whole before.faithful.whole;
+          unaltered = h.plain before.faithful.plain;
+        });
+        soon = h.soon;
+      }
+
+      by_marks : (u : Record) → IsRecordOf (end_at s q) u → u.kind ≡ Data → Marks values s u p q.link → Goes u
+      by_marks u is_one kind (marked.before h) = inl h
+      by_marks u is_one kind (marked.now x of_it says taken) = inr (⊎_elim (λ harmed. inl harmed)
+          (λ h. inr (by_then.comes (sent_now u is_one kind x of_it says h)))
+          (segments_come_soon values p q (numbered_so p known.link) s x (before.few s) taken))
+
+      pub goes_so : (u : Record) → IsRecordOf (end_at s q) u → u.kind ≡ Data → u.sending.unsent ≡ false → Goes u
+      goes_so u h kind sent = by_marks u h kind (marks.marks s some u h kind sent)
+
     -- ---- what came stays
 
     module _ (open_p : IsOpenFrom B p) (open_q : IsOpenFrom B q) (s : Side) where
@@ -277,24 +379,7 @@ module _ (start : Start) (mild : IsMildStart start) (turns : List Turn) (turn : 
 
         module _ (f : Flight Carried) (here : IsUnderWay f p) (of_it : IsCopyOf values s r p f) (whole : IsSentWhole p.profile s r of_it.sender of_it.stripped of_it.altered) (tick : ℕ) (soon : f.tick ≤ tick) where
           still : IsUnderWay f q → ComesBy s r tick q
-          still on = record {
-            copy = f;
-            there = on;
-            of_it = record {
-              to = of_it.to;
-              segment = of_it.segment;
-              of_it = of_it.of_it;
-              sender = of_it.sender;
-              says = subst (λ c. IsSaidAt c s r of_it.sender of_it.segment) (sym frames.profile) of_it.says;
-              stripped = of_it.stripped;
-              altered = of_it.altered;
-              whole = λ strips. of_it.whole (subst StripsNothing frames.lines strips);
-              plain = λ alters. of_it.plain (subst AltersNothing frames.lines alters);
-              carried = subst (λ (c : Profile). f.carried ≡ changed (values.strips c.spelling s) (values.alters c.spelling s) of_it.stripped of_it.altered (values.makes c.spelling s of_it.segment)) (sym frames.profile) of_it.carried;
-            };
-            whole = subst (λ c. IsSentWhole c s r of_it.sender of_it.stripped of_it.altered) (sym frames.profile) whole;
-            soon = soon;
-          }
+          still on = copy_stays s r f of_it whole tick soon on
 
           module _ (others : List Duty) (first : p.agenda ≡ duties.Step step_duties.Events ∷ others) (next : next_event p ≡ Some (happenings.Arrives (due_of f))) where
             abbrev x : PlainSegment
@@ -380,79 +465,8 @@ module _ (start : Start) (mild : IsMildStart start) (turns : List Turn) (turn : 
       abbrev Sent : Record → Type 0
       Sent u = WasSent (end_at s p) u ⊎ ((is_harmed s p q ≡ true) ⊎ IsThereBy s u (p.clock + 400) q)
 
-      begun : EndsAreBegun p
-      begun = holds_p EndsAreBegun (each_is_begun values start turns).each
-
-      alive : (state : EndPhase) → is_dead state ≡ false → stage state ≤ 6
-      alive phase.Dead living = absurd (true≢false living)
-      alive _ living = omega arith
-
-      some : 0 < (end_at s p).tcp.send.una
-      some = let one = (begun s).past (open_p.past s) (alive (end_at s p).tcp.state (open_p.living s)) in omega (arith, one)
-
-      -- what is sent goes with its own mapping
-      mapped_now : (u : Record) → IsRecordOf (end_at s q) u → u.kind ≡ Data → HasItsMapping p.profile s u (end_at s p)
-      mapped_now u h kind =
-          let shown : Shown q = holds_q Shown (each_shown start later mild.plain.size mild.fit) in
-          let stand : DataStands q = holds_q DataStands (data_always_stands start later mild.plain.size).each in
-          let there : slice_get (end_at s q).tcp.send.records h.at ≡ Some u = h.there ∙ ap Some h.holds in
-          let told = (shown.tells s).sender.records.each h.at u there in
-          let tells : RecordKindTells p.profile s Data u = subst (λ c. RecordKindTells c s Data u) frames.profile (subst (λ k. RecordKindTells q.profile s k u) kind told.mapped) in
-          let one : 1 ≤ u.mapping.length = tells.0 in
-          let place : place_numbered p.profile s u.mapping.number < 2 ^ 31 = tells.3 in
-          let whole = tells.4 in
-          let few : length u.piece ≤ 65475 = told.octets in
-          let reaches : u.pos + length u.piece + 1 < 2 ^ 31 = told.reaches in
-          let behind = ((stand s).each h.at u there kind).behind in
-          let told_by : (y : Side) → (is_first_piece y u (end_at y p) ≡ false) ⊎ (is_some (end_at y p).modes.peer_key ≡ true) = elim [ A ↦ inr open_p.keyed | B ↦ inl refl ] in
-          record {
-            kind = kind;
-            some = omega (arith, one, whole);
-            behind_syn = omega (arith, behind);
-            short = omega (arith, reaches);
-            whole = whole;
-            low = omega (arith, place, few);
-            mapped = (mapped_p s).identity;
-            finite = (mapped_p s).own;
-            few = few;
-            told = told_by s;
-          }
-
-      sent_now : (u : Record) → IsRecordOf (end_at s q) u → u.kind ≡ Data → (x : PlainSegment) → IsSegmentOf u x → IsSaidAt p.profile s u (end_at s p) x → IsSentSoon values s x p q
-          → ComesBy s u (p.clock + 400) q
-      sent_now u is_one kind x of_it says h = record {
-        copy = h.copy;
-        there = h.there;
-        of_it = record {
-          to = h.to;
-          segment = x;
-          of_it = of_it;
-          sender = end_at s p;
-          says = subst (λ c. IsSaidAt c s u (end_at s p) x) (sym frames.profile) says;
-          stripped = h.stripped;
-          altered = h.altered;
-          whole = λ strips. h.whole (subst StripsNothing frames.lines strips);
-          plain = λ alters. h.plain (subst AltersNothing frames.lines alters);
-          carried = subst (λ (c : Profile). h.copy.carried ≡ changed (values.strips c.spelling s) (values.alters c.spelling s) h.stripped h.altered (values.makes c.spelling s x)) (sym frames.profile) h.carried;
-        };
-        whole = subst (λ c. IsSentWhole c s u (end_at s p) h.stripped h.altered) (sym frames.profile) (record {
-          mapped = mapped_now u is_one kind;
-          acknowledges = ap (λ b. if b then None else Some (end_at s p).tcp.recv.edge) (unopening (end_at s p).tcp.state (open_p.past s));
-          edge = known.edge s;
-          unstripped = h.whole before.faithful.whole;
-          unaltered = h.plain before.faithful.plain;
-        });
-        soon = h.soon;
-      }
-
-      by_marks : (u : Record) → IsRecordOf (end_at s q) u → u.kind ≡ Data → Marks values s u p q.link → Sent u
-      by_marks u is_one kind (marked.before h) = inl h
-      by_marks u is_one kind (marked.now x of_it says taken) = inr (⊎_elim (λ harmed. inl harmed)
-          (λ h. inr (by_then.comes (sent_now u is_one kind x of_it says h)))
-          (segments_come_soon values p q (numbered_so p known.link) s x (before.few s) taken))
-
       sent_so : (u : Record) → IsRecordOf (end_at s q) u → u.kind ≡ Data → u.sending.unsent ≡ false → Sent u
-      sent_so u h kind sent = by_marks u h kind (marks.marks s some u h kind sent)
+      sent_so u h kind sent = goes_so s (open_p.past s) (open_p.living s) open_p.keyed u h kind sent
 
       later_there : (u : Record) → IsThereBy s u (p.clock + 400) q → IsThereBy s u (q.clock + 400) q
       later_there u (by_then.there h) = by_then.there h

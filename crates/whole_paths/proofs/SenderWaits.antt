@@ -31,7 +31,7 @@ module _ (start : Start) (most : ℕ) (s : Side) (mild : IsMildStart start) wher
 
   awaited : SenderIsAwaited start most s
   awaited = record {
-    begins = λ way v u step h of room. plainly (round_end values start v + (60000 + way)) u (begins_with_room start most mild (IsOpenFrom s) Of from v u step way h of room);
+    begins = λ v u step h of room. plainly (round_end values start v + 60800) u (begins_with_room start most mild (IsOpenFrom s) Of from v u step h of room);
     on = λ x v u step h. ⊎_elim (λ rises. inl rises) (λ waits. inr (plainly x u waits)) (steps_on start most mild (IsOpenFrom s) Of from x v u step (as_one x v h));
     next = λ x v u step h. ⊎_elim (λ rises. inl rises) (λ waits. inr (plainly x u waits)) (opens_on start most mild (IsOpenFrom s) Of from x v u step (as_one x v h));
     due = λ x v u step h late. none_late start most mild (IsOpenFrom s) Of from v u step x (as_one x v h) late;

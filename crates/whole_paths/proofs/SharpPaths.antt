@@ -4,13 +4,12 @@ use Rattle.sides.specs.declared.side.Side.{Side}
 use Rattle.sides.specs.declared.side.Side.TheVariants.{A, B}
 use Rattle.path_core.specs.Values.{values}
 use Rattle.world_laws.specs.Openings.{PathPlan, Start}
-use Rattle.world_laws.specs.RoundDone.{reached}
 use Rattle.world_laws.specs.Worlds.{Turn}
 use Rattle.whole_paths.specs.Courses.{harmed_so_far}
 use Rattle.whole_paths.specs.DebtKinds.{MendsBoth, OwesBoth}
 use Rattle.whole_paths.specs.Debts.{AreMended, AwaitsEither, DebtsAreMendedBy, FewAreOwedBy, MendsSoon, long_wait, one_timeout}
 use Rattle.whole_paths.specs.DirectionWaits.{MendsAlong}
-use Rattle.whole_paths.specs.Directions.{DirectionIsWell, OwesAlong}
+use Rattle.whole_paths.specs.Directions.{OwesAlong}
 use Rattle.whole_paths.specs.OnePathScripts.{BeginsWithOnePath}
 use Rattle.whole_paths.specs.OpenCourses.{IsOpenAfter}
 use Rattle.whole_paths.specs.SharpCourses.{SharpExchanges}
@@ -21,6 +20,7 @@ use Rattle.whole_paths.proofs.Counts.{debts_are_mended_by_more}
 use Rattle.whole_paths.proofs.DebtKinds.{kinds_are_few_together, kinds_are_mended_together}
 use Rattle.whole_paths.proofs.Directions.{what_owes_none_is_well}
 use Rattle.whole_paths.proofs.DirectionsMended.{directions_are_mended}
+use Rattle.whole_paths.proofs.NumbersAgree.{numbers_always_agree}
 use Rattle.whole_paths.proofs.OpenFirst.{few_along}
 use Rattle.whole_paths.proofs.SharpCourses.{sharp_exchanges_end}
 use Rattle.whole_paths.proofs.ShortWaits.{exchanges_go_on_so}
@@ -36,7 +36,7 @@ module _ (start : Start) (plan : PathPlan) (most : ℕ) (paid count : List Turn 
   module _ (one : BeginsWithOnePath start plan) (rest : RestIsMended start plan most paid count Other MendsOther) where
     along : (s : Side) → DebtsAreMendedBy start plan most count (OwesAlong start s) (Mends s) long_wait
     along s = debts_are_mended_by_more start plan most one_timeout long_wait (harmed_so_far values start) count (OwesAlong start s) (MendsAlong start s) one.mild rest.counts.harms (omega arith)
-        (directions_are_mended start plan most s one (rest.numbers s))
+        (directions_are_mended start plan most s one (numbers_always_agree start plan s one))
 
     few : (s : Side) → FewAreOwedBy start plan most count (OwesAlong start s)
     few s = few_along start plan most s one count rest.counts.harms (rest.opens s)
@@ -58,14 +58,11 @@ module _ (start : Start) (plan : PathPlan) (most : ℕ) (paid count : List Turn 
       of_side A = none_of (OwesAlong start A) h.one 0 turns h.few_one (omega arith) h.owes_one
       of_side B = none_of (OwesAlong start B) h.owes_other.one h.other turns h.owes_other.few_one h.few_other h.owes_other.owes_one
 
-      along_well : (s : Side) → DirectionIsWell s (reached values start turns)
-      along_well s = what_owes_none_is_well start plan turns s one (of_side s)
-
       all_well : IsAllWell start turns
-      all_well = rest.well turns (none_of Other h.owes_other.other h.other turns h.owes_other.few_other h.few_other h.owes_other.owes_other) along_well
+      all_well s = what_owes_none_is_well start plan turns s one (of_side s)
 
       told_soon : (s : Side) → AreToldSoon start s turns
-      told_soon s = let is = along_well s in record { path = is.path; here = is.here; told = is.told }
+      told_soon s = let is = all_well s in record { path = is.path; here = is.here; told = is.told }
 
     pub exchanges : SharpExchanges start plan paid most (AreMended start plan most count (OwesAll start Other))
         (AwaitsEither start plan most count (OwesAll start Other) MendsAll (WaitsForAUnit start plan count (OwesAll start Other)))

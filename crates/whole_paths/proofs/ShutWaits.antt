@@ -28,12 +28,12 @@ use Rattle.whole_paths.proofs.ShutWindows.{shut_windows_have_room}
 use Rattle.whole_paths.proofs.Standing.{MemberServes, Serves, opened_serves, run_serves}
 use Rattle.whole_paths.proofs.WindowWaits.{windows_are_awaited_always}
 
-module _ (start : Start) (plan : PathPlan) (most way : ℕ) (one : start.paths ≡ plan ∷ []) (mild : IsMildStart start) (size : 32 ≤ start.buffer) where
+module _ (start : Start) (plan : PathPlan) (most : ℕ) (one : start.paths ≡ plan ∷ []) (mild : IsMildStart start) (size : 32 ≤ start.buffer) where
   windows : WindowsAreAwaited start most
   windows = windows_are_awaited_always start plan most one mild
 
   module _ (since : List Turn) (order : List ℕ) (u : List Turn) (begin : BeginsRound values start (reached values start since)) (step : Opens start most (since ++ steps_of order) u)
-      (h : HasAShutEnd start way (since ++ steps_of order)) where
+      (h : HasAShutEnd start (since ++ steps_of order)) where
     abbrev v : List Turn
     v = since ++ steps_of order
 
@@ -62,10 +62,10 @@ module _ (start : Start) (plan : PathPlan) (most way : ℕ) (one : start.paths �
     halted : HasRoomForMore out → IsHalted (books_in w.books) s p
     halted room = record { shut = h.shut; left = room.left; untried = untried }
 
-    waits : (counted values start since < counted values start u) ⊎ AwaitsAWindow start (round_end values start v + (60000 + way)) u
+    waits : (counted values start since < counted values start u) ⊎ AwaitsAWindow start (round_end values start v + 60800) u
     waits = ⊎_elim
         (λ rises. inl (let same = ap (counted values start) step.is in let still = no_round_counts start v step.over in omega (arith, rises, same, still)))
-        (λ room. inr (windows.begins way v u step (record {
+        (λ room. inr (windows.begins v u step (record {
           path = p;
           here = h.sender.here;
           side = s;
@@ -73,15 +73,14 @@ module _ (start : Start) (plan : PathPlan) (most way : ℕ) (one : start.paths �
           halted = halted room;
           takes = room.takes;
           room = h.room;
-          near = h.sender.near;
         })))
         (shut_windows_have_room start plan since order one mild size begin step.over out)
 
 pub shut_windows_open_in_time : ShutWindowsOpenInTime
-shut_windows_open_in_time start plan most way one mild size = record {
-  begins = λ since order v u is begin. subst (λ v. Opens start most v u → HasAShutEnd start way v → (counted values start since < counted values start u) ⊎ AwaitsAWindow start (round_end values start v + (60000 + way)) u)
-      (sym is) (λ step h. waits start plan most way one mild size since order u begin step h);
-  on = λ n x v u step low h. ⊎_elim (λ rises. inl (omega (arith, low, rises))) (λ still. inr still) ((windows start plan most way one mild size).on x v u step h);
-  next = λ n x v u step low h. ⊎_elim (λ rises. inl (omega (arith, low, rises))) (λ still. inr still) ((windows start plan most way one mild size).next x v u step h);
-  due = λ n x v u step low h late. absurd ((windows start plan most way one mild size).due x v u step h late);
+shut_windows_open_in_time start plan most one mild size = record {
+  begins = λ since order v u is begin. subst (λ v. Opens start most v u → HasAShutEnd start v → (counted values start since < counted values start u) ⊎ AwaitsAWindow start (round_end values start v + 60800) u)
+      (sym is) (λ step h. waits start plan most one mild size since order u begin step h);
+  on = λ n x v u step low h. ⊎_elim (λ rises. inl (omega (arith, low, rises))) (λ still. inr still) ((windows start plan most one mild size).on x v u step h);
+  next = λ n x v u step low h. ⊎_elim (λ rises. inl (omega (arith, low, rises))) (λ still. inr still) ((windows start plan most one mild size).next x v u step h);
+  due = λ n x v u step low h late. absurd ((windows start plan most one mild size).due x v u step h late);
 }

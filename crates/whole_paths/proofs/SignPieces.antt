@@ -32,17 +32,16 @@ use Rattle.whole_paths.specs.Arrivals.{Arrival}
 use Rattle.whole_paths.specs.AsFar.{IsActorAsFar, stage}
 use Rattle.whole_paths.specs.Came.{AcksWhatCame}
 use Rattle.whole_paths.specs.Copies.{IsUnderWay}
-use Rattle.whole_paths.specs.InTime.{ComesFrom}
 use Rattle.whole_paths.specs.Exchanges.{IsFaithful}
 use Rattle.whole_paths.specs.Flights.{ComesSo, GoesOnTo, IsCopyOf}
 use Rattle.whole_paths.specs.Flights.{GoesOnTo as way}
 use Rattle.whole_paths.proofs.Acking.{same_actor}
 use Rattle.whole_paths.proofs.Arrivals.{each_copy_arrives, sender_of}
-use Rattle.whole_paths.proofs.Exchanges.{Known, OfPaths, SameHeader, below_limit, changed_said, under_way, way_from}
+use Rattle.whole_paths.proofs.Exchanges.{Known, OfPaths, SameHeader, below_limit, changed_said, under_way}
 use Rattle.whole_paths.proofs.Flying.{Frames, FramesStay, SentAtTheEnd, SentGoOn, frames_stay, sent_at_the_end, sent_go_on}
 use Rattle.whole_paths.proofs.GoesOn.{goes_on_so}
 use Rattle.whole_paths.proofs.InTime.{nothing_is_overdue}
-use Rattle.std.specs.Prelude.{is_some, option_map}
+use Rattle.std.specs.Prelude.{option_map}
 use Rattle.path_segments.specs.Heard.{HeardSegment}
 use Rattle.path_segments.specs.Laws.{meant}
 use Rattle.path_segments.specs.Spelled.{PlainSegment}
@@ -68,7 +67,6 @@ use Rattle.whole_paths.specs.Mild.{EndsGoByMappings, IsMildStart, IsNeverBroken,
 use Rattle.whole_paths.specs.Opened.{OpensOn as opened}
 use Rattle.whole_paths.specs.OpeningConfirmed.{Confirming, ConfirmedOn, PathsConfirm}
 use Rattle.whole_paths.specs.OpeningConfirmed.{ConfirmedOn as confirmed}
-use Rattle.whole_paths.specs.OpeningConfirmed.{IsConfirmed as sure}
 use Rattle.whole_paths.specs.OpeningConfirmed.Confirms.{dss}
 use Rattle.whole_paths.proofs.Arrivals.{taken_so}
 use Rattle.whole_paths.proofs.Breaking.{never_breaks}
@@ -78,7 +76,7 @@ use Rattle.world_laws.specs.Promises.{tells_other_key}
 use Rattle.whole_paths.proofs.Mild.{mapping_is_kept}
 use Rattle.whole_paths.proofs.OpeningConfirmed.{each_confirmation_counts, signs_are_said}
 use Rattle.path_core.specs.DssOut.{piece_mapping}
-use Rattle.whole_paths.proofs.Syns.{apart, each_known}
+use Rattle.whole_paths.proofs.Syns.{each_known}
 use Rattle.whole_paths.proofs.SentSoon.{what_is_sent_comes_soon}
 
 -- ---- a state

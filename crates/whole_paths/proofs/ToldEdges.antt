@@ -275,10 +275,10 @@ passed_other d p = let t = peer (side_of d) in let q : PathState Carried = passe
     (unwritten false (end_at t p).receiving.window (end_at t q).receiving.window refl (ap (λ (v : PathView Carried). v.other.window) (passes_no_more d p).same))
     (unwritten false (end_at t p).receiving.told_edge (end_at t q).receiving.told_edge refl (ap (λ (v : PathView Carried). v.other.told_edge) (passes_no_more d p).same))
 
-abbrev AllSame : PathState Carried → PathState Carried → Type 0
+abbrev pub AllSame : PathState Carried → PathState Carried → Type 0
 AllSame p q = (s : Side) → SameTold (end_at s p) (end_at s q)
 
-same_lasts : Lasts AllSame
+pub same_lasts : Lasts AllSame
 same_lasts = record {
   agenda = λ ds p s. by s ds p;
   chains = λ p q r x y s. calm (end_at s p) (end_at s r) ((y s).next ∙ (x s).next) ((y s).window ∙ (x s).window) ((y s).told ∙ (x s).told);
@@ -324,7 +324,7 @@ module _ (d : Duty) (ds : List Duty) (r : Reply) (p : PathState Carried) where
   asked_on : (t : Side) (e : Duty) → d ≡ e → asks_book e ≡ true → side_of e ≡ t → told (end_at t y) ≡ told (end_at t x) → ToldOn t x z
   asked_on t (duties.Ask (ask_duties.Window s)) is book own same =
       told_on.begins ds (ap (λ e. e ∷ ds) (is ∙ ap (λ u. duties.Ask (ask_duties.Window u)) own)) ((same_then t).told ∙ same)
-  asked_on t (duties.Ask (ask_duties.AckOut s)) is book own same = told_on.asks ds (ap (λ e. e ∷ ds) (is ∙ ap (λ u. duties.Ask (ask_duties.AckOut u)) own))
+  asked_on t (duties.Ask (ask_duties.AckOut s)) is book own same = told_on.asks ds (ap (λ e. e ∷ ds) (is ∙ ap (λ u. duties.Ask (ask_duties.AckOut u)) own)) ((same_then t).told ∙ same)
   asked_on t (duties.Ask (ask_duties.BreakAck s reason)) is book own same = told_on.breaks (inr (settled_resets t y.agenda y (resetting.is_reset reason
       (subst (λ (e : Duty). (answered values e r (with_agenda (e ∷ ds) p)).agenda ≡ resets t reason) (sym (is ∙ ap (λ u. duties.Ask (ask_duties.BreakAck u reason)) own)) refl))))
   asked_on t e is book own same = absurd (true≢false (sym book))

@@ -27,14 +27,14 @@ use Rattle.whole_paths.specs.News.{one_if}
 use Rattle.whole_paths.specs.Mild.{IsMildStart}
 use Rattle.whole_paths.specs.OnePathScripts.{BeginsWithOnePath}
 use Rattle.whole_paths.specs.OpenCourses.{IsOpenAfter}
-use Rattle.whole_paths.specs.SegmentRounds.{IsHeard, IsRound, IsWellAfter, Rounds, StaysOpen, read_after}
+use Rattle.whole_paths.specs.SegmentRounds.{IsHeard, IsWellAfter, Rounds, StaysOpen, read_after}
 use Rattle.whole_paths.specs.SharpCourses.{most_units, segments_read, stream_units, units}
 use Rattle.whole_paths.specs.UnitRounds.{AUnitIsMade, AllUnitsAreThere, IsAllWell, ShortWaitsGoOn, WaitsGoOn, WellRounds, WhatIsToldIsHeard}
 use Rattle.whole_paths.proofs.Delivery.{bounds_at}
 use Rattle.whole_paths.proofs.EndRounds.{an_end_is_told}
 use Rattle.whole_paths.proofs.News.{known_up, one_most, one_up}
 use Rattle.whole_paths.proofs.ReadSegments.{a_segment_is_read}
-use Rattle.whole_paths.proofs.RoundSteps.{Between, between, each_round_reads, far, rounds_later, steps_later, then_between, there_whole}
+use Rattle.whole_paths.proofs.RoundSteps.{Between, between, each_round_reads, far, rounds_later, steps_later, there_whole}
 use Rattle.whole_paths.proofs.SegmentRounds.{stays_there}
 use Rattle.whole_paths.proofs.SegmentsRead.{segments_few, segments_up, stream_few}
 use Rattle.whole_paths.proofs.Courses.{round_next}

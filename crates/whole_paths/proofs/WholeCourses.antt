@@ -32,7 +32,7 @@ use Rattle.whole_paths.specs.Outstanding.{HasOutstanding, WaitsForOne}
 use Rattle.whole_paths.specs.Outstanding.{WaitsForOne as waits}
 use Rattle.whole_paths.specs.RecordWaits.{LeavesRoom, Opens, RecordsAreAwaited, SentNoFin, Steps}
 use Rattle.whole_paths.specs.Straying.{IsOpen}
-use Rattle.whole_paths.specs.WholeCourses.{IsAwaited, ShutWindowsOpen, WaysAreShort}
+use Rattle.whole_paths.specs.WholeCourses.{IsAwaited, ShutWindowsOpen}
 use Rattle.whole_paths.specs.WholeCourses.IsAwaited.{turn, piece, answer, window}
 use Rattle.whole_paths.proofs.AnswerWaits.{answers_are_awaited_always}
 use Rattle.whole_paths.proofs.Courses.{counted_up, round_next, round_step}
@@ -62,8 +62,8 @@ no_rounds start n turns (next_round s since more order left is count begin unclo
 
 -- ---- all waits
 
-module _ (start : Start) (plan : PathPlan) (most way within : ℕ) (Waits : ℕ → ℕ → List Turn → Type 0) (one : start.paths ≡ plan ∷ []) (mild : IsMildStart start) (some : 1 ≤ start.buffer)
-    (short : WaysAreShort start way) (long : 60000 + way ≤ within) (windows : ShutWindowsOpen start most way within Waits) where
+module _ (start : Start) (plan : PathPlan) (most within : ℕ) (Waits : ℕ → ℕ → List Turn → Type 0) (one : start.paths ≡ plan ∷ []) (mild : IsMildStart start) (some : 1 ≤ start.buffer)
+    (long : 60800 ≤ within) (windows : ShutWindowsOpen start most within Waits) where
   abbrev at : List Turn → WorldState Carried
   at turns = reached values start turns
 
@@ -104,24 +104,20 @@ module _ (start : Start) (plan : PathPlan) (most way within : ℕ) (Waits : ℕ 
       here : IsPathAt 0 (at v) h.path
       here = record { crew = h.crew; there = h.there; is = h.is }
 
-      near : (s : Side) → 400 + 400 ≤ way
-      near A = short v h.path here
-      near B = let low_way = short v h.path here in omega (arith, low_way)
-
       upright : PathUpright h.path
       upright = subst MemberUpright h.is ((each_upright start v mild.plain mild.strips).each 2 h.crew h.there)
 
-      abbrev sender : SentNoFin start way v
-      sender = record { path = h.path; here = here; side = h.side; unfinished = upright.passes.unfinished h.side h.may; near = near h.side }
+      abbrev sender : SentNoFin start v
+      sender = record { path = h.path; here = here; side = h.side; unfinished = upright.passes.unfinished h.side h.may }
 
       with_room : LeavesRoom sender → Next n x
       with_room room = ⊎_elim
           (λ rises. inl (let before = since.low in omega (arith, before, rises, more_counted)))
           by
-          (subst (λ ts. all_over (at ts).crew ≡ true → (k : HasOutstanding start way ts) → (count since.since < count ts) ⊎ WaitsForOne start way ts k) (sym since.is)
-          (λ over k. what_is_outstanding_is_awaited start plan way since.since since.order one mild since.begin over k) step.over out)
+          (subst (λ ts. all_over (at ts).crew ≡ true → (k : HasOutstanding start ts) → (count since.since < count ts) ⊎ WaitsForOne start ts k) (sym since.is)
+          (λ over k. what_is_outstanding_is_awaited start plan since.since since.order one mild since.begin over k) step.over out)
         where
-          out : HasOutstanding start way v
+          out : HasOutstanding start v
           out = record {
             path = h.path;
             here = here;
@@ -129,7 +125,6 @@ module _ (start : Start) (plan : PathPlan) (most way within : ℕ) (Waits : ℕ 
             side = h.side;
             outstanding = h.outstanding;
             room = room;
-            near = near h.side;
           }
 
           -- bytes aren't acknowledged
@@ -150,7 +145,7 @@ module _ (start : Start) (plan : PathPlan) (most way within : ℕ) (Waits : ℕ 
 
           end_so : length (written_by h.side (at v)).written ≤ acked_len (written_by h.side (at v)).marks → (end_at h.side h.path).tcp.send.records ≡ [] → (end_at h.side h.path).sending.fin_sent ≡ true
               → (end_at h.side h.path).sending.close.own_acked ≡ false → Next n x
-          end_so all none sent unacked = inr (answer (round_end values start v + (60000 + way)) (omega (arith, late, long)) (answers.begins way v u step (record {
+          end_so all none sent unacked = inr (answer (round_end values start v + 60800) (omega (arith, late, long)) (answers.begins v u step (record {
             path = h.path;
             here = here;
             side = h.side;
@@ -160,7 +155,6 @@ module _ (start : Start) (plan : PathPlan) (most way within : ℕ) (Waits : ℕ 
             unanswered = data_fin refl (omega arith) sent unacked;
             has = (let came = acked_received h.side in omega (arith, all, came));
             room = room;
-            near = near h.side;
           })))
 
           by_end : length (written_by h.side (at v)).written ≤ acked_len (written_by h.side (at v)).marks → (end_at h.side h.path).tcp.send.records ≡ [] → (end_at h.side h.path).sending.granted ≡ []
@@ -169,11 +163,11 @@ module _ (start : Start) (plan : PathPlan) (most way within : ℕ) (Waits : ℕ 
           by_end all none empty false acked sent is = absurd (let left = h.left none empty (λ was open_end. both_ways (end_at h.side h.path).sending.fin_sent sent was) in omega (arith, left, all))
           by_end all none empty true true sent is = absurd (let left = h.left none empty (λ was open_end. both_ways (end_at h.side h.path).sending.close.own_acked open_end is) in omega (arith, left, all))
 
-          by : WaitsForOne start way v out → Next n x
+          by : WaitsForOne start v out → Next n x
           by (waits.piece first others records) =
-              inr (piece (round_end values start v + (60000 + way)) (omega (arith, late, long)) (pieces.begins way v u step
-              (record { path = h.path; here = here; side = h.side; first = first; others = others; records = records; unfinished = sender.unfinished; near = near h.side })))
-          by (waits.answer ask) = inr (answer (round_end values start v + (60000 + way)) (omega (arith, late, long)) (answers.begins way v u step ask))
+              inr (piece (round_end values start v + 60800) (omega (arith, late, long)) (pieces.begins v u step
+              (record { path = h.path; here = here; side = h.side; first = first; others = others; records = records; unfinished = sender.unfinished })))
+          by (waits.answer ask) = inr (answer (round_end values start v + 60800) (omega (arith, late, long)) (answers.begins v u step ask))
           by (waits.window none empty shut) = ⊎_elim
               (λ left. shut_so left none empty shut)
               (λ all. by_end (omega (arith, all)) none empty (end_at h.side h.path).sending.fin_sent (end_at h.side h.path).sending.close.own_acked refl refl)
@@ -181,9 +175,9 @@ module _ (start : Start) (plan : PathPlan) (most way within : ℕ) (Waits : ℕ 
 
       waits_so : Next n x
       waits_so = ⊎_elim
-          (λ waits. inr (piece (round_end values start v + (60000 + way)) (omega (arith, late, long)) waits))
+          (λ waits. inr (piece (round_end values start v + 60800) (omega (arith, late, long)) waits))
           with_room
-          (pieces.room way v u step sender)
+          (pieces.room v u step sender)
 
     turn_next : (n x rounds : ℕ) → n ≤ count v → IsAboutToGoOn start n rounds v → round_end values start v + 100 * rounds + within ≤ x → Next n x
     turn_next n x zero low h soon = absurd (no_rounds start n v h)

@@ -194,11 +194,11 @@ module _ (start : Start) (plan : PathPlan) (most : ℕ) (one : start.paths ≡ p
         let ends = until h.path h.here in
         due (silent h.path h.here) h.waits.side (living h.path h.here (peer h.waits.side)) h.waits.place x (omega (arith, late, ends)) h.waits.awaited
 
-    wait_begins : (way : ℕ) → HasAShutWindow start way v → AwaitsAWindow start (round_end values start v + (60000 + way)) u
-    wait_begins way h = ⊎_elim
+    wait_begins : HasAShutWindow start v → AwaitsAWindow start (round_end values start v + 60800) u
+    wait_begins h = ⊎_elim
         (λ rises. absurd (let still = ap (counted values start) step.is ∙ no_round_counts start v step.over in omega (arith, rises, still)))
         (λ waits. waits)
-        (opens_on (round_end values start v + (60000 + way)) v u step (record { path = h.path; here = h.here; waits = record { side = h.side; place = place; room = h.room; halted = h.halted; awaited = awaited } }))
+        (opens_on (round_end values start v + 60800) v u step (record { path = h.path; here = h.here; waits = record { side = h.side; place = place; room = h.room; halted = h.halted; awaited = awaited } }))
       where
         place : ℕ
         place = (send_of h.side (books_in ended.books)).edge + 1
@@ -215,17 +215,17 @@ module _ (start : Start) (plan : PathPlan) (most : ℕ) (one : start.paths ≡ p
         at_first : IsAwaited (books_in ended.books) h.side place first h.path
         at_first = begun (silent h.path h.here) h.side (unclosed h.path h.here h.side) h.no_record (outstanding.shut h.halted.shut) place (omega arith) (let takes = h.takes in omega (arith, takes))
 
-        awaited : IsAwaited (books_in ended.books) h.side place (round_end values start v + (60000 + way)) h.path
+        awaited : IsAwaited (books_in ended.books) h.side place (round_end values start v + 60800) h.path
         awaited = record {
           below = at_first.below;
-          probed = later_so (TellsWindow place) (IsOpenTo (books_in ended.books) h.side place) h.side first (round_end values start v + (60000 + way)) h.path
-              (let clock = near.clock in let low = h.near in let ends = until h.path h.here in omega (arith, clock, low, ends)) at_first.probed;
+          probed = later_so (TellsWindow place) (IsOpenTo (books_in ended.books) h.side place) h.side first (round_end values start v + 60800) h.path
+              (let clock = near.clock in let ends = until h.path h.here in omega (arith, clock, ends)) at_first.probed;
           offered = at_first.offered;
         }
 
 pub windows_are_awaited_always : WindowsAreAwaitedAlways
 windows_are_awaited_always start plan most one mild = record {
-  begins = λ way v u step h. wait_begins start plan most one mild v u step way h;
+  begins = λ v u step h. wait_begins start plan most one mild v u step h;
   on = λ x v u step h. steps_on start plan most one mild x v u step h;
   next = λ x v u step h. opens_on start plan most one mild x v u step h;
   due = λ x v u step h late. none_late start plan most one mild v u step x h late;

@@ -31,9 +31,8 @@ module _ (start : Start) where
     pub room : (end_at (peer side) path).tcp.send.nxt ≤ (end_at side path).tcp.recv.edge + 1048576
     pub waits : IsAnswerAwaited (books_in (reached values start turns).books) side place fin by path
 
-  -- Such an end is to be answered by a place all before which its peer's book has, but for the byte of the DATA_FIN, and over the path a segment
-  -- goes for so long at most, there and back.
-  pub record HasAnAsk (way : ℕ) (turns : List Turn) : Type 0 where
+  -- such an end is to be answered by a place all before which its peer's book has, but for the byte of the DATA_FIN
+  pub record HasAnAsk (turns : List Turn) : Type 0 where
     pub path : PathState Carried
     pub here : IsPathAt 0 (reached values start turns) path
     pub side : Side
@@ -43,12 +42,11 @@ module _ (start : Start) where
     pub unanswered : IsUnansweredAt (books_in (reached values start turns).books) side place fin path
     pub has : place ≤ received (reassembly_of (peer side) (books_in (reached values start turns).books)) + one_if fin
     pub room : (end_at (peer side) path).tcp.send.nxt ≤ (end_at side path).tcp.recv.edge + 1048576
-    pub near : 400 + 400 ≤ way
 
-  -- As a round begins a wait begins, for a minute and as long as a segment is under way there and back; it goes on by each step, and as the next
+  -- As a round begins a wait begins, for a minute and 400 ticks there and back; it goes on by each step, and as the next
   -- round begins, or something is counted; and no round begins past it.
   pub record AnswersAreAwaited (most : ℕ) : Type 0 where
-    pub begins : (way : ℕ) (v u : List Turn) → Opens start most v u → HasAnAsk way v → AwaitsAnAnswer (round_end values start v + (60000 + way)) u
+    pub begins : (v u : List Turn) → Opens start most v u → HasAnAsk v → AwaitsAnAnswer (round_end values start v + 60800) u
     pub on : (x : ℕ) (v u : List Turn) → Steps start most v u → AwaitsAnAnswer x v → (counted values start v < counted values start u) ⊎ AwaitsAnAnswer x u
     pub next : (x : ℕ) (v u : List Turn) → Opens start most v u → AwaitsAnAnswer x v → (counted values start v < counted values start u) ⊎ AwaitsAnAnswer x u
     pub due : (x : ℕ) (v u : List Turn) → Opens start most v u → AwaitsAnAnswer x v → x < round_end values start v → counted values start v < counted values start u

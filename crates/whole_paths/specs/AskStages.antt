@@ -48,7 +48,7 @@ pub data AnswerIsAwaitedOn (later : SixBooks) (s : Side) (place : ℕ) (fin : Bo
   on : IsAnswerAwaited later s place fin by q → AnswerIsAwaitedOn later s place fin by p q
   -- the end has a record: SND.NXT rose
   sends : (end_at s p).tcp.send.nxt < (end_at s q).tcp.send.nxt → AnswerIsAwaitedOn later s place fin by p q
-  -- there is news, as where the end was answered, or the script harms a segment, or an end dies
+  -- there is news, as where the end was answered, or a segment is harmed, or an end dies
   held_up : IsHeldUp s p q → AnswerIsAwaitedOn later s place fin by p q
   awry : IsHardlyAwry s p q → AnswerIsAwaitedOn later s place fin by p q
 
@@ -59,7 +59,7 @@ AnswerIsAwaitedBy six later (Path p) (Path q) =
     → (s : Side) (place : ℕ) (fin : Bool) (by : ℕ) → IsAnswerAwaited six s place fin by p → AnswerIsAwaitedOn later s place fin by p q
 AnswerIsAwaitedBy six later _ _ = Unit {0}
 
--- where the turn of an open path is over such a wait begins, for a minute and the longest time there and back
+-- where the turn of an open path is over such a wait begins, for a minute and 400 ticks there and back
 abbrev pub AnswerIsAwaitedFrom : SixBooks → PathState Carried → Type 0
 AnswerIsAwaitedFrom six p = IsOpen p → p.agenda ≡ [] → (s : Side) → (end_at s p).tcp.send.records ≡ [] → (place : ℕ) (fin : Bool) → IsUnansweredAt six s place fin p
     → place ≤ received (reassembly_of (peer s) six) + one_if fin

@@ -36,7 +36,7 @@ AwaitedGoesOn six after steps p q = IsFaithful p → (s : Side) (at by : ℕ) �
     → AskTurns (IsAwaited after s at by q ⊎ ((send_of s six).edge < (send_of s after).edge)) s by steps p q
 
 -- Where a turn is over, of each end that opens, is open or closes, without a record, and of each place past the edge, where the peer's book takes
--- so much: within a minute and the longest time there and back.
+-- so much: within a minute and 400 ticks there and back.
 abbrev pub AwaitingBegins : SixBooks → PathState Carried → Type 0
 AwaitingBegins six p = p.agenda ≡ [] → (s : Side) → is_closed_to_segments (end_at s p).tcp.state ≡ false → (end_at s p).tcp.send.records ≡ []
     → IsOutstanding (end_at s p)

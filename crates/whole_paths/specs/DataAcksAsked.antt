@@ -1,9 +1,8 @@
 -- How an end that has no record left asks its peer again: for the Data ACK of bytes or of a DATA_FIN, for a window, or for the answer to its
 -- third MP_JOIN or MP_FASTCLOSE (RFC 6298, section 5; RFC 8684, sections 3.2, 3.3 and 3.5).
-use Rattle.std.specs.Prelude.{ℕ, ◌+◌, ◌-◌, ◌^◌, ◌≡◌, ◌<◌, ◌≤◌, Bool, true, false, Some, List, [], ◌∷◌, length, slice_get}
+use Rattle.std.specs.Prelude.{ℕ, ◌+◌, ◌-◌, ◌^◌, ◌≡◌, ◌<◌, ◌≤◌, Bool, true, false, Some, List, [], ◌∷◌, slice_get}
 use Rattle.sides.specs.declared.side.Side.{Side}
 use Rattle.sides.specs.Side.{peer}
-use Rattle.path_segments.specs.Spelled.{PlainSegment}
 use Rattle.link_model.specs.declared.flight.Flight.{Flight}
 use Rattle.link_model.specs.Steps.{changed, due_of, segments_sent}
 use Rattle.subflow_send.specs.Records.{Record}
@@ -17,8 +16,6 @@ use Rattle.path_core.specs.Codec.{Codec}
 use Rattle.path_core.specs.Emission.{ack_resent}
 use Rattle.path_core.specs.End.{PathEnd}
 use Rattle.path_core.specs.Events.{next_event}
-use Rattle.path_core.specs.Handover.{handed}
-use Rattle.path_core.specs.Octets.{made}
 use Rattle.path_core.specs.Shown.{AltersNothing}
 use Rattle.path_core.specs.State.{PathState, end_at}
 use Rattle.path_core.specs.declared.events.Event.TheVariants as happenings
@@ -49,8 +46,8 @@ module _ {C : Type 0} where
     pub plain : AltersNothing p.link.lines → altered ≡ false
     pub carried : f.carried ≡ changed (k.strips p.profile.spelling s) (k.alters p.profile.spelling s) stripped altered (k.makes p.profile.spelling s (ack_resent p.profile s sender))
 
-  -- Such a copy comes by this tick, unless the script harms it: as late as the link may hand on what is sent as the timer runs out, or now,
-  -- where the end is to send again; or the copy is under way. The end has no record left.
+  -- Such a copy comes by this tick, unless it is harmed: 400 ticks, twice the longest delay, after the timer runs out, or from now on, where the end is
+  -- to send again; or the copy is under way. The end has no record left.
   pub data IsAskedAgain (k : Codec C) (s : Side) (by : ℕ) (p : PathState C) : Type 0 where
     waits : (tick : ℕ) → tick + 400 ≤ by → IsRunning tick (end_at s p) → (end_at s p).tcp.send.records ≡ [] → IsAskedAgain k s by p
     resends : p.clock + 400 ≤ by → IsToSendAgain s p → (end_at s p).tcp.send.records ≡ [] → IsAskedAgain k s by p
@@ -93,7 +90,7 @@ module _ {C : Type 0} where
   AsksGoOn k _ _ = ⊥
 
   -- at the end of a turn each end that opens, is open or closes asks again, where something of it is outstanding, but no record, within a
-  -- minute and the longest time that a segment is under way
+  -- minute and 400 ticks
   abbrev pub IsAskedAtTheEnd : Codec C → PathState C → Type 0
   IsAskedAtTheEnd k p = p.agenda ≡ [] → (s : Side) → is_closed_to_segments (end_at s p).tcp.state ≡ false → (end_at s p).tcp.send.records ≡ []
       → IsOutstanding (end_at s p)

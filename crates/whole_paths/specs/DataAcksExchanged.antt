@@ -97,7 +97,7 @@ InquiriesGoOn books steps (Path p) (Path q) =
 InquiriesGoOn books steps (App a) (App b) = Unit {0}
 InquiriesGoOn books steps _ _ = ⊥
 
--- where a turn is over, of each end that opens, is open or closes, without a record: within a minute and the longest time there and back
+-- where a turn is over, of each end that opens, is open or closes, without a record: within a minute and 400 ticks there and back
 abbrev pub InquiriesBegin : PathState Carried → Type 0
 InquiriesBegin p = p.agenda ≡ [] → (s : Side) → is_closed_to_segments (end_at s p).tcp.state ≡ false → (end_at s p).tcp.send.records ≡ []
     → IsOutstanding (end_at s p)

@@ -122,7 +122,8 @@ module _ (start : Start) (plan : PathPlan) (most : ℕ) (count : List Turn → �
           pub next : (n x : ℕ) (v u : List Turn) → sharp.Beginning start plan paid most v u → Short n x v → Goes n x u
           pub due : (n x : ℕ) (v u : List Turn) → sharp.Beginning start plan paid most v u → Short n x v → x < round_end values start v → Paid n u
           pub begins : (n : ℕ) (v u : List Turn) → sharp.Beginning start plan paid most v u → Owes 0 u → Paid n u
-              → AllIsThere (reached values start u) ⊎ AWaitBegins (the_course start plan paid most AreMended AwaitsEither) (top start plan paid most) n v u
+              → AllIsThere (reached values start u)
+              ⊎ AWaitBegins (the_course start plan paid most AreMended AwaitsEither) (top start plan paid most) n v u
 
 -- ---- where each segment that is harmed is counted, and nothing else
 

@@ -1,6 +1,6 @@
 -- The exchange of a record: a copy of it comes to the peer, which passes its octets, and an answer that says so comes back (RFC 9293,
 -- section 3.10.7.4).
-use Rattle.std.specs.Prelude.{ℕ, ◌+◌, ◌-◌, ◌^◌, ◌≡◌, ◌<◌, ◌≤◌, ◌⊎◌, Bool, true, false, None, Some, IsSome, List, [], ◌∷◌, length, slice_get}
+use Rattle.std.specs.Prelude.{ℕ, ◌+◌, ◌-◌, ◌^◌, ◌≡◌, ◌<◌, ◌≤◌, ◌⊎◌, Bool, true, false, None, Some, IsSome, List, [], ◌∷◌, slice_get}
 use Rattle.sides.specs.declared.side.Side.{Side}
 use Rattle.sides.specs.Side.{peer}
 use Rattle.path_segments.specs.Spelled.{PlainSegment}
@@ -17,9 +17,7 @@ use Rattle.path_core.specs.Deliver.{failing_mapping}
 use Rattle.path_core.specs.DssOut.{is_first_piece}
 use Rattle.path_core.specs.End.{PathEnd}
 use Rattle.path_core.specs.Events.{next_event}
-use Rattle.path_core.specs.Handover.{handed}
 use Rattle.path_core.specs.MpJoin.{is_joined}
-use Rattle.path_core.specs.Octets.{made}
 use Rattle.path_core.specs.Profile.{Profile}
 use Rattle.path_core.specs.Shown.{AltersNothing}
 use Rattle.path_core.specs.State.{PathState, end_at}
@@ -139,7 +137,7 @@ ExchangesGoOn (Path p) (Path q) =
 ExchangesGoOn (App a) (App b) = Unit {0}
 ExchangesGoOn _ _ = ⊥
 
--- where a turn is over, with the first record of each end that opens, is open or closes: within a minute and the longest time there and back
+-- where a turn is over, with the first record of each end that opens, is open or closes: within a minute and 400 ticks there and back
 abbrev pub ExchangesBegin : PathState Carried → Type 0
 ExchangesBegin p = p.agenda ≡ [] → (s : Side) → is_closed_to_segments (end_at s p).tcp.state ≡ false → (r : Record) (others : List Record)
     → (end_at s p).tcp.send.records ≡ r ∷ others → IsExchanged s r (p.clock + 60000 + 400 + 400) p

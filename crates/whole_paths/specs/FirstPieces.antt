@@ -59,7 +59,7 @@ FirstPiecesGoOn (Path p) (Path q) = IsFaithful p → ((t : Side) → segments_se
 FirstPiecesGoOn (App a) (App b) = Unit {0}
 FirstPiecesGoOn _ _ = ⊥
 
--- where a turn is over, within a minute and the longest time on its way
+-- where a turn is over, within a minute and 400 ticks
 abbrev pub FirstPiecesBegin : PathState Carried → Type 0
 FirstPiecesBegin p = p.agenda ≡ [] → is_joined p.profile ≡ false → is_dead p.a.tcp.state ≡ false → (r : Record) (others : List Record)
     → p.a.tcp.send.records ≡ r ∷ others → r.kind ≡ Data → r.pos ≡ 1 → 2 ≤ stage p.a.tcp.state → p.a.modes.clear ≡ false

@@ -60,7 +60,7 @@ SignsGoOn (Path p) (Path q) = IsFaithful p → ((t : Side) → segments_sent t p
 SignsGoOn (App a) (App b) = Unit {0}
 SignsGoOn _ _ = ⊥
 
--- where a turn is over, within a minute and the longest time on its way
+-- where a turn is over, within a minute and 400 ticks
 abbrev pub SignsBegin : PathState Carried → Type 0
 SignsBegin p = p.agenda ≡ [] → is_closed_to_segments p.b.tcp.state ≡ false → p.b.tcp.send.records ≡ [] → p.a.modes.clear ≡ false
     → 2 ≤ stage p.a.tcp.state → WaitsAtItsEnd p.b → IsSignAwaited (p.clock + 60000 + 400) p

@@ -1,5 +1,5 @@
 -- How the first record that isn't acknowledged comes to the peer, whatever is lost.
-use Rattle.std.specs.Prelude.{ℕ, ◌+◌, ◌-◌, ◌^◌, ◌≡◌, ◌<◌, ◌≤◌, Bool, true, false, Some, List, [], ◌∷◌, length, slice_get}
+use Rattle.std.specs.Prelude.{ℕ, ◌+◌, ◌-◌, ◌^◌, ◌≡◌, ◌<◌, ◌≤◌, Bool, true, false, Some, List, [], ◌∷◌, slice_get}
 use Rattle.sides.specs.declared.side.Side.{Side}
 use Rattle.sides.specs.Side.{peer}
 use Rattle.path_segments.specs.Spelled.{PlainSegment}
@@ -15,8 +15,6 @@ use Rattle.path_agenda.specs.declared.duty.StepDuty.TheVariants as step_duties
 use Rattle.path_core.specs.Codec.{Codec}
 use Rattle.path_core.specs.End.{PathEnd}
 use Rattle.path_core.specs.Events.{next_event}
-use Rattle.path_core.specs.Handover.{handed}
-use Rattle.path_core.specs.Octets.{made}
 use Rattle.path_core.specs.Shown.{AltersNothing}
 use Rattle.path_core.specs.State.{PathState, end_at}
 use Rattle.path_core.specs.declared.events.Event.TheVariants as happenings
@@ -55,8 +53,8 @@ module _ {C : Type 0} where
     pub plain : AltersNothing p.link.lines → altered ≡ false
     pub carried : f.carried ≡ changed (k.strips p.profile.spelling s) (k.alters p.profile.spelling s) stripped altered (k.makes p.profile.spelling s segment)
 
-  -- A copy of it comes by this tick, unless the script harms it: as late as the link may hand on what is sent as the timer runs out, or now,
-  -- where the record is to be sent again; or the copy is under way.
+  -- A copy of it comes by this tick, unless it is harmed: 400 ticks, twice the longest delay, after the timer runs out, or from now on, where the record
+  -- is to be sent again; or the copy is under way.
   pub data IsOnItsWay (k : Codec C) (s : Side) (r : Record) (by : ℕ) (p : PathState C) : Type 0 where
     waits : (tick : ℕ) → tick + 400 ≤ by → RunsTo tick (end_at s p) → IsFirst r (end_at s p) → IsOnItsWay k s r by p
     resends : p.clock + 400 ≤ by → IsToSendAgain s p → IsFirst r (end_at s p) → IsOnItsWay k s r by p
@@ -93,8 +91,7 @@ module _ {C : Type 0} where
   RecordsGoOn k (App a) (App b) = Unit {0}
   RecordsGoOn k _ _ = ⊥
 
-  -- at the end of a turn the first record of each end that opens, is open or closes is on its way, to come within a minute and the longest
-  -- time that a segment is under way
+  -- at the end of a turn the first record of each end that opens, is open or closes is on its way, to come within a minute and 400 ticks
   abbrev pub IsOnItsWayAtTheEnd : Codec C → PathState C → Type 0
   IsOnItsWayAtTheEnd k p = p.agenda ≡ [] → (s : Side) → is_closed_to_segments (end_at s p).tcp.state ≡ false
       → (r : Record) (others : List Record) → (end_at s p).tcp.send.records ≡ r ∷ others → IsOnItsWay k s r (p.clock + 60000 + 400) p

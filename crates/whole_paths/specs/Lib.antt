@@ -117,6 +117,8 @@ pub mod WindowsAssured
 pub mod FilesFit
 pub mod AnswersAssure
 pub mod AsksOwed
+pub mod OfferedTaken
+pub mod TurnsBegin
 pub mod ToldEdges
 pub mod Writers
 pub mod EndedStreams
@@ -145,6 +147,7 @@ pub mod EndRounds
 pub mod UnitRounds
 pub mod RisesOwed
 pub mod ToldStays
+pub mod PatientPaths
 pub mod ShortWaits
 pub mod Rising
 pub mod FirstSigns
@@ -158,6 +161,7 @@ pub mod Directions
 pub mod DirectionWaits
 pub mod CutRecords
 pub mod OpenFirst
+pub mod OpenQuietly
 pub mod SharpPaths
 pub mod SynsSoon
 pub mod FirstPiecesSoon

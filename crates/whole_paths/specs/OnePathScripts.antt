@@ -148,8 +148,8 @@ module _ {C : Type 0} (k : Codec C) where
 
   -- by any count, of scripts that are so besides
   abbrev pub BriefPathsEndBy : (Start → PathPlan → Type 0) → Count → Patience → Type 0
-  BriefPathsEndBy Also count enough = (script : Script) (path : PathLine) (file_a file_b : List ℕ) (before more : List Turn) → IsMild script path file_a file_b
-      → Also (start_of script file_a file_b) (plan_of script 0 path)
+  BriefPathsEndBy Also count enough = (script : Script) (path : PathLine) (file_a file_b : List ℕ) (before more : List Turn)
+      → IsMild script path file_a file_b → Also (start_of script file_a file_b) (plan_of script 0 path)
       → let turns = before ++ Turn.Round ∷ more in IsBrief script turns → AreLawful k turns (opened script file_a file_b)
       → IsWhole 0 (run_of k script file_a file_b (before ++ Turn.Round ∷ []))
       → enough script path file_a file_b (count (start_of script file_a file_b) turns) ≤ rounds_in more

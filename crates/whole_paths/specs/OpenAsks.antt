@@ -60,7 +60,7 @@ pub data AskGoesOn (s : Side) (place : ℕ) (fin : Bool) (by written : ℕ) (p q
   on : IsInquired s place fin by q → IsUnanswered place fin written (end_at s q).sending → AskGoesOn s place fin by written p q
   -- the end, which had no record, has one again: SND.NXT rose
   sends : (end_at s p).tcp.send.nxt < (end_at s q).tcp.send.nxt → AskGoesOn s place fin by written p q
-  -- there is news, as where the end was answered, or the script harms a segment, or an end dies
+  -- there is news, as where the end was answered, or a segment is harmed, or an end dies
   held_up : IsHeldUp s p q → AskGoesOn s place fin by written p q
   awry : IsHardlyAwry s p q → AskGoesOn s place fin by written p q
 
@@ -92,7 +92,7 @@ module _ (six : SixBooks) where
   AskWaits p = IsOpen p → (s : Side) → (end_at s p).tcp.send.records ≡ [] → IsOutstanding (end_at s p)
       → WaitsForAnswer (length (send_of s six).written) (end_at s p).sending
 
-  -- where the path's turn is over it asks for the answer, within a minute and the longest time there and back
+  -- where the path's turn is over it asks for the answer, within a minute and 400 ticks there and back
   abbrev pub AskBegins : PathState Carried → Type 0
   AskBegins p = IsOpen p → p.agenda ≡ [] → (s : Side) → (end_at s p).tcp.send.records ≡ [] → (place : ℕ) (fin : Bool) → IsUnansweredAt s place fin p
       → IsInquired s place fin (p.clock + 60000 + 400 + 400) p

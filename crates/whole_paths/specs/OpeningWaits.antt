@@ -1,7 +1,6 @@
 -- What path 0 of a mild connection waits for until both of its ends are past the handshake, while none of them is dead.
 use Rattle.std.specs.Prelude.{ℕ, ◌+◌, ◌≡◌, ◌<◌, ◌≤◌, ◌⊎◌, false, Some, List, slice_get}
 use Rattle.sides.specs.declared.side.Side.{Side}
-use Rattle.sides.specs.declared.side.Side.TheVariants.{A, B}
 use Rattle.subflow_tcp.specs.States.{is_dead}
 use Rattle.subflow_tcp.specs.declared.handshake.State.TheVariants.{SynReceived, Waiting}
 use Rattle.path_core.specs.State.{PathState, end_at}

@@ -17,7 +17,7 @@ use Rattle.whole_paths.specs.Mild.{IsMildStart}
 use Rattle.whole_paths.specs.Reasons.{IsOutstanding}
 use Rattle.whole_paths.specs.Straying.{IsOpen}
 
-module _ (start : Start) (way : ℕ) (turns : List Turn) where
+module _ (start : Start) (turns : List Turn) where
   -- Path 0 is open, and something of one of its ends is outstanding, whose peer sent no more than the end's window has room for; and over the path
   -- a segment goes for so long at most, there and back.
   pub record HasOutstanding : Type 0 where
@@ -27,19 +27,18 @@ module _ (start : Start) (way : ℕ) (turns : List Turn) where
     pub side : Side
     pub outstanding : IsOutstanding (end_at side path)
     pub room : (end_at (peer side) path).tcp.send.nxt ≤ (end_at side path).tcp.recv.edge + 1048576
-    pub near : 400 + 400 ≤ way
 
   pub data WaitsForOne (h : HasOutstanding) : Type 0 where
     -- a record isn't acknowledged
     piece : (first : Record) (others : List Record) → (end_at h.side h.path).tcp.send.records ≡ first ∷ others → WaitsForOne h
     -- what it asks for is received
-    answer : HasAnAsk start way turns → WaitsForOne h
+    answer : HasAnAsk start turns → WaitsForOne h
     -- all bytes are acknowledged that it was granted, and the peer's window is shut
     window : (end_at h.side h.path).tcp.send.records ≡ [] → (end_at h.side h.path).sending.granted ≡ [] → (end_at h.side h.path).sending.shut ≡ true → WaitsForOne h
 
 -- after a round of a mild connection over one path, or something was counted in it
 abbrev pub WhatIsOutstandingIsAwaited : Type 0
-WhatIsOutstandingIsAwaited = (start : Start) (plan : PathPlan) (way : ℕ) (since : List Turn) (order : List ℕ) → start.paths ≡ plan ∷ []
+WhatIsOutstandingIsAwaited = (start : Start) (plan : PathPlan) (since : List Turn) (order : List ℕ) → start.paths ≡ plan ∷ []
     → IsMildStart start → BeginsRound values start (reached values start since)
-    → all_over (reached values start (since ++ steps_of order)).crew ≡ true → (h : HasOutstanding start way (since ++ steps_of order))
-    → (counted values start since < counted values start (since ++ steps_of order)) ⊎ WaitsForOne start way (since ++ steps_of order) h
+    → all_over (reached values start (since ++ steps_of order)).crew ≡ true → (h : HasOutstanding start (since ++ steps_of order))
+    → (counted values start since < counted values start (since ++ steps_of order)) ⊎ WaitsForOne start (since ++ steps_of order) h

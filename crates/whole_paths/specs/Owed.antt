@@ -1,5 +1,5 @@
 -- How an acknowledgement that an end owes comes to the peer, whatever is lost (RFC 9293, section 3.10.7.4).
-use Rattle.std.specs.Prelude.{ℕ, ◌+◌, ◌-◌, ◌^◌, ◌≡◌, ◌<◌, ◌≤◌, Bool, true, false, Some, List, ◌∷◌, length, slice_get}
+use Rattle.std.specs.Prelude.{ℕ, ◌+◌, ◌-◌, ◌^◌, ◌≡◌, ◌<◌, ◌≤◌, Bool, true, false, Some, List, ◌∷◌, slice_get}
 use Rattle.sides.specs.declared.side.Side.{Side}
 use Rattle.sides.specs.Side.{peer}
 use Rattle.path_segments.specs.Spelled.{PlainSegment}
@@ -14,8 +14,6 @@ use Rattle.path_agenda.specs.declared.duty.SendDuty.TheVariants as send_duties
 use Rattle.path_agenda.specs.declared.duty.StepDuty.TheVariants as step_duties
 use Rattle.path_core.specs.Codec.{Codec}
 use Rattle.path_core.specs.Events.{next_event}
-use Rattle.path_core.specs.Handover.{handed}
-use Rattle.path_core.specs.Octets.{made}
 use Rattle.path_core.specs.Shown.{AltersNothing}
 use Rattle.path_core.specs.State.{PathState, end_at}
 use Rattle.path_core.specs.declared.events.Event.TheVariants as happenings
@@ -53,8 +51,8 @@ module _ {C : Type 0} where
     pub plain : AltersNothing p.link.lines → altered ≡ false
     pub carried : f.carried ≡ changed (k.strips p.profile.spelling s) (k.alters p.profile.spelling s) stripped altered (k.makes p.profile.spelling s segment)
 
-  -- Such a copy comes by this tick, unless the script harms it: as late as the link may hand on what is sent now, where the end owes an
-  -- acknowledgement and all before the position came to it; or the copy is under way. Both SYNs came.
+  -- Such a copy comes by this tick, unless it is harmed: within 400 ticks from now on, twice the longest delay, where the end owes an acknowledgement and
+  -- all before the position came to it; or the copy is under way. Both SYNs came.
   pub data IsAnswered (k : Codec C) (s : Side) (position by : ℕ) (p : PathState C) : Type 0 where
     owes : p.clock + 400 ≤ by → 2 ≤ stage (end_at s p).tcp.state → position ≤ (end_at s p).tcp.recv.edge → (end_at s p).tcp.due.ack ≡ true
         → IsAnswered k s position by p

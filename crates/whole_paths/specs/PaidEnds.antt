@@ -16,7 +16,8 @@ module _ {C : Type 0} (k : Codec C) (Also : Start → PathPlan → Type 0) (coun
   abbrev pub OnePathEndsBy : Type 0
   OnePathEndsBy = (script : Script) (path : PathLine) (file_a file_b : List ℕ) (turns : List Turn) → IsMild script path file_a file_b
       → Also (start_of script file_a file_b) (plan_of script 0 path) → IsBrief script turns
-      → AreLawful k turns (opened script file_a file_b) → enough script path file_a file_b (count (start_of script file_a file_b) turns) ≤ rounds_in turns
+      → AreLawful k turns (opened script file_a file_b)
+      → enough script path file_a file_b (count (start_of script file_a file_b) turns) ≤ rounds_in turns
       → (outcome_of (run_of k script file_a file_b turns).crew ≡ Delivered) ⊎ AnEndDied 0 (run_of k script file_a file_b turns)
 
   -- with four harmed segments at most, and no line by which the path dies or its address is taken back, they are delivered
@@ -24,5 +25,6 @@ module _ {C : Type 0} (k : Codec C) (Also : Start → PathPlan → Type 0) (coun
   FewLossesFinishBy = (script : Script) (path : PathLine) (file_a file_b : List ℕ) (turns : List Turn) → IsMild script path file_a file_b
       → Also (start_of script file_a file_b) (plan_of script 0 path) → IsBrief script turns
       → list_all is_harmless_to_ends script.lines ≡ true → harmed k 0 turns (opened script file_a file_b) ≤ 4
-      → AreLawful k turns (opened script file_a file_b) → enough script path file_a file_b (count (start_of script file_a file_b) turns) ≤ rounds_in turns
+      → AreLawful k turns (opened script file_a file_b)
+      → enough script path file_a file_b (count (start_of script file_a file_b) turns) ≤ rounds_in turns
       → outcome_of (run_of k script file_a file_b turns).crew ≡ Delivered

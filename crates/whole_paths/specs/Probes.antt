@@ -71,7 +71,7 @@ ProbesGoOn six after steps p q =
     IsFaithful p → (s : Side) (at by : ℕ) → ((t : Side) → segments_sent t p.link < 2 ^ 64 - 1) → OffersWhereItSends (peer s) (at + 31) p
     → IsProbed six s at by p → AskTurns (IsProbed after s at by q) s by steps p q
 
--- where a turn is over, of each end that opens, is open or closes, without a record: within a minute and the longest time there and back
+-- where a turn is over, of each end that opens, is open or closes, without a record: within a minute and 400 ticks there and back
 abbrev pub ProbesBegin : SixBooks → PathState Carried → Type 0
 ProbesBegin six p = p.agenda ≡ [] → (s : Side) → is_closed_to_segments (end_at s p).tcp.state ≡ false → (end_at s p).tcp.send.records ≡ []
     → IsOutstanding (end_at s p)

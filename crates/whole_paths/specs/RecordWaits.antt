@@ -36,7 +36,7 @@ pub record AwaitsARecord (start : Start) (x : ℕ) (turns : List Turn) : Type 0 
   pub waits : IsRecordAwaited x path
 
 -- an end of path 0 that sent no FIN has a record that isn't acknowledged, and over the path a segment goes for so long at most, there and back
-pub record HasARecord (start : Start) (way : ℕ) (turns : List Turn) : Type 0 where
+pub record HasARecord (start : Start) (turns : List Turn) : Type 0 where
   pub path : PathState Carried
   pub here : IsPathAt 0 (reached values start turns) path
   pub side : Side
@@ -44,18 +44,16 @@ pub record HasARecord (start : Start) (way : ℕ) (turns : List Turn) : Type 0 w
   pub others : List Record
   pub records : (end_at side path).tcp.send.records ≡ first ∷ others
   pub unfinished : (end_at side path).tcp.send.finished ≡ false
-  pub near : 400 + 400 ≤ way
 
--- an end of path 0 sent no FIN, and over the path a segment goes for so long at most, there and back
-pub record SentNoFin (start : Start) (way : ℕ) (turns : List Turn) : Type 0 where
+-- an end of path 0 sent no FIN
+pub record SentNoFin (start : Start) (turns : List Turn) : Type 0 where
   pub path : PathState Carried
   pub here : IsPathAt 0 (reached values start turns) path
   pub side : Side
   pub unfinished : (end_at side path).tcp.send.finished ≡ false
-  pub near : 400 + 400 ≤ way
 
 -- its peer sent no more than its window has room for
-abbrev pub LeavesRoom : {start : Start} {way : ℕ} {turns : List Turn} → SentNoFin start way turns → Type 0
+abbrev pub LeavesRoom : {start : Start} {turns : List Turn} → SentNoFin start turns → Type 0
 LeavesRoom h = (end_at (peer h.side) h.path).tcp.send.nxt ≤ (end_at h.side h.path).tcp.recv.edge + 1048576
 
 -- ---- a course of moments at which path 0 is open
@@ -67,13 +65,13 @@ module _ (start : Start) (most : ℕ) where
   abbrev pub Opens : List Turn → List Turn → Type 0
   Opens = BeginsARound values start (IsOpenAfter start) most
 
-  -- As a round begins a wait begins, for a minute and as long as a segment is under way there and back; it goes on by each step, and as the next
+  -- As a round begins a wait begins, for a minute and 400 ticks there and back; it goes on by each step, and as the next
   -- round begins, or something is counted; and no round begins past it, unless something is counted.
   pub record RecordsAreAwaited : Type 0 where
     -- where the peer of such an end filled its window, and sent its FIN behind, the peer's first record is waited for
-    pub room : (way : ℕ) (v u : List Turn) → Opens v u → (h : SentNoFin start way v)
-        → AwaitsARecord start (round_end values start v + (60000 + way)) u ⊎ LeavesRoom h
-    pub begins : (way : ℕ) (v u : List Turn) → Opens v u → HasARecord start way v → AwaitsARecord start (round_end values start v + (60000 + way)) u
+    pub room : (v u : List Turn) → Opens v u → (h : SentNoFin start v)
+        → AwaitsARecord start (round_end values start v + 60800) u ⊎ LeavesRoom h
+    pub begins : (v u : List Turn) → Opens v u → HasARecord start v → AwaitsARecord start (round_end values start v + 60800) u
     pub on : (x : ℕ) (v u : List Turn) → Steps v u → AwaitsARecord start x v → (counted values start v < counted values start u) ⊎ AwaitsARecord start x u
     pub next : (x : ℕ) (v u : List Turn) → Opens v u → AwaitsARecord start x v → (counted values start v < counted values start u) ⊎ AwaitsARecord start x u
     pub due : (x : ℕ) (v u : List Turn) → Opens v u → AwaitsARecord start x v → x < round_end values start v → counted values start v < counted values start u

@@ -55,10 +55,10 @@ module _ (start : Start) where
   IsWellAfter s turns = DirectionIsWell s (reached values start turns)
 
   -- What the peer could tell of the stream after the first turns is heard after the others: all that its side had received is acknowledged, and
-  -- its window takes a full segment's payload past what its reader had read.
+  -- its window takes a full segment's payload past what its reader had read, or all of the file.
   pub record IsHeard (plan : PathPlan) (s : Side) (v u : List Turn) : Type 0 where
     pub acked : received (arrived_at (peer s) (reached values start v)) ≤ acked_len (written_by s (reached values start u)).marks
-    pub window : read_after s v + (plan.mss - 28) ≤ (written_by s (reached values start u)).edge
+    pub window : min (length (pick s start.file_a start.file_b)) (read_after s v + (plan.mss - 28)) ≤ (written_by s (reached values start u)).edge
 
 -- ---- what each round brings, and each four
 

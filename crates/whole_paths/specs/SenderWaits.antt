@@ -32,9 +32,9 @@ module _ (start : Start) (most : ℕ) (s : Side) where
   -- and as long as a segment is under way there and back; it goes on by each step, and as the next round begins, or something is counted; and no
   -- round begins past it, unless something is counted.
   pub record SenderIsAwaited : Type 0 where
-    pub begins : (way : ℕ) (v u : List Turn) → OpensFrom v u → (h : HasARecord start way v) → h.side ≡ s
+    pub begins : (v u : List Turn) → OpensFrom v u → (h : HasARecord start v) → h.side ≡ s
         → (end_at (peer h.side) h.path).tcp.send.nxt ≤ (end_at h.side h.path).tcp.recv.edge + 1048576
-        → AwaitsARecordOf s start (round_end values start v + (60000 + way)) u
+        → AwaitsARecordOf s start (round_end values start v + 60800) u
     pub on : (x : ℕ) (v u : List Turn) → StepsFrom v u → AwaitsARecordOf s start x v → (counted values start v < counted values start u)
         ⊎ AwaitsARecordOf s start x u
     pub next : (x : ℕ) (v u : List Turn) → OpensFrom v u → AwaitsARecordOf s start x v → (counted values start v < counted values start u)

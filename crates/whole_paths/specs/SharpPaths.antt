@@ -2,35 +2,29 @@
 use Rattle.std.specs.Prelude.{ℕ, List}
 use Rattle.sides.specs.declared.side.Side.{Side}
 use Rattle.sides.specs.declared.side.Side.TheVariants.{A, B}
-use Rattle.path_core.specs.Values.{values}
 use Rattle.world_laws.specs.Openings.{PathPlan, Start}
-use Rattle.world_laws.specs.RoundDone.{reached}
 use Rattle.world_laws.specs.Worlds.{Turn}
 use Rattle.whole_paths.specs.Counts.{Counts}
 use Rattle.whole_paths.specs.DebtKinds.{OwesBoth}
 use Rattle.whole_paths.specs.Debts.{DebtsAreMendedBy, FewAreOwedBy, OwesAtMostBy, long_wait}
-use Rattle.whole_paths.specs.DirectionWaits.{NumbersAgree}
-use Rattle.whole_paths.specs.Directions.{DirectionIsWell, OwesAlong}
+use Rattle.whole_paths.specs.Directions.{OwesAlong}
 use Rattle.whole_paths.specs.OnePathScripts.{BeginsWithOnePath, Count, EndsBy}
 use Rattle.whole_paths.specs.OpenFirst.{HasJustOpened}
 use Rattle.whole_paths.specs.SharpCourses.{PaysForHarms, sharp_allowance}
-use Rattle.whole_paths.specs.UnitRounds.{IsAllWell, WindowsAndEndsAreHeard}
+use Rattle.whole_paths.specs.UnitRounds.{WindowsAndEndsAreHeard}
 
 -- the debts along both directions, and others
 abbrev pub OwesAll : Start → (ℕ → List Turn → Type 0) → ℕ → List Turn → Type 0
 OwesAll start Other = OwesBoth (OwesAlong start A) (OwesBoth (OwesAlong start B) Other)
 
--- What is left to be shown, where debts are counted so: numbers of both directions agree, and as B's end may send a DSS first no more is owed along them
--- than was counted; others are mended, and no more are owed; without any of them all is well, the windows that are told are heard, and each DATA_FIN
--- comes which is sent.
+-- What is left to be shown, where debts are counted so: as B's end may send a DSS first no more is owed along both directions than was counted;
+-- others are mended, and no more are owed; without any of them the windows that are told are heard, and each DATA_FIN comes which is sent.
 pub record RestIsMended (start : Start) (plan : PathPlan) (most : ℕ) (paid count : List Turn → ℕ) (Other : ℕ → List Turn → Type 0)
     (MendsOther : ℕ → ℕ → List Turn → Type 0) : Type 0 where
   pub counts : Counts start paid count
-  pub numbers : (s : Side) → NumbersAgree start s
   pub opens : (s : Side) (turns : List Turn) → HasJustOpened start turns → OwesAtMostBy start plan most count (OwesAlong start s) turns
   pub others : DebtsAreMendedBy start plan most count Other MendsOther long_wait
   pub few : FewAreOwedBy start plan most count Other
-  pub well : (turns : List Turn) → Other 0 turns → ((s : Side) → DirectionIsWell s (reached values start turns)) → IsAllWell start turns
   pub hears : WindowsAndEndsAreHeard start plan (OwesAll start Other 0)
 
 -- Where that is so by each start that is so besides, whole paths deliver both files in time for what is paid for, or an end died early.

@@ -1,7 +1,5 @@
 -- Short waits, in which a unit is made: they begin where nothing is to be mended, and 23 rounds in which nothing is bring a unit more.
-use Rattle.std.specs.Prelude.{ℕ, ◌+◌, ◌*◌, ◌<◌, ◌≤◌, ◌⊎◌, List}
-use Rattle.sides.specs.declared.side.Side.{Side}
-use Rattle.path_core.specs.State.{end_at}
+use Rattle.std.specs.Prelude.{ℕ, ◌+◌, ◌<◌, ◌≤◌, ◌⊎◌, List}
 use Rattle.path_core.specs.Values.{values}
 use Rattle.world_laws.specs.Openings.{PathPlan, Start}
 use Rattle.world_laws.specs.RoundDone.{reached}
@@ -53,7 +51,8 @@ ExchangesGoOnSo = (start : Start) (plan : PathPlan) (most : ℕ) (paid count : L
     (Mends : ℕ → ℕ → List Turn → Type 0) → BeginsWithOnePath start plan → Counts start paid count
     → DebtsAreMendedBy start plan most count Owes Mends long_wait → ((turns : List Turn) → Owes 0 turns → IsAllWell start turns)
     → WhatIsToldIsHeard start plan (Owes 0)
-    → SharpExchanges start plan paid most (AreMended start plan most count Owes) (AwaitsEither start plan most count Owes Mends (WaitsForAUnit start plan count Owes))
+    → SharpExchanges start plan paid most (AreMended start plan most count Owes)
+    (AwaitsEither start plan most count Owes Mends (WaitsForAUnit start plan count Owes))
 
 -- Where no debt is, of records that may be lost and of acknowledgements, all is well.
 abbrev pub WhatIsNotOwedIsWell : Type 0

@@ -1,6 +1,5 @@
 -- What path 0 of a mild connection waits for once both of its ends are past the handshake, until both may send a DSS (RFC 8684, section 3.1).
 use Rattle.std.specs.Prelude.{ℕ, ◌+◌, ◌≡◌, ◌<◌, ◌≤◌, ◌⊎◌, false, List, [], ◌∷◌}
-use Rattle.sides.specs.declared.side.Side.TheVariants.{A, B}
 use Rattle.subflow_send.specs.Records.{Record}
 use Rattle.subflow_send.specs.declared.record.RecordKind.TheVariants.{Data}
 use Rattle.subflow_tcp.specs.States.{is_closed_to_segments}

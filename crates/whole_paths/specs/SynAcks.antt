@@ -6,7 +6,7 @@ use Rattle.link_model.specs.Steps.{segments_sent}
 use Rattle.subflow_send.specs.Records.{Record}
 use Rattle.subflow_send.specs.declared.record.RecordKind.TheVariants.{Syn}
 use Rattle.subflow_tcp.specs.declared.handshake.State.TheVariants.{SynReceived}
-use Rattle.path_core.specs.State.{PathState, end_at}
+use Rattle.path_core.specs.State.{PathState}
 use Rattle.path_core.specs.Values.{Carried, values}
 use Rattle.world_laws.specs.declared.member.Member.TheVariants.{App, Path}
 use Rattle.world_laws.specs.Actors.{Actor, ActorCrew}
@@ -53,7 +53,7 @@ SynAcksGoOn (Path p) (Path q) = IsFaithful p → ((t : Side) → segments_sent t
 SynAcksGoOn (App a) (App b) = Unit {0}
 SynAcksGoOn _ _ = ⊥
 
--- where a turn is over, within a minute and the longest time there and back
+-- where a turn is over, within a minute and 400 ticks there and back
 abbrev pub SynAcksBegin : PathState Carried → Type 0
 SynAcksBegin p = p.agenda ≡ [] → 3 ≤ stage p.a.tcp.state → p.b.tcp.state ≡ SynReceived → p.b.tcp.send.una ≡ 0
     → IsToBeAnswered (p.clock + 60000 + 400 + 400) p

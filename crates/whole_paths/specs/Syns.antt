@@ -56,7 +56,7 @@ SynsGoOn (Path p) (Path q) = IsFaithful p → ((t : Side) → segments_sent t p.
 SynsGoOn (App a) (App b) = Unit {0}
 SynsGoOn _ _ = ⊥
 
--- where a turn is over, within a minute and the longest time on its way
+-- where a turn is over, within a minute and 400 ticks
 abbrev pub SynsBegin : PathState Carried → Type 0
 SynsBegin p = p.agenda ≡ [] → (s : Side) → IsToOpen s p → (end_at s p).tcp.send.una ≡ 0 → IsSynAwaited s (p.clock + 60000 + 400) p
 

@@ -29,7 +29,7 @@ told e = e.receiving.told_edge
 pub data ToldOn (t : Side) (p q : PathState Carried) : Type 0 where
   keeps : offer (end_at t q) ≡ offer (end_at t p) → told (end_at t q) ≤ max (told (end_at t p)) (offer (end_at t p)) → ToldOn t p q
   begins : (others : List Duty) → p.agenda ≡ duties.Ask (ask_duties.Window t) ∷ others → told (end_at t q) ≡ told (end_at t p) → ToldOn t p q
-  asks : (others : List Duty) → p.agenda ≡ duties.Ask (ask_duties.AckOut t) ∷ others → ToldOn t p q
+  asks : (others : List Duty) → p.agenda ≡ duties.Ask (ask_duties.AckOut t) ∷ others → told (end_at t q) ≡ told (end_at t p) → ToldOn t p q
   dies : is_dead (end_at t q).tcp.state ≡ true → ToldOn t p q
   breaks : IsToReset t p.agenda ⊎ IsToReset t q.agenda → ToldOn t p q
 

@@ -1,7 +1,8 @@
 -- In twenty rounds in which nothing is to be mended a stream goes on by a unit: a full segment more is read, or its end is told; as long as not all
 -- of both streams is with the peers.
-use Rattle.std.specs.Prelude.{ℕ, suc, zero, ◌+◌, ◌-◌, ◌*◌, ◌≡◌, ◌<◌, ◌≤◌, ◌⊎◌, true, List, [], ◌∷◌, ◌++◌}
+use Rattle.std.specs.Prelude.{ℕ, suc, zero, ◌+◌, ◌-◌, ◌*◌, ◌≡◌, ◌<◌, ◌≤◌, ◌⊎◌, min, true, List, [], ◌∷◌, ◌++◌, length}
 use Rattle.sides.specs.declared.side.Side.{Side}
+use Rattle.actor_desk.specs.Words.{pick}
 use Rattle.path_core.specs.State.{PathState}
 use Rattle.path_core.specs.Values.{Carried, values}
 use Rattle.world_laws.specs.Openings.{PathPlan, Start}
@@ -65,7 +66,8 @@ pub record AreToldSoon (start : Start) (s : Side) (turns : List Turn) : Type 0 w
 
 pub record WindowsAndEndsAreHeard (start : Start) (plan : PathPlan) (Well : List Turn → Type 0) : Type 0 where
   pub windows : (s : Side) (v u : List Turn) → WellRounds start Well 6 v u
-      → IsAllThere s (reached values start u) ⊎ (read_after start s v + (plan.mss - 28) ≤ (written_by s (reached values start u)).edge)
+      → IsAllThere s (reached values start u)
+      ⊎ (min (length (pick s start.file_a start.file_b)) (read_after start s v + (plan.mss - 28)) ≤ (written_by s (reached values start u)).edge)
   pub fins : (s : Side) (v u : List Turn) → WellRounds start Well 4 v u → FinIsSent start s v → EndIsKnown start s u
 
 abbrev pub WhatIsToldIsHeardSo : Type 1

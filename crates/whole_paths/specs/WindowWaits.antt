@@ -35,7 +35,7 @@ pub record AwaitsAWindow (start : Start) (x : ℕ) (turns : List Turn) : Type 0 
 
 -- A side halts whose end of path 0 has no record; the peer's book takes 32 bytes past the edge of its side's. A segment goes for so long at most,
 -- there and back.
-pub record HasAShutWindow (start : Start) (way : ℕ) (turns : List Turn) : Type 0 where
+pub record HasAShutWindow (start : Start) (turns : List Turn) : Type 0 where
   pub path : PathState Carried
   pub here : IsPathAt 0 (reached values start turns) path
   pub side : Side
@@ -43,13 +43,12 @@ pub record HasAShutWindow (start : Start) (way : ℕ) (turns : List Turn) : Type
   pub halted : IsHalted (books_in (reached values start turns).books) side path
   pub takes : (written_by side (reached values start turns)).edge + 32 ≤ arriving.edge (arrived_at (peer side) (reached values start turns))
   pub room : (end_at (peer side) path).tcp.send.nxt ≤ (end_at side path).tcp.recv.edge + 1048576
-  pub near : 400 + 400 ≤ way
 
 module _ (start : Start) (most : ℕ) where
-  -- As a round begins a wait begins, for a minute and as long as a segment is under way there and back; it goes on by each step, and as the next
+  -- As a round begins a wait begins, for a minute and 400 ticks there and back; it goes on by each step, and as the next
   -- round begins, or something is counted; and no round begins past it.
   pub record WindowsAreAwaited : Type 0 where
-    pub begins : (way : ℕ) (v u : List Turn) → Opens start most v u → HasAShutWindow start way v → AwaitsAWindow start (round_end values start v + (60000 + way)) u
+    pub begins : (v u : List Turn) → Opens start most v u → HasAShutWindow start v → AwaitsAWindow start (round_end values start v + 60800) u
     pub on : (x : ℕ) (v u : List Turn) → Steps start most v u → AwaitsAWindow start x v → (counted values start v < counted values start u) ⊎ AwaitsAWindow start x u
     pub next : (x : ℕ) (v u : List Turn) → Opens start most v u → AwaitsAWindow start x v → (counted values start v < counted values start u)
         ⊎ AwaitsAWindow start x u

@@ -5,6 +5,7 @@ ghost use Rattle.whole_paths.specs.FinDebts.{FinsAreHeard, FinsGoAgain, FinsStan
 ghost use Rattle.whole_paths.specs.FinsMended.{FewFinsAreOwed, FinsAreMended, WhatIsAckedLasts, WhoOwesNoFinStands};
 ghost use Rattle.whole_paths.specs.OneDebt.{FinDebtsAreKnown, FinDebtsGoOn};
 ghost use Rattle.whole_paths.specs.OpenFirst.{AOwesRecordsFirst, BOwesNoneFirst, FewAsItOpensAreFew, OpensWithFewSo, PathsOpenByClearing};
+ghost use Rattle.whole_paths.specs.OpenQuietly.{OpensQuietly};
 ghost use Rattle.whole_paths.specs.Directions.{DirectionsGoOn, WhatOwesNoneIsWell, WhoIsToldButStaysSo};
 ghost use Rattle.whole_paths.specs.FullGrants.{EachGrantIsFull};
 ghost use Rattle.whole_paths.specs.FirstLost.{LostRecordsAreAwaited, LostRecordsAreMended};
@@ -33,6 +34,14 @@ pub fn records_are_passed_whole()
 /// So it is at each moment at which the path is open, unless all of the side's stream is with the peer.
 pub fn numbers_agree()
     ensures { NumbersAlwaysAgree }
+{}
+
+/// A law: where no segment with octets comes to B's end before that may send a DSS, no more of A's records may be lost as the only path of a mild
+/// connection opens than segments were harmed (RFC 8684, section 3.1).
+///
+/// None comes unless A's third segment, which shows both keys, is harmed or overtaken: each record that was sent is under way, or was harmed.
+pub fn opens_quietly()
+    ensures { OpensQuietly }
 {}
 
 /// A law: in one direction of the only path of a mild connection a segment that is harmed makes one debt at most (RFC 9293, section 3.10.7.4).

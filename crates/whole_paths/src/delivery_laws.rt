@@ -191,9 +191,10 @@ pub fn each_round_writes_and_reads()
 ///
 /// It is said of a mild connection over one path, between moments at which the path is open. For `read` nothing is to be mended as the rounds begin,
 /// and after seven, eleven and fifteen of them; and what the peer could tell of the stream is heard in the first six, as a premise says: the Data
-/// ACK, and a window that takes a full segment. Then come a round in which the application writes, eight by which all is acknowledged that was under
-/// way, so that the end sends what had no room in its congestion window, or what it is granted (`each_grant_is_full`), four in which that comes, and
-/// one in which it is read. No more is asked of the congestion window than that it holds one segment (RFC 5681, section 3.1), as it always does.
+/// ACK, and a window that takes a full segment, or all of the file. Then come a round in which the application writes, eight by which all is
+/// acknowledged that was under way, so that the end sends what had no room in its congestion window, or what it is granted (`each_grant_is_full`),
+/// four in which that comes, and one in which it is read. No more is asked of the congestion window than that it holds one segment (RFC 5681,
+/// section 3.1), as it always does.
 pub fn a_segment_is_read()
     ensures brought { FourRoundsBring }
     ensures told { FourRoundsTell }
@@ -343,8 +344,8 @@ pub fn openings_are_awaited()
 {}
 
 /// A law: what an open end of the only path of a mild connection asks for, the Data ACK of its DATA_FIN or of a piece (`each_ask_is_answered`),
-/// goes on by each turn to be answered by the same tick, or something comes between that counts: more is heard or sent, the script harms a
-/// segment, or an end dies.
+/// goes on by each turn to be answered by the same tick, or something comes between that counts: more is heard or sent, a segment is
+/// harmed, or an end dies.
 ///
 /// An open end without a record of which anything is outstanding waits for such an answer, or for the peer's window (`in_time`). Where a turn
 /// is over it asks for the answer, within a minute and 800 ticks, and no round ends past that. That the peer wants the

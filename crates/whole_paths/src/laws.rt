@@ -663,7 +663,7 @@ pub fn each_probe_is_answered()
 {}
 
 /// A law: a window that an end without a record waits for comes within a minute and 800 ticks there and
-/// back, where the peer's book takes so much, unless the script harms a segment of the exchange (RFC 9293, section 3.8.6.1).
+/// back, where the peer's book takes so much, unless a segment of the exchange is harmed (RFC 9293, section 3.8.6.1).
 ///
 /// Where a turn is over, and the side may not send up to a place past the edge of its send book, the wait for it begins. By each turn it goes
 /// on, and its tick stays, or the edge rose. That is said of the path on which `each_probe_is_answered` says what may come between. In a

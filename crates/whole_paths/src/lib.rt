@@ -17,7 +17,8 @@
 //! one path all is acknowledged then that was written as the round began (`what_was_written_is_acknowledged`).
 //!
 //! Over one path that stays whole, or whose ends don't die early, all this ends: both files are delivered (`whole_paths_deliver`). So it is from the
-//! beginning of the connection (`one_path_ends`), and four harmed segments let no end die early (`few_losses_finish`).
+//! beginning of the connection (`one_path_ends`), and four harmed segments let no end die early (`few_losses_finish`). A full segment takes 26
+//! rounds, and one that is harmed 3,900, where the files fit the first windows (`patient_paths_deliver`).
 #![tactic(auto)]
 
 mod debt_laws;
@@ -25,6 +26,7 @@ mod delivery_laws;
 mod expiry_laws;
 mod laws;
 mod opening_laws;
+mod patience_laws;
 mod window_laws;
 
 pub use debt_laws::checked_records_are_passed_whole;
@@ -42,6 +44,7 @@ pub use debt_laws::lost_records_are_awaited;
 pub use debt_laws::lost_records_are_first;
 pub use debt_laws::lost_records_are_mended;
 pub use debt_laws::numbers_agree;
+pub use debt_laws::opens_quietly;
 pub use debt_laws::paths_open_by_clearing;
 pub use debt_laws::records_are_passed_whole;
 pub use debt_laws::what_is_reached_is_first;
@@ -201,8 +204,11 @@ pub use opening_laws::each_sign_piece_comes;
 pub use opening_laws::each_syn_ack_is_answered_soon;
 pub use opening_laws::each_syn_comes_soon;
 pub use opening_laws::paths_open_owing_records;
+pub use patience_laws::patient_paths_deliver;
+pub use window_laws::each_turn_asks_its_window;
 pub use window_laws::fitting_files_are_never_shut;
 pub use window_laws::what_comes_opens_the_window;
 pub use window_laws::what_is_told_goes_on;
+pub use window_laws::what_is_told_is_taken;
 pub use window_laws::who_asks_owes;
 pub use window_laws::windows_are_assured;

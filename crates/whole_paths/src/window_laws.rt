@@ -2,7 +2,11 @@
 ghost use Rattle.whole_paths.specs.AnswersAssure.{EachAnswerAssures, WhatComesOpensTheWindow};
 ghost use Rattle.whole_paths.specs.AsksOwed.{WhoAsksOwes};
 ghost use Rattle.whole_paths.specs.FilesFit.{FittingFilesAreNeverShut};
+ghost use Rattle.whole_paths.specs.OfferedTaken.{WhatIsToldIsTaken};
 ghost use Rattle.whole_paths.specs.ToldEdges.{WhatIsToldGoesOn};
+ghost use Rattle.path_core.specs.Octets.{octets};
+ghost use Rattle.path_core.specs.Values.{values};
+ghost use Rattle.whole_paths.specs.TurnsBegin.{EachTurnBegins};
 ghost use Rattle.whole_paths.specs.WindowsAssured.{FourRoundsAssure, WindowsAreAssured};
 
 /// A law: a window that a bare segment tells comes within 400 ticks, or the segment is harmed, though more be sent behind it (RFC 8684, section 3.3.5).
@@ -15,8 +19,7 @@ pub fn windows_are_assured()
     ensures rounds { FourRoundsAssure }
 {}
 
-/// A law: where a side's file and a full segment fit into the window that the side is told with the first SYN, it may always send a full segment's
-/// payload past what was read (RFC 9293, section 3.8.6).
+/// A law: where a side's file fits into the window that the side is told with the first SYN, it may always send all of it (RFC 9293, section 3.8.6).
 ///
 /// So it is over one path of a mild connection as the path is open and a round is over. The window of a SYN is what the peer buffers, 65,535 octets at
 /// most; and a window never shrinks.
@@ -51,4 +54,22 @@ pub fn what_comes_opens_the_window()
 /// before an acknowledgement goes.
 pub fn who_asks_owes()
     ensures { WhoAsksOwes }
+{}
+
+/// A law: an end never tells its peer to send more than its side's reassembly book takes, but for the DATA_FIN (RFC 9293, section 3.8.6; RFC 8684, section
+/// 3.3.5).
+///
+/// So it is on path 0 of a mild connection: of what the end knows, always, and of the edge that it told last, as long as it lives.
+pub fn what_is_told_is_taken()
+    ensures { WhatIsToldIsTaken }
+{}
+
+/// A law: as each turn of a path begins, each end asks its side's reassembly book once how much it takes, before it sends or hears anything, and then tells
+/// a window that has grown (RFC 9293, section 3.8.6).
+///
+/// So it is by any turn. As the end asks, it knows then all that the book takes (`what_is_taken_is_offered`), and an Update comes next. It asks no more so
+/// until the path's turn is over and the next one begins.
+pub fn each_turn_asks_its_window()
+    ensures octets { EachTurnBegins octets }
+    ensures values { EachTurnBegins values }
 {}

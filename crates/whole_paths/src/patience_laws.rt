@@ -1,0 +1,22 @@
+//! How soon both files are delivered over one path of a mild connection, as clauses of functions that do nothing.
+ghost use Rattle.path_core.specs.Octets.{octets};
+ghost use Rattle.path_core.specs.Values.{values};
+ghost use Rattle.whole_paths.specs.PatientPaths.{FewLossesFinishPatiently, PatientPathEnds, PatientPathsEnd};
+
+/// A law: over one path both files are delivered after 13,000 rounds, 26 for each full segment of either file, and 3,900 for each segment that is
+/// harmed, and for each record of A's that may be lost as the path opens, unless an end dies; however much is lost, late or repeated.
+///
+/// It is said of mild scripts whose files fit the first windows: with three octets more into what the peer buffers, and with one more into the
+/// 65,535 octets of a SYN's window (RFC 9293, section 3.8.6); and of fewer than 2^64 - 1 turns. So it is from the round's end at which the path is
+/// whole (`ends_octets`, `ends_values`), and from the beginning (`octets`, `values`). A segment is harmed where it is lost, or comes later than 400
+/// ticks; with four such segments at most, and no line by which the path dies or its address is taken back, no end dies (`few_octets`,
+/// `few_values`). The records of A's are those that its end has as B's end may send a DSS first: some may have come to an end without keys, which
+/// drops them (RFC 8684, section 3.1).
+pub fn patient_paths_deliver()
+    ensures ends_octets { PatientPathsEnd octets }
+    ensures ends_values { PatientPathsEnd values }
+    ensures few_octets { FewLossesFinishPatiently octets }
+    ensures few_values { FewLossesFinishPatiently values }
+    ensures octets { PatientPathEnds octets }
+    ensures values { PatientPathEnds values }
+{}
