@@ -45,7 +45,7 @@ use Rattle.whole_paths.proofs.OpenTurns.{with_both}
 use Rattle.whole_paths.proofs.RecordWaits.{last}
 use Rattle.whole_paths.proofs.RecordsWell.{known, numbered}
 
-whole_open : (state : EndPhase) → 3 ≤ stage state → is_half_open state ≡ false
+pub whole_open : (state : EndPhase) → 3 ≤ stage state → is_half_open state ≡ false
 whole_open phase.SynReceived high = absurd (omega (arith, high))
 whole_open _ high = refl
 

@@ -40,6 +40,7 @@ use Rattle.whole_paths.proofs.DirectionTurns.{OwesFewer, heard_less, told_lower}
 use Rattle.whole_paths.proofs.Directions.{directions_go_on, harms_so, past_is_there, these_stay}
 use Rattle.whole_paths.proofs.Flying.{same_record}
 use Rattle.whole_paths.proofs.Losing.{there_so}
+use Rattle.whole_paths.proofs.NumbersAgree.{numbers_always_agree}
 use Rattle.whole_paths.proofs.RecordWaits.{path_is}
 use Rattle.whole_paths.proofs.RoundSteps.{early}
 use Rattle.whole_paths.proofs.ToldStays.{told_later}
@@ -312,4 +313,4 @@ module _ (start : Start) (plan : PathPlan) (most : ℕ) (s : Side) (one : Begins
   }
 
 pub directions_are_mended : DirectionsAreMended
-directions_are_mended start plan most s one agree = along_mended start plan most s one agree
+directions_are_mended start plan most s one = along_mended start plan most s one (numbers_always_agree start plan s one)

@@ -231,12 +231,14 @@ pub mod Unroomy
 pub mod Pushed
 pub mod FullGrants
 pub mod FlightsGo
+pub mod Stalls
 pub mod RoundSteps
 pub mod SegmentRounds
 pub mod ReadSegments
 pub mod EndRounds
 pub mod UnitRounds
 pub mod PatientPaths
+pub mod QuietOpenings
 pub mod ShortWaits
 pub mod UnderWay
 pub mod ByTurns
@@ -286,3 +288,4 @@ pub mod OpenQuietly
 pub mod Opened
 pub mod SignPieces
 pub mod EarlyRecords
+pub mod ProbeWaits

@@ -47,7 +47,7 @@ use Rattle.whole_paths.proofs.Offered.{Knows, Same, answered_knows, edge_up, fai
 use Rattle.whole_paths.proofs.Offered.{Knows as knows}
 use Rattle.whole_paths.proofs.OpenCourses.{IsFirstPath, each_first}
 use Rattle.whole_paths.proofs.Settling.{sides}
-use Rattle.whole_paths.proofs.ToldEdges.{what_is_told_goes_on}
+use Rattle.whole_paths.proofs.ToldEdges.{told_low, what_is_told_goes_on}
 use Rattle.world_laws.specs.declared.member.Member.TheVariants.{Path}
 use Rattle.world_laws.specs.Actors.{ActorCrew}
 use Rattle.whole_paths.specs.Brought.{IsToReset}
@@ -288,7 +288,7 @@ module _ (start : Start) (mild : IsMildStart start) where
         up = (on s).up
 
         by : ToldOn s p q → told (end_at s q) ≤ suc (arriving.edge (reassembly_of s later))
-        by (told_on.keeps same low) = (let offered = (h s).offered in let before = was in let more = up in omega (arith, low, offered, before, more))
+        by (told_on.keeps next window tells) = (let low = told_low (end_at s p) (end_at s q) tells in let offered = (h s).offered in let before = was in let more = up in omega (arith, low, offered, before, more))
         by (told_on.begins others is same) = (let before = was in let more = up in omega (arith, same, before, more))
         by (told_on.asks others is same) = (let before = was in let more = up in omega (arith, same, before, more))
         by (told_on.dies dead) = absurd (both_ways (is_dead (end_at s q).tcp.state) living dead)

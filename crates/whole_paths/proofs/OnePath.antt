@@ -81,11 +81,11 @@ data Fate (s : Side) (n : Sending) (steps : List Note) (e : PathEnd) (b : Sendin
 
 -- the path took all that was written then, or all before the edge of the peer's window as it was; or it was on standby when it asked last, or the
 -- connection was stopped
-pub data Spends (s : Side) (n : Sending) (steps : List Note) (b : Sending) : Type 0 where
-  written : AreSpent (length n.written) b → Spends s n steps b
-  edge : AreSpent n.edge b → Spends s n steps b
-  standby : last_on_standby s false steps ≡ true → Spends s n steps b
-  stopped : b.aborted ≡ true → Spends s n steps b
+pub data Spends (s : Side) (n : Sending) (steps : List Note) (e : PathEnd) (b : Sending) : Type 0 where
+  written : AreSpent (length n.written) b → Spends s n steps e b
+  edge : e.sending.shut ≡ true → AreSpent n.edge b → Spends s n steps e b
+  standby : last_on_standby s false steps ≡ true → Spends s n steps e b
+  stopped : b.aborted ≡ true → Spends s n steps e b
 
 pub refused_more : (s : Side) (before : Bool) (steps : List Note) (n : Note) → last_refused s before (steps ++ n ∷ []) ≡ refused_after s n (last_refused s before steps)
 refused_more s before [] n = refl
@@ -380,12 +380,12 @@ module _ {C : Type 0} where
     fate_sent s n steps e b (is_stopped is) refused in_turn all = sent.stopped is
     fate_sent s n steps e b (shuts is spent more) refused in_turn all = sent.shut is (first_acked n.edge b.marks spent all) more in_turn.fits
 
-    fate_spent : (s : Side) (n : Sending) (steps : List Note) (e : PathEnd) (b : Sending) → Fate s n steps e b → last_refused s false steps ≡ true → Spends s n steps b
+    fate_spent : (s : Side) (n : Sending) (steps : List Note) (e : PathEnd) (b : Sending) → Fate s n steps e b → last_refused s false steps ≡ true → Spends s n steps e b
     fate_spent s n steps e b (unasked is) refused = absurd (true≢false (sym refused ∙ is))
     fate_spent s n steps e b (all_spent is_open is) refused = Spends.written is
     fate_spent s n steps e b (on_standby is) refused = Spends.standby is
     fate_spent s n steps e b (is_stopped is) refused = Spends.stopped is
-    fate_spent s n steps e b (shuts is spent more) refused = Spends.edge spent
+    fate_spent s n steps e b (shuts is spent more) refused = Spends.edge is spent
 
     sent_acked : (s : Side) (n : Sending) (steps : List Note) (e : PathEnd) (b : Sending) → IsIdle e → IsSentToTheEdge s steps n e b → IsAllAcknowledged s steps (length n.written) b
     sent_acked s n steps e b idle (sent.acknowledged is_open is) = IsAllAcknowledged.acknowledged is
@@ -432,7 +432,7 @@ module _ {C : Type 0} where
           (subst (λ (v : WorldState C). IsAckedInTurn (written_by s v)) (sym round.is) (round.holds.alone.books s).in_turn) (subst (λ n. AllIsAcknowledged n (written_by s w)) zero_is granted))
 
       -- where the end may ask for bytes the path took all that was written as the round began, or all before the edge of the window that the side had then
-      pub path_spends : (c : ActorCrew C) (p : PathState C) → c.member ≡ Path p → slice_get w.crew 2 ≡ Some c → p.agenda ≡ [] → (s : Side) → may_ask p.profile s (end_at s p) ≡ true → Spends s (written_by s begun) (steps_since 2 begun w) (written_by s w)
+      pub path_spends : (c : ActorCrew C) (p : PathState C) → c.member ≡ Path p → slice_get w.crew 2 ≡ Some c → p.agenda ≡ [] → (s : Side) → may_ask p.profile s (end_at s p) ≡ true → Spends s (written_by s begun) (steps_since 2 begun w) (end_at s p) (written_by s w)
       path_spends c p kind there over s may = fate_spent s (written_by s begun) (steps_since 2 begun w) (end_at s p) (written_by s w) (path_fate_at c p kind there s) (refused_at c p kind there over s may)
 
       path_acked : (m : Actor C) → HoldsOfKind (λ app. Unit {0}) HasWindows m → HoldsOfKind (λ app. Unit {0}) (LeavesNothingBeforeTheEdge begun w) m → HoldsOfKind (λ app. Unit {0}) (IdleIsAcknowledged begun w) m
@@ -507,7 +507,7 @@ what_was_written_is_acknowledged_in_octets = written_acked octets what_idle_ends
 -- where the end may ask for bytes
 pub what_was_written_is_spent : (start : Start) (plan : PathPlan) (begun : WorldState Carried) (order : List ℕ) → start.paths ≡ plan ∷ [] → HasRoom start → NumbersFit start → BeginsRound values start begun
     → let w = after_steps values order begun in (c : ActorCrew Carried) (p : PathState Carried) → c.member ≡ Path p → slice_get w.crew 2 ≡ Some c → p.agenda ≡ [] → (s : Side) → may_ask p.profile s (end_at s p) ≡ true
-    → Spends s (written_by s begun) (steps_since 2 begun w) (written_by s w)
+    → Spends s (written_by s begun) (steps_since 2 begun w) (end_at s p) (written_by s w)
 what_was_written_is_spent start plan begun order one size fit begins c p kind there over s may =
     let at = reached_at values start begun order begins in
     let steps : List Turn = map (λ actor. Turn.Step actor) order in

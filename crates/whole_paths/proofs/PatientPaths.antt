@@ -30,7 +30,6 @@ use Rattle.whole_paths.specs.SharpPaths.{OwesAll, RestIsMended}
 use Rattle.whole_paths.proofs.Counts.{counts_itself, debts_are_mended_by_more, event_up, one_at_most}
 use Rattle.whole_paths.proofs.Courses.{harmed_append}
 use Rattle.whole_paths.proofs.DebtKinds.{kinds_are_few_together, kinds_are_mended_together}
-use Rattle.whole_paths.proofs.EarlyRecords.{early_never_falls, early_over_octets, opens_owing_records}
 use Rattle.whole_paths.proofs.FewLossesDeliver.{few_losses_end_none, few_losses_end_none_in_octets}
 use Rattle.whole_paths.proofs.FilesFit.{fitting_files_are_never_shut}
 use Rattle.whole_paths.proofs.FinsHeard.{ends_are_heard}
@@ -39,6 +38,7 @@ use Rattle.whole_paths.proofs.OnePathScripts.{mild_scripts_begin_with_one_path}
 use Rattle.whole_paths.proofs.OpeningEnds.{delivers_from, opens_within}
 use Rattle.whole_paths.proofs.OverOctets.{harms_as_over_values}
 use Rattle.whole_paths.proofs.PaidEnds.{few_losses_finish_by, one_path_ends_by_in_octets}
+use Rattle.whole_paths.proofs.QuietOpenings.{lost_early_never_falls, opens_owing_few}
 use Rattle.whole_paths.proofs.RoundSteps.{between, open_last, over_after}
 use Rattle.whole_paths.proofs.SharpCourses.{sharp_ends_by_scripts}
 use Rattle.whole_paths.proofs.SharpPaths.{sharp_paths_end_so}
@@ -46,7 +46,7 @@ use Rattle.whole_paths.proofs.UnitRounds.{rounds_of}
 
 pays : PaysForHarms (harms_and_early values)
 pays = record {
-  up = λ start turns more. (let first = early_never_falls values start turns more in let harms = harmed_append values 0 turns more (opened_world start) in omega (arith, first, harms));
+  up = λ start turns more. (let first = lost_early_never_falls start turns more in let harms = harmed_append values 0 turns more (opened_world start) in omega (arith, first, harms));
   covers = λ start turns. omega arith;
 }
 
@@ -60,11 +60,11 @@ module _ (start : Start) (plan : PathPlan) (most : ℕ) (one : BeginsWithOnePath
   fins : (s : Side) → CountsFins start s count
   fins A = record {
     covers = λ turns. omega arith;
-    rises = λ turns turn h. (let b = acked_up B turns turn h in let lost = early_never_falls values start turns (turn ∷ []) in omega (arith, b, lost));
+    rises = λ turns turn h. (let b = acked_up B turns turn h in let lost = lost_early_never_falls start turns (turn ∷ []) in omega (arith, b, lost));
   }
   fins B = record {
     covers = λ turns. omega arith;
-    rises = λ turns turn h. (let a = acked_up A turns turn h in let lost = early_never_falls values start turns (turn ∷ []) in omega (arith, a, lost));
+    rises = λ turns turn h. (let a = acked_up A turns turn h in let lost = lost_early_never_falls start turns (turn ∷ []) in omega (arith, a, lost));
   }
 
   paid : CountsAsMuch start (harms_and_early values start) count
@@ -77,7 +77,7 @@ module _ (start : Start) (plan : PathPlan) (most : ℕ) (one : BeginsWithOnePath
   counts = record {
     harms = record {
       covers = λ turns. omega arith;
-      rises = λ turns turn h. (let a = acked_up A turns turn h in let b = acked_up B turns turn h in let lost = early_never_falls values start turns (turn ∷ []) in omega (arith, a, b, lost));
+      rises = λ turns turn h. (let a = acked_up A turns turn h in let b = acked_up B turns turn h in let lost = lost_early_never_falls start turns (turn ∷ []) in omega (arith, a, b, lost));
     };
     few = λ turns. (let a = one_at_most (all_is_acked start A turns) in let b = one_at_most (all_is_acked start B turns) in omega (arith, a, b));
   }
@@ -90,7 +90,7 @@ module _ (start : Start) (plan : PathPlan) (most : ℕ) (one : BeginsWithOnePath
   few s = few_fins_are_owed start plan most s count one (fins s)
 
   few_first : (s : Side) (turns : List Turn) → HasJustOpened start turns → OwesAtMostBy start plan most count (OwesAlong start s) turns
-  few_first s turns h = let owes = opens_owing_records start plan turns s one h in record { debts = owes.0; owes = owes.1; few = (let low = owes.2 in omega (arith, low)) }
+  few_first s turns h = let owes = opens_owing_few start plan turns s one h in record { debts = owes.0; owes = owes.1; few = (let low = owes.2 in omega (arith, low)) }
 
   -- without debts each DATA_FIN stands as it should
   stand : (turns : List Turn) → OwesAll start (OwesFins start) 0 turns → (s : Side) → FinStandsAfter start s turns
@@ -124,7 +124,7 @@ ends_in_time = sharp_paths_end_so FitFirstWindows (harms_and_early values) with_
 
 as_many : (start : Start) → IsMildStart start → (turns : List Turn) → harms_and_early octets start turns ≡ harms_and_early values start turns
 as_many start mild turns =
-    let first = early_over_octets start turns mild.plain.size mild.fit in let harms = harms_as_over_values start mild turns in omega (arith, first, harms)
+    let harms = harms_as_over_values start mild turns in omega (arith, harms)
 
 pub patient_paths_end : PatientPathsEnd values × PatientPathsEnd octets
 patient_paths_end = sharp_ends_by_scripts FitFirstWindows (harms_and_early values) (harms_and_early octets) as_many ends_in_time

@@ -1,5 +1,5 @@
 -- What there is room for is sent: as the turn is over no record waits that fits, and where there is room for a full segment the last grant was refused.
-use Rattle.std.proofs.Common.{◌≡◌, refl, sym, subst, ap, ◌∙◌, inl, ⊎_elim, ℕ, ◌-◌, ◌^◌, ◌<◌, ◌≤◌, min, ◌&&◌, ◌||◌, nat_le, not, arith, Bool, true, false, if◌then◌else◌, Option, Some, None, List, [], ◌∷◌, ◌++◌, length, map, sum_by}
+use Rattle.std.proofs.Common.{◌≡◌, refl, sym, subst, ap, ◌∙◌, ◌⊎◌, inl, inr, ⊎_elim, ℕ, ◌-◌, ◌^◌, ◌<◌, ◌≤◌, ◌&&◌, ◌||◌, nat_le, not, arith, Bool, true, false, if◌then◌else◌, Option, Some, None, List, [], ◌∷◌, ◌++◌, length, map, sum_by}
 use Rattle.std.specs.List.{slice_get}
 use Rattle.std.specs.Prelude.{find}
 use Rattle.std.proofs.lemmas.Bool.{and_from, both_ways, cases_lt, le-leb, lt-leb, or_from}
@@ -96,7 +96,11 @@ module _ (c : Profile) (s : Side) (e : PathEnd) (taken : ℕ) (h : Known c s e t
       (and_from (nat_le (payload_size c) (room e.tcp)) (not (is_at_limit e.tcp) && may_send_data c s e) fits
       (and_from (not (is_at_limit e.tcp)) (may_send_data c s e) (ap not limit) bytes))
 
-  pushed : (may_ask c s e ≡ true → min (length was.written) was.edge ≤ taken) → IsPushed c e was
+  -- all bytes are taken that were written, or that lie before the edge of a window that is shut
+  abbrev Takes : Type 0
+  Takes = (length was.written ≤ taken) ⊎ ((e.sending.shut ≡ true) × (was.edge ≤ taken))
+
+  pushed : (may_ask c s e ≡ true → Takes) → IsPushed c e was
   pushed takes = by (first_unsent e) refl
     where
       by : (o : Option Record) → first_unsent e ≡ o → IsPushed c e was
@@ -105,7 +109,10 @@ module _ (c : Profile) (s : Side) (e : PathEnd) (taken : ℕ) (h : Known c s e t
           let small = (find_every (λ (x : Record). length x.piece ≤ payload_size c) is_unsent e.tcp.send.records r h.fits.sizes is).0 in too_little (omega (arith, little, small))
       by None is = ⊎_elim
           (λ less. too_little less)
-          (λ enough. IsPushed.all (let low = takes (asks enough) in let all = all_sent e.tcp.send.nxt e.tcp.send.records is in let took = h.took in omega (arith, low, all, took)))
+          (λ enough. (let all = all_sent e.tcp.send.nxt e.tcp.send.records is in let took = h.took in ⊎_elim
+          (λ low. IsPushed.all (omega (arith, low, all, took)))
+          (λ low. IsPushed.shut low.0 (let edge = low.1 in omega (arith, edge, all, took)))
+          (takes (asks enough))))
           (cases_lt (room e.tcp) (payload_size c))
 
 -- ---- a moment of path 0
@@ -156,16 +163,15 @@ module _ (start : Start) (plan : PathPlan) (begun : WorldState Carried) (order :
     found : slice_get (world_run values turns (opened_world start)).crew 2 ≡ Some c
     found = subst (λ (v : WorldState Carried). slice_get v.crew 2 ≡ Some c) now there
 
-    takes : (s : Side) → p.agenda ≡ [] → may_ask p.profile s (end_at s p) ≡ true → min (length (written_by s begun).written) (written_by s begun).edge ≤ taken_len 0 (written_by s (world_run values turns (opened_world start))).marks
-    takes s over asks = subst (λ (v : WorldState Carried). min (length (written_by s begun).written) (written_by s begun).edge ≤ taken_len 0 (written_by s v).marks) now
+    takes : (s : Side) → p.agenda ≡ [] → may_ask p.profile s (end_at s p) ≡ true → let n = taken_len 0 (written_by s (world_run values turns (opened_world start))).marks in
+        (length (written_by s begun).written ≤ n) ⊎ (((end_at s p).sending.shut ≡ true) × ((written_by s begun).edge ≤ n))
+    takes s over asks = subst (λ (v : WorldState Carried). (length (written_by s begun).written ≤ taken_len 0 (written_by s v).marks) ⊎ (((end_at s p).sending.shut ≡ true) × ((written_by s begun).edge ≤ taken_len 0 (written_by s v).marks))) now
         (by (what_was_written_is_spent start plan begun order one mild.plain.size mild.fit begins c p is there over s asks))
       where
-        spent_to : (n : ℕ) → AreSpent n (written_by s w) → min (length (written_by s begun).written) (written_by s begun).edge ≤ n → min (length (written_by s begun).written) (written_by s begun).edge ≤ taken_len 0 (written_by s w).marks
-        spent_to n all low = let taken = spent_taken n (written_by s w).marks all in omega (arith, taken, low)
-
-        by : Spends s (written_by s begun) (steps_since 2 begun w) (written_by s w) → min (length (written_by s begun).written) (written_by s begun).edge ≤ taken_len 0 (written_by s w).marks
-        by (Spends.written all) = spent_to (length (written_by s begun).written) all (omega arith)
-        by (Spends.edge all) = spent_to (written_by s begun).edge all (omega arith)
+        by : Spends s (written_by s begun) (steps_since 2 begun w) (end_at s p) (written_by s w)
+            → (length (written_by s begun).written ≤ taken_len 0 (written_by s w).marks) ⊎ (((end_at s p).sending.shut ≡ true) × ((written_by s begun).edge ≤ taken_len 0 (written_by s w).marks))
+        by (Spends.written all) = inl (spent_taken (length (written_by s begun).written) (written_by s w).marks all)
+        by (Spends.edge shut all) = inr (shut, spent_taken (written_by s begun).edge (written_by s w).marks all)
         by (Spends.standby stands) = absurd (both_ways _ (subst (λ (v : WorldState Carried). last_on_standby s false (steps_since 2 begun v) ≡ false) (sym now) (never_on_standby values start plan turns one 2 s begun)) stands)
         by (Spends.stopped stop) = absurd (both_ways _ (subst (λ (v : WorldState Carried). (written_by s v).aborted ≡ false) (sym now) ((mild_paths_are_never_stopped start plan turns one mild).send s)) stop)
 

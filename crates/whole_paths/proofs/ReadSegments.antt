@@ -57,7 +57,7 @@ module _ (start : Start) (plan : PathPlan) (x : BeginsWithOnePath start plan) (s
   profile : (turns : List Turn) (p : PathState Carried) → IsPathAt 0 (at turns) p → p.profile.mss ≡ plan.mss
   profile turns p here = ap (λ (c : Profile). c.mss) (of_path start plan x turns p (λ z. z.profile ≡ (path_begins start 0 plan).profile) here (only_profile start plan turns x.one x.mild 2 here.crew here.there))
 
-  open_at : (v u : List Turn) → Between start v u → (p : PathState Carried) → IsPathAt 0 (at u) p → IsOpen p
+  pub open_at : (v u : List Turn) → Between start v u → (p : PathState Carried) → IsPathAt 0 (at u) p → IsOpen p
   open_at v u b p here = let o = path_there start v u b in subst IsOpen (path_is (at u) o.path p o.here here) o.is_open
 
   there_more : (v u : List Turn) → Between start v u → there_are v ≤ there_are u
@@ -68,10 +68,10 @@ module _ (start : Start) (plan : PathPlan) (x : BeginsWithOnePath start plan) (s
 
   -- of an end that may still send its FIN, as the turn is over
   module _ (turns : List Turn) (p : PathState Carried) (here : IsPathAt 0 (at turns) p) (is_open : IsOpen p) (over : all_over (at turns).crew ≡ true) (may : may_finish (end_at s p).tcp.state ≡ true) where
-    is_known : Known p.profile s (end_at s p) (taken_len 0 (written_by s (at turns)).marks)
+    pub is_known : Known p.profile s (end_at s p) (taken_len 0 (written_by s (at turns)).marks)
     is_known = known start plan turns x.one x.mild here.crew here.there p here.is s is_open (silent start turns p over here) may
 
-    is_reached : EndsAreReached p
+    pub is_reached : EndsAreReached p
     is_reached = of_path start plan x turns p EndsAreReached here ((each_is_reached values start turns).each 2 here.crew here.there)
 
     sized : Every (λ (r : Record). length r.piece ≤ occupied r.kind r.piece) (end_at s p).tcp.send.records
@@ -254,15 +254,19 @@ module _ (start : Start) (plan : PathPlan) (x : BeginsWithOnePath start plan) (s
           (what_has_room_is_sent start plan (begun start fourth.0 d sends) sends.order x.one x.mild (begins_so start fourth.0 d sends) well_d.here.crew there)
           opened_d (silent start d q over well_d.here) s may
 
-      same : min (length (written_by s (begun start fourth.0 d sends)).written) (written_by s (begun start fourth.0 d sends)).edge ≡ there_are fourth.0
-      same = same_books start fourth.0 d sends (λ w. min (length (written_by s w).written) (written_by s w).edge ≡ there_are fourth.0) (λ w is. is) refl
+      same_written : length (written_by s (begun start fourth.0 d sends)).written ≡ written_after start s fourth.0
+      same_written = same_books start fourth.0 d sends (λ w. length (written_by s w).written ≡ written_after start s fourth.0) (λ w is. is) refl
+
+      same_edge : (written_by s (begun start fourth.0 d sends)).edge ≡ (written_by s (at fourth.0)).edge
+      same_edge = same_books start fourth.0 d sends (λ w. (written_by s w).edge ≡ (written_by s (at fourth.0)).edge) (λ w is. is) refl
 
       -- nothing is under way: so all is sent that there is
       nothing_waits : (end_at s q).tcp.send.nxt ≡ from → IsPushed q.profile (end_at s q) (written_by s (begun start fourth.0 d sends)) → Goal
       nothing_waits none (IsPushed.full more) =
           let within = sent_within q.profile s (end_at s q) _ now (lined s) in
           let window = now.window in let small = now.small in absurd (omega (arith, none, heard_of, more, within, window, small))
-      nothing_waits none (IsPushed.all more) = sent (let there = same in let low = enough_then in omega (arith, more, there, low))
+      nothing_waits none (IsPushed.all more) = sent (let there = same_written in let low = enough_then in omega (arith, more, there, low))
+      nothing_waits none (IsPushed.shut is more) = sent (let there = same_edge in let low = enough_then in omega (arith, more, there, low))
 
       goes : GoesNext from goal (at d) q → Goal
       goes (GoesNext.ungranted none) = nothing_waits none pushed

@@ -20,7 +20,6 @@ use Rattle.whole_paths.proofs.Counts.{debts_are_mended_by_more}
 use Rattle.whole_paths.proofs.DebtKinds.{kinds_are_few_together, kinds_are_mended_together}
 use Rattle.whole_paths.proofs.Directions.{what_owes_none_is_well}
 use Rattle.whole_paths.proofs.DirectionsMended.{directions_are_mended}
-use Rattle.whole_paths.proofs.NumbersAgree.{numbers_always_agree}
 use Rattle.whole_paths.proofs.OpenFirst.{few_along}
 use Rattle.whole_paths.proofs.SharpCourses.{sharp_exchanges_end}
 use Rattle.whole_paths.proofs.ShortWaits.{exchanges_go_on_so}
@@ -36,7 +35,7 @@ module _ (start : Start) (plan : PathPlan) (most : ℕ) (paid count : List Turn 
   module _ (one : BeginsWithOnePath start plan) (rest : RestIsMended start plan most paid count Other MendsOther) where
     along : (s : Side) → DebtsAreMendedBy start plan most count (OwesAlong start s) (Mends s) long_wait
     along s = debts_are_mended_by_more start plan most one_timeout long_wait (harmed_so_far values start) count (OwesAlong start s) (MendsAlong start s) one.mild rest.counts.harms (omega arith)
-        (directions_are_mended start plan most s one (numbers_always_agree start plan s one))
+        (directions_are_mended start plan most s one)
 
     few : (s : Side) → FewAreOwedBy start plan most count (OwesAlong start s)
     few s = few_along start plan most s one count rest.counts.harms (rest.opens s)

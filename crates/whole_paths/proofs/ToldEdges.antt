@@ -53,7 +53,7 @@ use Rattle.world_laws.proofs.Writes.Steps.{Lasts, begins_lasts, settled_lasts, u
 use Rattle.whole_paths.specs.AgendaSteps.{is_gone}
 use Rattle.whole_paths.specs.Brought.{IsToReset}
 use Rattle.whole_paths.specs.Brought.{IsToReset as resetting}
-use Rattle.whole_paths.specs.ToldEdges.{ToldOn, UpdatesIfGrown, WhatIsToldGoesOn, offer, told}
+use Rattle.whole_paths.specs.ToldEdges.{TellsEdge, ToldOn, UpdatesIfGrown, WhatIsToldGoesOn, offer, told}
 use Rattle.whole_paths.specs.ToldEdges.{ToldOn as told_on}
 use Rattle.whole_paths.proofs.Agendas.{gone_end, own_end}
 use Rattle.whole_paths.proofs.KnownWindows.{duty_told}
@@ -83,13 +83,13 @@ asks_book _ = false
 
 -- what a duty of the end's side makes of that, and these stand next
 data TellsBy (d : Duty) (s : Side) (e f : PathEnd) (es : List Duty) : Type 0 where
-  keeps : f.receiving.next ≡ e.receiving.next → f.receiving.window ≡ e.receiving.window → told f ≤ max (told e) (offer e) → TellsBy d s e f es
+  keeps : f.receiving.next ≡ e.receiving.next → f.receiving.window ≡ e.receiving.window → TellsEdge e f → TellsBy d s e f es
   asks : asks_book d ≡ true → told f ≡ told e → TellsBy d s e f es
   dies_now : is_gone f ≡ true → TellsBy d s e f es
   breaks_now : IsToReset s es → TellsBy d s e f es
 
 same_tells : (d : Duty) (s : Side) (e f : PathEnd) (es : List Duty) → SameTold e f → TellsBy d s e f es
-same_tells d s e f es x = keeps x.next x.window (let same = x.told in omega (arith, same))
+same_tells d s e f es x = keeps x.next x.window (inl x.told)
 
 here : (d : Duty) (s : Side) (e f a b : PathEnd) (es : List Duty) → TellsBy d s e f es → TellsBy d s e (pick s (pick s f a) (pick s b f)) es
 here d s e f a b es x = subst (λ g. TellsBy d s e g es) (sym (own_end s f a b)) x
@@ -98,21 +98,37 @@ rests : (d : Duty) (s : Side) (e f a b : PathEnd) (es : List Duty) → f.receivi
     → TellsBy d s e (pick s (pick s f a) (pick s b f)) es
 rests d s e f a b es next window told = here d s e f a b es (same_tells d s e f es (calm e f next window told))
 
--- a segment tells no more than the end was told
-told_low : (x : PlainSegment) (e : PathEnd) → x.window ≡ e.receiving.window → edge_told x e ≤ max (told e) (offer e)
-told_low x e window = by x.rst x.syn
+-- a segment tells what the end was told; a reset tells nothing
+told_so : (x : PlainSegment) (e f : PathEnd) → x.window ≡ e.receiving.window → told f ≡ edge_told x e → TellsEdge e f
+told_so x e f window is = by x.rst is
   where
-    by : (rst syn : Bool) → (if rst then e.receiving.told_edge else e.receiving.next + window_told syn x.window) ≤ max (told e) (offer e)
-    by true syn = omega arith
-    by false true = omega (arith, window)
-    by false false = (let down : 32 * (x.window / 32) ≤ x.window = omega arith in omega (arith, window, down))
+    by : (rst : Bool) → told f ≡ (if rst then e.receiving.told_edge else e.receiving.next + window_told x.syn x.window) → TellsEdge e f
+    by true is = inl is
+    by false is = inr (x.syn, is ∙ ap (λ n. e.receiving.next + window_told x.syn n) window)
+
+-- so it is no more than that
+pub told_low : (e f : PathEnd) → TellsEdge e f → told f ≤ max (told e) (offer e)
+told_low e f (inl same) = omega (arith, same)
+told_low e f (inr (true, is)) = omega (arith, is)
+told_low e f (inr (false, is)) = (let down : 32 * (e.receiving.window / 32) ≤ e.receiving.window = omega arith in omega (arith, is, down))
+
+-- it stays as nothing more is told
+edge_on : (e f g : PathEnd) → SameTold f g → TellsEdge e f → TellsEdge e g
+edge_on e f g x (inl same) = inl (x.told ∙ same)
+edge_on e f g x (inr now) = inr (now.0, x.told ∙ now.1)
+
+next_on : (e f g : PathEnd) → SameTold f g → f.receiving.next ≡ e.receiving.next → g.receiving.next ≡ e.receiving.next
+next_on e f g x same = x.next ∙ same
+
+window_on : (e f g : PathEnd) → SameTold f g → f.receiving.window ≡ e.receiving.window → g.receiving.window ≡ e.receiving.window
+window_on e f g x same = x.window ∙ same
 
 sends : (d : Duty) (s : Side) (x : PlainSegment) (e f a b : PathEnd) (es : List Duty) → x.window ≡ e.receiving.window → f.receiving ≡ (with_edge_told x e).receiving
     → TellsBy d s e (pick s (pick s f a) (pick s b f)) es
 sends d s x e f a b es window is = here d s e f a b es (keeps
     (ap (λ (v : Receiving). v.next) is)
     (ap (λ (v : Receiving). v.window) is)
-    (subst (λ (v : Receiving). v.told_edge ≤ max (told e) (offer e)) (sym is) (told_low x e window)))
+    (told_so x e f window (ap (λ (v : Receiving). v.told_edge) is)))
 
 -- the answer tells nothing of what the end told
 ack_out_told : (r : Reply) (e : PathEnd) → told (after_ack_out r e) ≡ told e
@@ -313,13 +329,13 @@ module _ (d : Duty) (ds : List Duty) (r : Reply) (p : PathState Carried) where
   same_then : (t : Side) → SameTold (end_at t y) (end_at t z)
   same_then t = settled_lasts AllSame same_lasts y.agenda y t
 
-  kept_on : (t : Side) → (end_at t y).receiving.next ≡ (end_at t x).receiving.next → (end_at t y).receiving.window ≡ (end_at t x).receiving.window → told (end_at t y) ≤ max (told (end_at t x)) (offer (end_at t x)) → ToldOn t x z
-  kept_on t next window low =
-      let then_so = same_then t in let n = then_so.next in let v = then_so.window in let m = then_so.told in
-      told_on.keeps (omega (arith, next, window, n, v)) (omega (arith, low, m))
+  kept_on : (t : Side) → (end_at t y).receiving.next ≡ (end_at t x).receiving.next → (end_at t y).receiving.window ≡ (end_at t x).receiving.window → TellsEdge (end_at t x) (end_at t y) → ToldOn t x z
+  kept_on t next window tells =
+      let then_so = same_then t in
+      told_on.keeps (next_on (end_at t x) (end_at t y) (end_at t z) then_so next) (window_on (end_at t x) (end_at t y) (end_at t z) then_so window) (edge_on (end_at t x) (end_at t y) (end_at t z) then_so tells)
 
   same_on : (t : Side) → SameTold (end_at t x) (end_at t y) → ToldOn t x z
-  same_on t s = kept_on t s.next s.window (let same = s.told in omega (arith, same))
+  same_on t s = kept_on t s.next s.window (inl s.told)
 
   asked_on : (t : Side) (e : Duty) → d ≡ e → asks_book e ≡ true → side_of e ≡ t → told (end_at t y) ≡ told (end_at t x) → ToldOn t x z
   asked_on t (duties.Ask (ask_duties.Window s)) is book own same =
@@ -330,7 +346,7 @@ module _ (d : Duty) (ds : List Duty) (r : Reply) (p : PathState Carried) where
   asked_on t e is book own same = absurd (true≢false (sym book))
 
   own_on : (t : Side) → side_of d ≡ t → TellsBy d t (end_at t x) (end_at t y) y.agenda → ToldOn t x z
-  own_on t own (keeps next window low) = kept_on t next window low
+  own_on t own (keeps next window tells) = kept_on t next window tells
   own_on t own (asks book same) = asked_on t d refl book own same
   own_on t own (dies_now gone) = told_on.dies (gone_stays (end_at t y) (end_at t z) (settled_far values d ds r p t) gone)
   own_on t own (breaks_now is) = told_on.breaks (inr (settled_resets t y.agenda y is))
@@ -349,7 +365,7 @@ takes_told : (r : Reply) (p : PathState Carried) (t : Side) → ToldOn t p (take
 takes_told r p t = by p.agenda
   where
     by : (ds : List Duty) → let v : PathState Carried = with_agenda ds p in ToldOn t v (takes values r v)
-    by [] = told_on.keeps refl (omega arith)
+    by [] = told_on.keeps refl refl (inl refl)
     by (d ∷ ds) = first_told_on d ds r p t
 
 next_told : (p : PathState Carried) (t : Side) → ToldOn t p (next_round p)
@@ -361,8 +377,8 @@ next_told p t =
     by : (t : Side) → (end_at t (next_round p)).receiving.next ≡ (end_at t (record p { clock = p.until; until = p.until + 100 })).receiving.next
         → (end_at t (next_round p)).receiving.window ≡ (end_at t (record p { clock = p.until; until = p.until + 100 })).receiving.window
         → told (end_at t (next_round p)) ≡ told (end_at t (record p { clock = p.until; until = p.until + 100 })) → ToldOn t p (next_round p)
-    by A next window same = told_on.keeps (omega (arith, next, window)) (omega (arith, same))
-    by B next window same = told_on.keeps (omega (arith, next, window)) (omega (arith, same))
+    by A next window same = told_on.keeps next window (inl same)
+    by B next window same = told_on.keeps next window (inl same)
 
 -- ---- the window's growth
 
@@ -411,7 +427,7 @@ ToldTo _ _ = ⊥
 
 same_to : (m : Actor Carried) → ToldTo m m
 same_to (App a) = tt
-same_to (Path p) = λ t. (told_on.keeps refl (omega arith), λ others is connected. inl refl)
+same_to (Path p) = λ t. (told_on.keeps refl refl (inl refl), λ others is connected. inl refl)
 
 member_to : (r : Reply) (m : Actor Carried) → ToldTo m (member_takes values r m)
 member_to r (App a) = tt

@@ -108,7 +108,7 @@ RecordsArePassedWhole = (start : Start) (plan : PathPlan) (s : Side) → BeginsW
 abbrev pub NumbersAlwaysAgree : Type 0
 NumbersAlwaysAgree = (start : Start) (plan : PathPlan) (s : Side) → BeginsWithOnePath start plan → NumbersAgree start s
 
--- Where numbers agree, debts along a direction are mended.
+-- Over one path debts along a direction are mended.
 abbrev pub DirectionsAreMended : Type 0
-DirectionsAreMended = (start : Start) (plan : PathPlan) (most : ℕ) (s : Side) → BeginsWithOnePath start plan → NumbersAgree start s
+DirectionsAreMended = (start : Start) (plan : PathPlan) (most : ℕ) (s : Side) → BeginsWithOnePath start plan
     → DebtsAreMended start plan most (OwesAlong start s) (MendsAlong start s)

@@ -142,12 +142,14 @@ pub mod PositionCounts
 pub mod SentInOrder
 pub mod Pushed
 pub mod FullGrants
+pub mod Stalls
 pub mod SegmentRounds
 pub mod EndRounds
 pub mod UnitRounds
 pub mod RisesOwed
 pub mod ToldStays
 pub mod PatientPaths
+pub mod QuietOpenings
 pub mod ShortWaits
 pub mod Rising
 pub mod FirstSigns
@@ -169,3 +171,4 @@ pub mod AnswersSoon
 pub mod Opened
 pub mod SignPieces
 pub mod EarlyRecords
+pub mod ProbeWaits

@@ -8,7 +8,6 @@ use Rattle.world_laws.specs.Openings.{PathPlan, Start}
 use Rattle.world_laws.specs.Worlds.{Turn}
 use Rattle.whole_paths.specs.DebtKinds.{MendsBoth, OwesBoth}
 use Rattle.whole_paths.specs.Debts.{MendsSoon}
-use Rattle.whole_paths.specs.EarlyRecords.{early}
 use Rattle.whole_paths.specs.FilesFit.{FitsFirstWindow}
 use Rattle.whole_paths.specs.FinDebts.{all_is_acked}
 use Rattle.whole_paths.specs.FinsMended.{MendsFin, OwesFin}
@@ -16,14 +15,16 @@ use Rattle.whole_paths.specs.Finish.{patience}
 use Rattle.whole_paths.specs.News.{one_if}
 use Rattle.whole_paths.specs.OnePathScripts.{BriefPathsEndBy, Count, harms_alone}
 use Rattle.whole_paths.specs.PaidEnds.{FewLossesFinishBy, OnePathEndsBy}
+use Rattle.whole_paths.specs.QuietOpenings.{lost_early}
 
 -- both files do
 abbrev pub FitFirstWindows : Start → PathPlan → Type 0
 FitFirstWindows start plan = (s : Side) → FitsFirstWindow start s
 
--- What is paid for: each segment that is harmed, and each record of A's that its end has as B's end may send a DSS first.
+-- What is paid for: each segment that is harmed; and each record of A's that its end has as B's end may send a DSS first, where a copy with octets came
+-- to that before.
 abbrev pub harms_and_early : {C : Type 0} → Codec C → Count
-harms_and_early k start turns = early k start turns + harms_alone k start turns
+harms_and_early k start turns = lost_early start turns + harms_alone k start turns
 
 -- What counts as a harm: that, and for either side the moment from which on all bytes of its file are acknowledged.
 abbrev pub with_ends : Start → List Turn → ℕ

@@ -1,6 +1,6 @@
 -- What an open end has sent as the turn of its path is over: all that it has room for in its congestion window (RFC 5681, section 2) and in the
 -- window of its peer (RFC 9293, section 3.8.6).
-use Rattle.std.specs.Prelude.{ℕ, ◌+◌, ◌≡◌, ◌<◌, min, true, Some, List, [], ◌∷◌, length, slice_get}
+use Rattle.std.specs.Prelude.{ℕ, ◌+◌, ◌≡◌, ◌<◌, true, Some, List, [], ◌∷◌, length, slice_get}
 use Rattle.sides.specs.declared.side.Side.{Side}
 use Rattle.send_book.specs.State.{Sending}
 use Rattle.subflow_send.specs.Records.{Record}
@@ -38,11 +38,12 @@ module _ {C : Type 0} where
   abbrev pub WhatIsUnsentWaitsForRoom : Codec C → Type 0
   WhatIsUnsentWaitsForRoom k = Always k (λ start w. UnsentWaitsForRoom w)
 
--- There is no room for another full segment in the congestion window, counted from SND.UNA up to which all is sent; or all bytes of this stream are
--- sent that lie before the edge of the peer's window, both as they were.
+-- There is no room for another full segment in the congestion window, counted from SND.UNA up to which all is sent; or all that was written of this
+-- stream is sent; or the end knows that the peer's window is shut, and all bytes are sent that lie before its edge as it was.
 pub data IsPushed (c : Profile) (e : PathEnd) (was : Sending) : Type 0 where
   full : e.tcp.send.una + e.tcp.congestion.reno.window < sent_up_to e.tcp.send + payload_size c → IsPushed c e was
-  all : min (length was.written) was.edge < sent_up_to e.tcp.send → IsPushed c e was
+  all : length was.written < sent_up_to e.tcp.send → IsPushed c e was
+  shut : e.sending.shut ≡ true → was.edge < sent_up_to e.tcp.send → IsPushed c e was
 
 -- So it is at an open end that sent no FIN, by the stream as the round began, as the turn of the only path of a mild connection is over.
 abbrev pub WhatHasRoomIsSent : Type 0

@@ -1,11 +1,12 @@
 -- The edge of the window that an end told last, and what it could tell: what a turn makes of both (RFC 9293, section 3.8.6).
-use Rattle.std.specs.Prelude.{ℕ, ◌+◌, ◌≡◌, ◌≤◌, ◌⊎◌, max, true, false, List, ◌∷◌}
+use Rattle.std.specs.Prelude.{ℕ, ◌+◌, ◌≡◌, ◌⊎◌, Bool, true, false, List, ◌∷◌}
 use Rattle.sides.specs.declared.side.Side.{Side}
 use Rattle.subflow_tcp.specs.States.{is_dead}
 use Rattle.path_agenda.specs.declared.duty.Duty.{Duty}
 use Rattle.path_agenda.specs.declared.duty.Duty.TheVariants as duties
 use Rattle.path_agenda.specs.declared.duty.AskDuty.TheVariants as ask_duties
 use Rattle.path_agenda.specs.declared.duty.SendDuty.TheVariants as send_duties
+use Rattle.path_segments.specs.Laws.{window_told}
 use Rattle.path_core.specs.End.{PathEnd}
 use Rattle.path_core.specs.Standing.{has_grown, is_connected}
 use Rattle.path_core.specs.State.{PathState, end_at}
@@ -24,10 +25,14 @@ offer e = e.receiving.next + e.receiving.window
 abbrev pub told : PathEnd → ℕ
 told e = e.receiving.told_edge
 
--- What a turn makes of both: the offer stays, and what is told lies below it, or stays; or the end asks its book, as a turn begins (and tells its peer
+-- the edge that an end told stays, or is the one that it tells then, in a SYN or rounded to 32 bytes
+abbrev pub TellsEdge : PathEnd → PathEnd → Type 0
+TellsEdge e f = (told f ≡ told e) ⊎ ((syn : Bool) × (told f ≡ e.receiving.next + window_told syn e.receiving.window))
+
+-- What a turn makes of both: the offer stays, and what is told is part of it, or stays; or the end asks its book, as a turn begins (and tells its peer
 -- next if the window has grown enough), or behind a copy; or the end dies, or is reset.
 pub data ToldOn (t : Side) (p q : PathState Carried) : Type 0 where
-  keeps : offer (end_at t q) ≡ offer (end_at t p) → told (end_at t q) ≤ max (told (end_at t p)) (offer (end_at t p)) → ToldOn t p q
+  keeps : (end_at t q).receiving.next ≡ (end_at t p).receiving.next → (end_at t q).receiving.window ≡ (end_at t p).receiving.window → TellsEdge (end_at t p) (end_at t q) → ToldOn t p q
   begins : (others : List Duty) → p.agenda ≡ duties.Ask (ask_duties.Window t) ∷ others → told (end_at t q) ≡ told (end_at t p) → ToldOn t p q
   asks : (others : List Duty) → p.agenda ≡ duties.Ask (ask_duties.AckOut t) ∷ others → told (end_at t q) ≡ told (end_at t p) → ToldOn t p q
   dies : is_dead (end_at t q).tcp.state ≡ true → ToldOn t p q

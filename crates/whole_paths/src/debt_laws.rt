@@ -8,6 +8,7 @@ ghost use Rattle.whole_paths.specs.OpenFirst.{AOwesRecordsFirst, BOwesNoneFirst,
 ghost use Rattle.whole_paths.specs.OpenQuietly.{OpensQuietly};
 ghost use Rattle.whole_paths.specs.Directions.{DirectionsGoOn, WhatOwesNoneIsWell, WhoIsToldButStaysSo};
 ghost use Rattle.whole_paths.specs.FullGrants.{EachGrantIsFull};
+ghost use Rattle.whole_paths.specs.Stalls.{WhoStallsIsShut};
 ghost use Rattle.whole_paths.specs.FirstLost.{LostRecordsAreAwaited, LostRecordsAreMended};
 ghost use Rattle.whole_paths.specs.Mends.{WhatRunsOutIsMended};
 ghost use Rattle.whole_paths.specs.ClearRounds.{LostRecordsAreFirst, LostRecordsStay, WhatIsReachedIsFirst};
@@ -61,8 +62,8 @@ pub fn directions_go_on()
 /// A law: of such debts one is mended within 62,000 ticks, unless a segment is harmed, over one path of a mild connection (RFC 6298, section 5).
 ///
 /// An end hears what it wasn't told: its timer runs out within a minute, its first record goes again, and the peer answers. A record that may be
-/// lost becomes the first one, since all before it comes within 400 ticks, and is acknowledged; then it goes again, as the timer runs out. That the
-/// direction's numbers agree, as they do (`numbers_agree`), is a premise.
+/// lost becomes the first one, since all before it comes within 400 ticks, and is acknowledged; then it goes again, as the timer runs out: no news
+/// starts that anew, as the direction's numbers agree (`numbers_agree`).
 pub fn directions_are_mended()
     ensures { DirectionsAreMended }
 {}
@@ -190,4 +191,13 @@ pub fn what_runs_out_is_mended()
 /// all that is written of the side's stream, or the edge of the peer's window.
 pub fn each_grant_is_full()
     ensures { EachGrantIsFull }
+{}
+
+/// A law: a stream of a mild connection over one path stalls at a window that is shut, and at nothing else (RFC 9293, section 3.8.6).
+///
+/// As six rounds begin the end is told soon how far its peer is. After them more of the stream came; or something was sent that hasn't come yet; or all
+/// of the file lies before the edge of the peer's window, or all of the stream is with the peer; or nothing is left to be acknowledged, and the end
+/// knows that the window is shut, so that its timer runs (`who_waits_has_a_timer`).
+pub fn who_stalls_is_shut()
+    ensures { WhoStallsIsShut }
 {}

@@ -174,7 +174,8 @@ pub fn what_is_unsent_waits_for_room()
 /// A law: as the turn of the only path of a mild connection is over, an open end that sent no FIN has sent all for which there is room.
 ///
 /// There is no room for another full segment in its congestion window, counted from SND.UNA up to which all is sent (RFC 5681, section 2); or all
-/// is sent that was written as the round began and lies before the edge that the peer's window had then (RFC 9293, section 3.8.6).
+/// is sent that was written as the round began; or the end knows that the peer's window is shut, and all is sent that lies before the edge which that
+/// window had then (RFC 9293, section 3.8.6).
 pub fn what_has_room_is_sent()
     ensures { WhatHasRoomIsSent }
 {}

@@ -3,6 +3,7 @@ ghost use Rattle.whole_paths.specs.AnswersAssure.{EachAnswerAssures, WhatComesOp
 ghost use Rattle.whole_paths.specs.AsksOwed.{WhoAsksOwes};
 ghost use Rattle.whole_paths.specs.FilesFit.{FittingFilesAreNeverShut};
 ghost use Rattle.whole_paths.specs.OfferedTaken.{WhatIsToldIsTaken};
+ghost use Rattle.whole_paths.specs.ProbeWaits.{ProbesAreAwaitedAlways, ProbesGoAgain};
 ghost use Rattle.whole_paths.specs.ToldEdges.{WhatIsToldGoesOn};
 ghost use Rattle.path_core.specs.Octets.{octets};
 ghost use Rattle.path_core.specs.Values.{values};
@@ -30,8 +31,9 @@ pub fn fitting_files_are_never_shut()
 /// A law: what an end told its peer of its window is no more than its side's reassembly book told it, and it tells a window that has grown by half of
 /// its buffer, or by two segments, as a turn begins (RFC 9293, section 3.8.6).
 ///
-/// By each turn on path 0: how far the end was told that its book takes bytes stays, and the edge that it told last stays, or lies below that; or the
-/// end asks its book, as a turn begins, and then tells the window next unless it hasn't grown so; or it asks behind a copy; or it dies, or is reset.
+/// By each turn on path 0: how far the end was told that its book takes bytes stays, and the edge that it told last stays, or is what it tells then: all of
+/// that, rounded to 32 bytes or as a SYN tells it. Or the end asks its book, as a turn begins, and then tells the window next unless it hasn't grown so; or
+/// it asks behind a copy; or it dies, or is reset.
 pub fn what_is_told_goes_on()
     ensures { WhatIsToldGoesOn }
 {}
@@ -72,4 +74,14 @@ pub fn what_is_told_is_taken()
 pub fn each_turn_asks_its_window()
     ensures octets { EachTurnBegins octets }
     ensures values { EachTurnBegins values }
+{}
+
+/// A law: where an end has no record, and its peer's window is shut, the peer owes an answer within 61,200 ticks, unless a segment of the side is
+/// harmed, over one path of a mild connection (RFC 9293, section 3.8.6.1; RFC 6298, section 5).
+///
+/// Its timer runs, and as it runs out the probe goes, or the DATA_FIN, and comes within 400 ticks. Meanwhile the window may open, the end may send more,
+/// or all of the stream may be with the peer (`again`). Such a wait begins where a round is over, and goes on into the next (`awaited`).
+pub fn probes_go_again()
+    ensures again { ProbesGoAgain }
+    ensures awaited { ProbesAreAwaitedAlways }
 {}
