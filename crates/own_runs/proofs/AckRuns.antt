@@ -24,17 +24,18 @@ use Rattle.rule_book.specs.State.{BookValue, JudgedValue, stream_at}
 use Rattle.run_trace.specs.Trace.{trace_of}
 use Rattle.seen_octets.specs.declared.octet.Octet.{Octet}
 use Rattle.seen_streams.specs.State.{StreamValue}
+use Rattle.sides.specs.Side.{peer}
 use Rattle.sides.specs.declared.side.Side.{Side}
-use Rattle.stream_lanes.proofs.Lists.{in_append}
+use Rattle.stream_lanes.proofs.Lists.{in_append, in_more}
 use Rattle.stream_lanes.specs.Duo.{Duo}
 use Rattle.stream_lanes.specs.Words.{Has}
 use Rattle.world_laws.specs.NeverFalls.{IsWhole}
 use Rattle.world_laws.specs.Openings.{Start, opened_world}
 use Rattle.world_laws.specs.Promises.{IsPlain, NumbersFit}
-use Rattle.world_laws.specs.Outcomes.{outcome_of}
+use Rattle.world_laws.specs.Outcomes.{outcome_of, output_of}
 use Rattle.world_laws.specs.Worlds.{Turn, world_run}
 use Rattle.world_laws.specs.declared.outcome.Outcome.TheVariants.{Delivered}
-use Rattle.own_runs.specs.Runs.{DataFinsEndTheFiles, DeliveredRunsShowTheFiles, NoWholeRunBreaks, SeenOctetsAreTheFiles, ShowsTheFile, StreamsBeginTheFiles, WholeStreamsAreTheFiles, capture_of, file_of}
+use Rattle.own_runs.specs.Runs.{DataFinsEndTheFiles, DeliveredRunsShowTheFiles, HasRead, NoWholeRunBreaks, ReadersGetWhatIsShown, SeenOctetsAreTheFiles, ShowsTheFile, StreamsBeginTheFiles, WholeStreamsAreTheFiles, capture_of, file_of}
 use Rattle.own_runs.specs.Fitting.{RunFits}
 use Rattle.own_runs.specs.Traces.{FitsCapture, packet_for}
 use Rattle.own_runs.proofs.AckTrace.{IsKnown, StandsAt, narrowed, raised, stands_next}
@@ -50,7 +51,7 @@ use Rattle.own_runs.proofs.Moments.{IsSpoken}
 use Rattle.own_runs.proofs.OneConnection.{nothing_one}
 use Rattle.own_runs.proofs.OpenFlows.{which_some}
 use Rattle.own_runs.proofs.OwnTrace.{found, seen_of}
-use Rattle.own_runs.proofs.ShownAcks.{IsShown, delivered_ends}
+use Rattle.own_runs.proofs.ShownAcks.{IsShown, delivered_ends, delivered_read, read_begins}
 use Rattle.own_runs.proofs.TokenState.{nothing_holds}
 use Rattle.own_runs.proofs.Traces.{traces_are}
 use Rattle.own_runs.proofs.Values.{drawn}
@@ -172,12 +173,17 @@ all_of_it octets file begins same =
     nothing [] none = refl
     nothing (x ∷ xs) none = absurd (omega (arith, none))
 
--- by its last lanes each segment of a whole run comes in time, and once it is delivered all of both files was shown
+-- a place of a first part
+in_begin : (xs ys : List ℕ) → IsPrefix xs ys → (i : ℕ) → i < length xs → slice_get ys i ≡ slice_get xs i
+in_begin xs ys begins i below =
+    let is = slice_get-get_or xs i 0 below in
+    ap (λ (zs : List ℕ). slice_get zs i) begins.whole_is ∙ in_more xs begins.rest i (get_or xs i 0) is ∙ sym is
+
+-- by its last lanes each segment of a whole run comes in time, and what was read was shown
 abbrev pub WholeTimed : Type 0
 WholeTimed = (start : Start) (turns : List Turn) → IsPlain start → IsWhole start → (fit : NumbersFit start) → RunFits start turns
     → (last : Duo) × AllTimed start last fit (λ n t. 0) [] (λ n. ⊥) (λ n. ⊥) (λ n. ⊥) ⊥ (λ n t. ⊥) (trace_of turns (opened_world start))
-    × (outcome_of (world_run octets turns (opened_world start)).crew ≡ Delivered → (s : Side) (place : ℕ) → place < length (file_of start s)
-    → Has (IsShown start last s place) (trace_of turns (opened_world start)))
+    × ((s : Side) (place : ℕ) → place < length (output_of (peer s) (world_run octets turns (opened_world start))) → Has (IsShown start last s place) (trace_of turns (opened_world start)))
 
 module _ (whole_timed : WholeTimed) where
   module _ (start : Start) (turns : List Turn) (plain : IsPlain start) (whole : IsWhole start) (fit : NumbersFit start)
@@ -187,7 +193,7 @@ module _ (whole_timed : WholeTimed) where
     trace = trace_of turns (opened_world start)
 
     abbrev timed : (last : Duo) × AllTimed start last fit (λ n t. 0) [] (λ n. ⊥) (λ n. ⊥) (λ n. ⊥) ⊥ (λ n t. ⊥) trace
-        × (outcome_of (world_run octets turns (opened_world start)).crew ≡ Delivered → (s : Side) (place : ℕ) → place < length (file_of start s) → Has (IsShown start last s place) trace)
+        × ((s : Side) (place : ℕ) → place < length (output_of (peer s) (world_run octets turns (opened_world start))) → Has (IsShown start last s place) trace)
     timed = whole_timed start turns plain whole fit run
 
     room : All FitsCapture trace
@@ -247,6 +253,26 @@ module _ (whole_timed : WholeTimed) where
     judged_so judged read connection s stream there =
         ap (λ (j : JudgedValue). stream_in j connection s) (same_judged all_judged judged (sym all_read ∙ read)) ∙ there
 
+    -- what was read
+    module _ (s : Side) (place : ℕ) (below : place < length (output_of (peer s) (world_run octets turns (opened_world start)))) where
+      abbrev output : List ℕ
+      output = output_of (peer s) (world_run octets turns (opened_world start))
+
+      pub output_shown : HasRead start turns all_judged s place
+      output_shown = by (slice_get all_judged.books 0) refl (all_stood.stands.shown s place (timed.2 s place below))
+        where
+          by : (o : Option BookValue) → slice_get all_judged.books 0 ≡ o → is_some o ≡ true → HasRead start turns all_judged s place
+          by None e some = absurd (false≢true some)
+          by (Some book) e some =
+              let there : stream_in all_judged 0 s ≡ Some (stream_at s book) = ap (option_map (stream_at s)) e in
+              let seen = (all_stood.stands.hold.books 0 book e s).seen place (timed.2 s place below) in
+              record {
+                stream = stream_at s book;
+                there = there;
+                seen = seen;
+                octet = (seen_is 0 s (stream_at s book) there place seen).1 ∙ in_begin output (file_of start s) (read_begins start turns plain fit s) place below;
+              }
+
     -- once it is delivered
     module _ (delivered : outcome_of (world_run octets turns (opened_world start)).crew ≡ Delivered) (s : Side) where
       told : Has (TellsEnd start s) trace
@@ -267,7 +293,7 @@ module _ (whole_timed : WholeTimed) where
                 whole = record {
                   held = λ i below.
                       ap (λ (k : ℕ). option_map (λ (o : Octet). o.octet) ((stream_at s book).octet k)) (let same : 0 + i ≡ i = omega arith in same)
-                      ∙ (seen_is 0 s (stream_at s book) there i (good.seen i (timed.2 delivered s i below))).1 ∙ slice_get-get_or (file_of start s) i 0 below;
+                      ∙ (seen_is 0 s (stream_at s book) there i (good.seen i (timed.2 s i (was_read i below)))).1 ∙ slice_get-get_or (file_of start s) i 0 below;
                   ends = none ((stream_at s book).octet (length (file_of start s))) ((fine 0 s (stream_at s book) there).octets (length (file_of start s)));
                 };
                 fin = fin.0;
@@ -278,6 +304,9 @@ module _ (whole_timed : WholeTimed) where
               none : (o : Option Octet) → IfSome o (λ o. (length (file_of start s) < length (file_of start s)) × (o.octet ≡ content start s (length (file_of start s)))) → o ≡ None
               none None is = refl
               none (Some o) is = absurd (let below = is.0 in omega (arith, below))
+
+              was_read : (i : ℕ) → i < length (file_of start s) → i < length (output_of (peer s) (world_run octets turns (opened_world start)))
+              was_read i below = let same = ap length (delivered_read start turns plain fit delivered s) in omega (arith, below, same)
 
   pub no_whole_run_breaks : (r : Rule) → is_mapping r ≡ true → NoWholeRunBreaks r
   no_whole_run_breaks r is start turns plain whole fit run side at judged read connection s stream there =
@@ -300,6 +329,11 @@ module _ (whole_timed : WholeTimed) where
       let stands = judged_so start turns plain whole fit run side at judged read connection s stream there in
       all_of_it octets (file_of start s) (prefix start turns plain whole fit run side at connection s stream stands octets sent)
       (same ∙ end_is start turns plain whole fit run side at connection s stream stands fin is)
+
+  pub reads_are : ReadersGetWhatIsShown
+  reads_are start turns plain whole fit run side at judged read s place below =
+      subst (λ (j : JudgedValue). HasRead start turns j s place) (same_judged (all_judged start turns plain whole fit run side at) judged (sym (all_read start turns plain whole fit run side at) ∙ read))
+      (output_shown start turns plain whole fit run side at s place below)
 
   pub files_are : DeliveredRunsShowTheFiles
   files_are start turns plain whole fit run delivered side at =

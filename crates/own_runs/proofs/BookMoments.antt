@@ -9,18 +9,17 @@ use Rattle.sides.specs.declared.side.Side.TheVariants.{A}
 use Rattle.world_laws.proofs.Joins.TokensAgree.{opened_met, run_met}
 use Rattle.world_laws.proofs.Whole.Falls.{each_upright}
 use Rattle.world_laws.proofs.Weaving.WholeRounds.{run_append}
-use Rattle.world_laws.proofs.Worlds.CastLifting.{each_actor}
-use Rattle.world_laws.specs.Actors.{Actor, ActorCrew}
+use Rattle.world_laws.specs.Actors.{ActorCrew}
 use Rattle.world_laws.specs.NeverFalls.{IsWhole}
 use Rattle.world_laws.specs.Openings.{Start, opened_world}
 use Rattle.world_laws.specs.Promises.{IsPlain, NumbersFit}
 use Rattle.world_laws.specs.Worlds.{Turn, WorldState, world_run}
 use Rattle.world_laws.specs.declared.member.Member.TheVariants.{Path}
+use Rattle.own_runs.proofs.ActorNumbers.{actor_is}
 use Rattle.own_runs.proofs.KeyMoments.{Book, IsSecond, always_so, turn_book}
 use Rattle.own_runs.proofs.KeyRuns.{TurnSays}
 use Rattle.own_runs.proofs.KeysSent.{ShowsKeys}
 use Rattle.own_runs.proofs.Moments.{MemberSpeaks, PathSpeaks, valued}
-use Rattle.own_runs.proofs.WasSent.{Known, always_known}
 
 module _ (start : Start) (plain : IsPlain start) (whole : IsWhole start) (fit : NumbersFit start) where
   abbrev pub world : List Turn → WorldState Carried
@@ -28,16 +27,7 @@ module _ (start : Start) (plain : IsPlain start) (whole : IsWhole start) (fit : 
 
   -- a path is the actor of its number
   pub numbered : (turns : List Turn) (i : ℕ) (c : ActorCrew Carried) → slice_get (world turns).crew i ≡ Some c → (q : PathState Carried) → c.member ≡ Path q → i ≡ suc (suc (path_of q))
-  numbered turns i c there = each_actor (λ i c. (q : PathState Carried) → c.member ≡ Path q → i ≡ suc (suc (path_of q))) k.shows.cast (λ q is. cc) (λ q is. cc)
-      (λ n x at q is. let path = k.shows.paths.each n n x (omega arith) at in
-      ap (λ (m : ℕ). suc (suc m)) (sym path.numbered ∙ ap (λ (o : PathState Carried). path_of o) (path_same is)))
-      i c (ap (λ (w : WorldState Carried). slice_get w.crew i) (sym k.shows.is) ∙ there)
-    where
-      k : Known start plain fit turns
-      k = always_known start plain fit turns
-
-      path_same : {x y : PathState Carried} → (let one : Actor Carried = Path x in one) ≡ Path y → x ≡ y
-      path_same e = cc
+  numbered turns i c there = actor_is start plain.size turns i c there
 
   -- path 0 is the third actor
   pub second : (turns : List Turn) → IsSecond (world turns)

@@ -6,7 +6,7 @@ use Rattle.std.specs.Option.{IfSome}
 use Rattle.link_trace.specs.declared.sent.Sent.{Sent}
 use Rattle.path_core.specs.Looking.{first_sends, segment_sent}
 use Rattle.path_core.specs.Octets.{octets}
-use Rattle.path_core.specs.Values.{Carried, values}
+use Rattle.path_core.specs.Values.{values}
 use Rattle.path_core.specs.State.{PathState, path_of}
 use Rattle.path_segments.specs.Spelled.{PlainSegment}
 use Rattle.reassembly_book.specs.State.{Arriving}
@@ -16,7 +16,6 @@ use Rattle.sides.specs.declared.side.Side.TheVariants.{A, B}
 use Rattle.sides.specs.declared.side.Side.{Side}
 use Rattle.stream_lanes.proofs.Lists.{in_more}
 use Rattle.stream_lanes.proofs.Duos.{any_held}
-use Rattle.stream_lanes.proofs.Views.{is_end}
 use Rattle.stream_lanes.specs.Duo.{Duo, after_events}
 use Rattle.stream_lanes.specs.Holding.{Holds}
 use Rattle.stream_lanes.specs.Lane.{Cell, Lane}
@@ -29,6 +28,12 @@ use Rattle.world_laws.specs.Outcomes.{outcome_of}
 use Rattle.world_laws.specs.Promises.{IsPlain, NumbersFit, was_told_end}
 use Rattle.world_laws.specs.declared.outcome.Outcome.TheVariants.{Delivered}
 use Rattle.own_runs.specs.Runs.{file_of}
+use Rattle.octet_text.specs.Prefix.{IsPrefix}
+use Rattle.world_laws.specs.Outcomes.{output_of, read_by}
+use Rattle.world_laws.proofs.Promises.Made.{keep_their_word, keep_their_word_in_octets, run_fresh}
+use Rattle.world_laws.proofs.Promises.OverOctets.{same_notes_of}
+use Rattle.world_laws.proofs.Promises.Shown.{SameAsShown, same_as_shown}
+use Rattle.world_laws.proofs.Worlds.CastLifting.{writes_the_files}
 use Rattle.world_laws.specs.Worlds.{Turn, WorldState, world_run}
 use Rattle.world_laws.specs.declared.member.Member.TheVariants.{App, Path}
 use Rattle.own_runs.proofs.CameSent.{IsOnLane, came_of, d, has_map, links, passed_of, w, was_sent}
@@ -42,7 +47,7 @@ use Rattle.own_runs.proofs.Moments.{MemberAlso, PathAlso, WorldAlso}
 use Rattle.own_runs.proofs.Reached.{AllGo, reaches, steps}
 use Rattle.own_runs.proofs.SentGrows.{Grows, LanesGrow, events_grow}
 use Rattle.own_runs.proofs.Speaking.{ToSend}
-use Rattle.own_runs.proofs.ToldAcks.{AckedBefore, AtEnd, also_acked, closed_whole, known_at_end}
+use Rattle.own_runs.proofs.ToldAcks.{AckedBefore, AtEnd, also_acked, known_at_end}
 use Rattle.own_runs.proofs.ReadEnds.{BothKnow, always_know}
 use Rattle.own_runs.proofs.WasSent.{Known, always_known, next_known, opened_known}
 
@@ -157,9 +162,8 @@ whole_acks start turns plain whole fit =
         told_by more k A place is = end_told start plain whole fit more B (ap (λ (b : Arriving). is_some b.known_end) (came_of start plain fit more k A) ∙ ap is_some is)
         told_by more k B place is = end_told start plain whole fit more A (ap (λ (b : Arriving). is_some b.known_end) (came_of start plain fit more k B) ∙ ap is_some is)
 
--- ---- a delivered run
+-- ---- what was read
 
--- a reader that was told the end read all of the file
 module _ (start : Start) (plain : IsPlain start) (fit : NumbersFit start) (turns : List Turn) (k : Known start plain fit turns) where
   abbrev now : Duo
   now = d start plain fit turns k
@@ -167,33 +171,55 @@ module _ (start : Start) (plain : IsPlain start) (fit : NumbersFit start) (turns
   holds : Holds now
   holds = any_held (links start plain fit turns k).alters (links start plain fit turns k).checked (length start.paths) start.buffer start.buffer k.events
 
+  outputs : SameAsShown now (w start plain fit turns k)
+  outputs = same_as_shown (links start plain fit turns k) start now (w start plain fit turns k) k.shows
+
   told_end : (s : Side) → was_told_end (peer s) (w start plain fit turns k) ≡ true → (way s now).reader.told ≡ true
-  told_end A told = ap (λ (x : Duo). x.ab.reader.told) k.shows.duo_is ∙ k.shows.reads_b.told_is ∙ ap (λ (v : WorldState Carried). was_told_end B v) (sym k.shows.is) ∙ told
-  told_end B told = ap (λ (x : Duo). x.ba.reader.told) k.shows.duo_is ∙ k.shows.reads_a.told_is ∙ ap (λ (v : WorldState Carried). was_told_end A v) (sym k.shows.is) ∙ told
+  told_end A told = sym outputs.told_b ∙ told
+  told_end B told = sym outputs.told_a ∙ told
 
-  read_all : (s : Side) → was_told_end (peer s) (w start plain fit turns k) ≡ true → (place : ℕ) → place < length (file_of start s) → place < (way s now).arrived.read
-  read_all A told place below =
-      let end = is_end now.ab.send now.ab.arrived.read (holds.ab.reader.told (told_end A told)) in
-      let same = ap length (closed_whole start plain fit turns k A end.0) in
-      omega (arith, below, end.1, same)
-  read_all B told place below =
-      let end = is_end now.ba.send now.ba.arrived.read (holds.ba.reader.told (told_end B told)) in
-      let same = ap length (closed_whole start plain fit turns k B end.0) in
-      omega (arith, below, end.1, same)
+  read_count : (s : Side) → length (output_of (peer s) (w start plain fit turns k)) ≡ (way s now).arrived.read
+  read_count A = ap length outputs.out_b ∙ holds.ab.reader.size
+  read_count B = ap length outputs.out_a ∙ holds.ba.reader.size
 
--- each octet of its files was in a segment
-pub delivered_shown : (start : Start) (turns : List Turn) (plain : IsPlain start) (whole : IsWhole start) (fit : NumbersFit start)
-    → outcome_of (world_run octets turns (opened_world start)).crew ≡ Delivered → (s : Side) (place : ℕ) → place < length (file_of start s)
-    → Has (IsShown start (whole_acks start turns plain whole fit).0 s place) (trace_of turns (opened_world start))
-unfolding whole_acks
-delivered_shown start turns plain whole fit delivered s place below =
-    let all = known_reaches start plain fit turns in
-    let r = all.1 turns [] (append-nil turns) in
-    let told = ends_told start turns plain fit delivered (peer s) in
-    has_map (trace_of turns (opened_world start)) (shown_last start (d start plain fit turns r.0) all.0 r.1 s place)
-    (was_sent start plain fit turns r.0 s place ((passed_of start plain fit turns r.0 s).before place (read_all start plain fit turns r.0 s told place below)))
+-- a first part of a first part
+in_turn : {xs ys zs : List ℕ} → IsPrefix xs ys → IsPrefix ys zs → IsPrefix xs zs
+in_turn {xs} p q = record { rest = p.rest ++ q.rest; whole_is = q.whole_is ∙ ap (λ (begin : List ℕ). begin ++ q.rest) p.whole_is ∙ append_assoc xs p.rest q.rest }
 
--- and the end of each was told
+module _ (start : Start) (turns : List Turn) (plain : IsPlain start) (fit : NumbersFit start) where
+  abbrev run : WorldState (List ℕ)
+  run = world_run octets turns (opened_world start)
+
+  output_same : (r : Side) → output_of r run ≡ output_of r (world_run values turns (opened_world start))
+  output_same r =
+      ap (λ (v : WorldState (List ℕ)). output_of r v) (run_fresh start turns plain.size fit) ∙ ap read_by (same_notes_of r (world_run values turns (opened_world start)))
+
+  -- each octet of it was in a segment
+  pub read_shown : (whole : IsWhole start) (s : Side) (place : ℕ) → place < length (output_of (peer s) run)
+      → Has (IsShown start (whole_acks start turns plain whole fit).0 s place) (trace_of turns (opened_world start))
+  unfolding whole_acks
+  read_shown whole s place below =
+      let all = known_reaches start plain fit turns in
+      let r = all.1 turns [] (append-nil turns) in
+      let same = ap length (output_same (peer s)) in
+      let count = read_count start plain fit turns r.0 s in
+      has_map (trace_of turns (opened_world start)) (shown_last start (d start plain fit turns r.0) all.0 r.1 s place)
+      (was_sent start plain fit turns r.0 s place ((passed_of start plain fit turns r.0 s).before place (omega (arith, below, same, count))))
+
+  -- it is a first part of the other side's file
+  pub read_begins : (s : Side) → IsPrefix (output_of (peer s) run) (file_of start s)
+  read_begins A = in_turn (keep_their_word_in_octets start turns plain fit).ab.prefix (writes_the_files octets start turns).a.prefix
+  read_begins B = in_turn (keep_their_word_in_octets start turns plain fit).ba.prefix (writes_the_files octets start turns).b.prefix
+
+  -- and all of it once the run is delivered
+  pub delivered_read : outcome_of run.crew ≡ Delivered → (s : Side) → output_of (peer s) run ≡ file_of start s
+  delivered_read delivered s = output_same (peer s) ∙ by s (ends_told start turns plain fit delivered (peer s))
+    where
+      by : (s : Side) → was_told_end (peer s) (world_run values turns (opened_world start)) ≡ true → output_of (peer s) (world_run values turns (opened_world start)) ≡ file_of start s
+      by A told = let all = (keep_their_word start turns plain).ab.told told in all.1 ∙ (writes_the_files values start turns).a.whole all.0
+      by B told = let all = (keep_their_word start turns plain).ba.told told in all.1 ∙ (writes_the_files values start turns).b.whole all.0
+
+-- where the run is delivered the end of each was told
 pub delivered_ends : (start : Start) (turns : List Turn) → IsPlain start → IsWhole start → NumbersFit start → outcome_of (world_run octets turns (opened_world start)).crew ≡ Delivered
     → (s : Side) → Has (TellsEnd start s) (trace_of turns (opened_world start))
 delivered_ends start turns plain whole fit delivered s = by s (always_known start plain fit turns) (ends_told start turns plain fit delivered (peer s))

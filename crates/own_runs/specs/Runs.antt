@@ -1,6 +1,7 @@
 -- The capture of a run of ours, judged.
 use Rattle.std.specs.Prelude.{◌≡◌, ℕ, ◌<◌, true, false, Option, Some, option_map, List, length, Ok}
 use Rattle.std.specs.List.{slice_get}
+use Rattle.sides.specs.Side.{peer}
 use Rattle.sides.specs.declared.side.Side.{Side}
 use Rattle.actor_desk.specs.Words.{pick}
 use Rattle.octet_text.specs.Prefix.{IsPrefix}
@@ -17,7 +18,7 @@ use Rattle.capture_verdict.specs.Judging.{judged_capture}
 use Rattle.judge_laws.specs.GoesOn.{broke, stream_in}
 use Rattle.world_laws.specs.Openings.{Start, opened_world}
 use Rattle.world_laws.specs.NeverFalls.{IsWhole}
-use Rattle.world_laws.specs.Outcomes.{outcome_of}
+use Rattle.world_laws.specs.Outcomes.{outcome_of, output_of}
 use Rattle.world_laws.specs.Promises.{HasRoom, IsPlain, NumbersFit}
 use Rattle.world_laws.specs.Worlds.{Turn, world_run}
 use Rattle.world_laws.specs.declared.outcome.Outcome.TheVariants.{Delivered}
@@ -81,6 +82,20 @@ DeliveredRunsShowTheFiles =
     (start : Start) (turns : List Turn) → IsPlain start → IsWhole start → NumbersFit start → RunFits start turns
     → outcome_of (world_run octets turns (opened_world start)).crew ≡ Delivered → (side : Side) (at : Option Side)
     → (judged : JudgedValue) × (judged_capture at true (capture_of start turns side) ≡ Ok judged) × ((s : Side) → ShowsTheFile start s judged)
+
+-- After these turns the octet that the other side's application has read at this place stands there in a capture's first connection, and was seen.
+pub record HasRead (start : Start) (turns : List Turn) (judged : JudgedValue) (s : Side) (place : ℕ) : Type 0 where
+  pub stream : StreamValue
+  pub there : stream_in judged 0 s ≡ Some stream
+  pub seen : stream.seen place ≡ true
+  pub octet : option_map (λ held. held.octet) (stream.octet place) ≡ slice_get (output_of (peer s) (world_run octets turns (opened_world start))) place
+
+-- An application has read nothing that the capture doesn't show, at no moment of such a run.
+abbrev pub ReadersGetWhatIsShown : Type 0
+ReadersGetWhatIsShown =
+    (start : Start) (turns : List Turn) → IsPlain start → IsWhole start → NumbersFit start → RunFits start turns
+    → (side : Side) (at : Option Side) (judged : JudgedValue) → judged_capture at true (capture_of start turns side) ≡ Ok judged
+    → (s : Side) (place : ℕ) → place < length (output_of (peer s) (world_run octets turns (opened_world start))) → HasRead start turns judged s place
 
 -- Where all octets before the DATA_FIN are there, it is the file.
 abbrev pub WholeStreamsAreTheFiles : Type 0

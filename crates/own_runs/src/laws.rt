@@ -5,10 +5,10 @@ ghost use Rattle.own_runs.specs.Fitting.{TracesFit};
 ghost use Rattle.own_runs.specs.Handshakes.{EachComesInOrder};
 ghost use Rattle.own_runs.specs.KeysShown.{EachComesBehindKeys, EachShowsKeysSo};
 ghost use Rattle.own_runs.specs.Packets.{CapturesAreTheirPackets};
-ghost use Rattle.own_runs.specs.Runs.{DataFinsEndTheFiles, DeliveredRunsShowTheFiles, NoPlainRunBreaks, NoRunBreaks, NoWholeRunBreaks, SeenOctetsAreTheFiles, StreamsBeginTheFiles, WholeStreamsAreTheFiles};
+ghost use Rattle.own_runs.specs.Runs.{DataFinsEndTheFiles, DeliveredRunsShowTheFiles, NoPlainRunBreaks, NoRunBreaks, NoWholeRunBreaks, ReadersGetWhatIsShown, SeenOctetsAreTheFiles, StreamsBeginTheFiles, WholeStreamsAreTheFiles};
 ghost use Rattle.own_runs.specs.Segments.{SegmentsAreFound, WrittenSegmentsAreFound};
 ghost use Rattle.own_runs.specs.Traces.{TracesAreTheirPackets, TracesAreTheirSegments};
-ghost use Rattle.own_runs.specs.WholeKept.{DeliveredRunsAreKept, WholeRunsEndWell};
+ghost use Rattle.own_runs.specs.WholeKept.{DeliveredRunsAreKept, WholeReportsAreKept, WholeRunsEndWell};
 ghost use Rattle.own_runs.specs.WholeSegments.{DeliveredRunsTellTheEnds, EachSaysWhatItBears};
 
 /// A law: what is written of a section's blocks is read as a capture of their packets, in order, each a raw IPv4 packet with all its octets.
@@ -87,23 +87,27 @@ pub fn paths_open_in_order()
 
 /// A law: the judge ends well with the capture of such a run, at whichever side it was taken, and wherever the judge takes that to be. The
 /// capture is read. At most one connection is seen, and where it is, no side broke any rule, and each join's connection was found (`ends`). Once
-/// the run is delivered it is seen (`delivered`). The premises are those of `whole_runs_break_no_rule`.
+/// the run is delivered it is seen (`delivered`). So each side's line says that it was kept, and no line is of a join (`lines`). The premises are
+/// those of `whole_runs_break_no_rule`.
 pub fn whole_runs_end_well()
     ensures ends { WholeRunsEndWell }
     ensures delivered { DeliveredRunsAreKept }
+    ensures lines { WholeReportsAreKept }
 {}
 
 /// A law: what the judge finds of a side's stream in the capture of such a run, over all subflows, up to the first octet that isn't there, is a
 /// first part of the side's file (`begins`). Each octet of it that was seen is there, behind a gap, too, and is the file's (`seen`). Its DATA_FIN
 /// stands behind the file's last octet (`ends`, RFC 8684, section 3.3.3), so where all octets before it are there it is the file (`whole`). Else
 /// as in `whole_runs_break_no_rule`. Once such a run is delivered its capture is read, and shows both files whole, each with its DATA_FIN
-/// (`delivered`).
+/// (`delivered`). Whether it is or not, an application has read nothing that the capture doesn't show: each octet that it has read was seen, in
+/// the other side's stream, at its place (`read`).
 pub fn captures_show_the_files()
     ensures begins { StreamsBeginTheFiles }
     ensures seen { SeenOctetsAreTheFiles }
     ensures ends { DataFinsEndTheFiles }
     ensures whole { WholeStreamsAreTheFiles }
     ensures delivered { DeliveredRunsShowTheFiles }
+    ensures read { ReadersGetWhatIsShown }
 {}
 
 /// A law: each octet that came to a side, whether its reader has it or the book of the side holds it, was in a segment that the other side

@@ -290,3 +290,5 @@ pub mod Opened
 pub mod SignPieces
 pub mod EarlyRecords
 pub mod ProbeWaits
+pub mod EachLane
+pub mod WindowStalls

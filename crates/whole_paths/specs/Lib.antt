@@ -173,3 +173,4 @@ pub mod Opened
 pub mod SignPieces
 pub mod EarlyRecords
 pub mod ProbeWaits
+pub mod WindowStalls
