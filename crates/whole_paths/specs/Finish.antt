@@ -74,9 +74,9 @@ pub record IsBrief (script : Script) (turns : List Turn) : Type 0 where
 abbrev pub Patience : Type 0
 Patience = Script → PathLine → List ℕ → List ℕ → ℕ → ℕ
 
--- 10,800 rounds, 23 for each full segment of either file, and 3,150 for each segment that is harmed. A harm may cost a wait for a timer of 60,000 ticks
--- as the path opens, and four afterwards, with what is sent behind them. Of the 10,800 rounds 3,055 are for the opening, and 7,590 for three such harms,
--- though no segment is harmed: the end of a stream may be overtaken by its last bytes, and what is told as the path opens may not be heard.
+-- 10,800 rounds, 23 for each full segment of either file, and 3,150 for each segment that is harmed. A harm may cost a wait for a timer of 60,000
+-- ticks as the path opens, and four afterwards, with what is sent behind them. Of the 10,800 rounds 3,055 are for the opening, and 7,590 for three
+-- such harms, though no segment is harmed: the end of a stream may be overtaken by its last bytes, and what is told as the path opens may not be heard.
 abbrev pub patience : Patience
 patience script path file_a file_b harmed =
     10800 + 23 * (segments path.mss (length file_a) + segments path.mss (length file_b)) + 3150 * harmed

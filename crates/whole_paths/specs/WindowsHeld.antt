@@ -1,5 +1,5 @@
--- What is left of windows as a kind of debt, where its waits are those of a stall: what holds of a side's window goes on, meets each stall's end, and
--- opens the window.
+-- What is left of windows as a kind of debt, where its waits are those of a stall: what holds of a side's window goes on, meets each stall's end,
+-- and opens the window.
 use Rattle.std.specs.Prelude.{ℕ, ◌+◌, ◌-◌, ◌<◌, ◌≤◌, ◌⊎◌, min, true, List, [], ◌∷◌, ◌++◌, length}
 use Rattle.sides.specs.declared.side.Side.{Side}
 use Rattle.actor_desk.specs.Words.{pick}
@@ -22,8 +22,8 @@ abbrev pub StallsOf : Start → Side → ℕ → List Turn → Type 0
 StallsOf start s = Stalls start s (OwesDirections start 0)
 
 module _ (Also : Start → PathPlan → Type 0) (Holds : Start → Side → List Turn → Type 0) where
-  -- It goes on by each turn, unless more is counted; each stall ends in it; and six rounds later the side may send a full segment's payload past what
-  -- was read, or all of its file.
+  -- It goes on by each turn, unless more is counted; each stall ends in it; and six rounds later the side may send a full segment's payload past
+  -- what was read, or all of its file.
   pub record WindowsHold : Type 0 where
     pub stays : (start : Start) (plan : PathPlan) (s : Side) (count : List Turn → ℕ) → BeginsWithOnePath start plan → Also start plan
         → CountsAsMuch start (with_events start ((λ turns. true) ∷ [])) count → (turns : List Turn) (turn : Turn) → IsBegunTurn start turns turn
