@@ -25,7 +25,7 @@ use Rattle.whole_paths.proofs.Courses.{round_next, round_step}
 use Rattle.whole_paths.proofs.Debts.{sharp_by_debts}
 use Rattle.whole_paths.proofs.SegmentsRead.{units_up}
 use Rattle.whole_paths.proofs.Unmended.{none_owed}
-use Rattle.whole_paths.proofs.UnitRounds.{all_units_are_there, goes_on, parted, unit_so}
+use Rattle.whole_paths.proofs.UnitRounds.{all_units_are_there, goes_on, unit_so}
 
 module _ (start : Start) (plan : PathPlan) (most : ℕ) (paid count : List Turn → ℕ) (Owes : ℕ → List Turn → Type 0) (Mends : ℕ → ℕ → List Turn → Type 0) (x : BeginsWithOnePath start plan)
     (counts : Counts start paid count) (debts : DebtsAreMendedBy start plan most count Owes Mends long_wait) (makes : MakesUnits start plan Owes) where

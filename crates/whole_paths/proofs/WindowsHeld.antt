@@ -1,5 +1,5 @@
 -- Where what holds of a window goes on, and each stall ends in it, windows are mended.
-use Rattle.std.proofs.Common.{subst, inr, ℕ, ◌+◌, ◌≤◌, arith, true, List, [], ◌∷◌}
+use Rattle.std.proofs.Common.{subst, inr, arith, true, List, [], ◌∷◌}
 use Rattle.sides.specs.declared.side.Side.{Side}
 use Rattle.sides.specs.declared.side.Side.TheVariants.{A, B}
 use Rattle.path_core.specs.Values.{values}
