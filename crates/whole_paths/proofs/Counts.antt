@@ -1,5 +1,5 @@
 -- A count that counts harms never falls; and events that last count as harms do.
-use Rattle.std.proofs.Common.{◌≡◌, refl, sym, subst, ap, ⊎_elim, inl, inr, ℕ, ◌+◌, ◌≤◌, arith, Bool, true, false, List, [], ◌∷◌, ◌++◌, length}
+use Rattle.std.proofs.Common.{◌≡◌, refl, sym, subst, ap, ⊎_elim, inl, inr, ℕ, ◌+◌, ◌≤◌, arith, Bool, true, false, List, [], ◌∷◌, ◌++◌}
 use Rattle.path_core.specs.Values.{values}
 use Rattle.world_laws.specs.Openings.{PathPlan, Start, opened_world}
 use Rattle.world_laws.specs.Worlds.{Turn}
