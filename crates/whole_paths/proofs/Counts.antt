@@ -1,9 +1,9 @@
 -- A count that counts harms never falls; and events that last count as harms do.
-use Rattle.std.proofs.Common.{◌≡◌, refl, sym, subst, ap, ⊎_elim, inl, inr, ℕ, ◌+◌, ◌≤◌, arith, Bool, true, false, List, [], ◌∷◌, ◌++◌, length}
+use Rattle.std.proofs.Common.{◌≡◌, refl, sym, subst, ap, ⊎_elim, inl, inr, ℕ, ◌+◌, ◌≤◌, arith, Bool, true, false, List, [], ◌∷◌, ◌++◌}
 use Rattle.path_core.specs.Values.{values}
 use Rattle.world_laws.specs.Openings.{PathPlan, Start, opened_world}
 use Rattle.world_laws.specs.Worlds.{Turn}
-use Rattle.whole_paths.specs.Counts.{Counts, CountsAsMuch, Lasts, spare, with_events}
+use Rattle.whole_paths.specs.Counts.{Counts, CountsAsMuch, Lasts, spare}
 use Rattle.whole_paths.specs.Courses.{harmed_so_far, round_end}
 use Rattle.whole_paths.specs.Debts.{Beginning, DebtsAreFewByMore, DebtsAreMendedBy, DebtsAreMendedByMore, MendsOnBy, MendsSoon, OwesOnBy, Stepping}
 use Rattle.whole_paths.specs.Debts.MendsOnBy.{quiet, fewer, harmed}
@@ -56,33 +56,6 @@ module _ (start : Start) where
       by : (b : Bool) → event turns ≡ b → one_if b ≤ one_if (event (turns ++ turn ∷ []))
       by true came = (let still = ap one_if (lasts turns turn h came) in omega (arith, still))
       by false none = omega arith
-
-  -- with one event more
-  pub one_more_counts : (event : List Turn → Bool) (count : List Turn → ℕ) → Lasts start event → CountsAsMuch start count (λ turns. one_if (event turns) + count turns)
-  one_more_counts event count lasts = record {
-    covers = λ turns. omega arith;
-    rises = λ turns turn h. (let up = event_up event lasts turns turn h in omega (arith, up));
-  }
-
-  -- with what else never falls
-  pub with_more_counts : (extra count : List Turn → ℕ) → ((turns : List Turn) (turn : Turn) → IsBegunTurn start turns turn → extra turns ≤ extra (turns ++ turn ∷ []))
-      → CountsAsMuch start count (λ turns. extra turns + count turns)
-  with_more_counts extra count up = record {
-    covers = λ turns. omega arith;
-    rises = λ turns turn h. (let more = up turns turn h in omega (arith, more));
-  }
-
-  -- and both counts with it
-  pub both_count : (extra count more : List Turn → ℕ) → ((turns : List Turn) (turn : Turn) → IsBegunTurn start turns turn → extra turns ≤ extra (turns ++ turn ∷ []))
-      → CountsAsMuch start count more → CountsAsMuch start (λ turns. extra turns + count turns) (λ turns. extra turns + more turns)
-  both_count extra count more up much = record {
-    covers = λ turns. (let low = much.covers turns in omega (arith, low));
-    rises = λ turns turn h. (let low = much.rises turns turn h in omega (arith, low));
-  }
-
-  few_events : (events : List (List Turn → Bool)) (turns : List Turn) → with_events start events turns ≤ harmed_so_far values start turns + length events
-  few_events [] turns = omega arith
-  few_events (event ∷ events) turns = let rest = few_events events turns in let one = one_at_most (event turns) in omega (arith, rest, one)
 
 -- ---- a turn between open moments
 

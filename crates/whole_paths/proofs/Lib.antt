@@ -239,6 +239,7 @@ pub mod EndRounds
 pub mod UnitRounds
 pub mod PatientPaths
 pub mod WindowKinds
+pub mod WindowsHeld
 pub mod QuietOpenings
 pub mod ShortWaits
 pub mod UnderWay

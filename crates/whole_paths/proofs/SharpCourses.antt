@@ -1,4 +1,4 @@
--- Where a full segment that is read pays for 26 rounds, and a harm for 3,250, whole paths deliver both files with `patience`.
+-- Where a full segment that is read pays for 23 rounds, and a harm for 2,530, whole paths deliver both files with `patience`.
 use Rattle.std.proofs.Common.{◌≡◌, refl, sym, subst, ap, ◌∙◌, ◌⊎◌, inl, inr, ℕ, ◌+◌, ◌*◌, ◌<◌, ◌≤◌, arith, List, [], ◌∷◌, ◌++◌, length}
 use Rattle.std.proofs.Math.Nat.{div-le_of_le-mul}
 use Rattle.std.proofs.lemmas.List.{append-nil, append_assoc}
@@ -107,7 +107,7 @@ patient : (script : Script) (path : PathLine) (file_a file_b : List ℕ) (harms 
 patient script path file_a file_b harms mild =
     let start = start_of script file_a file_b in
     let is : sharp_allowance start harms ≡ price (most_units start (plan_of script 0 path)) (harms + spare) = ap (λ lines. price_by start (plans_from script 0 lines) harms) mild.one in
-    let low = div-le_of_le-mul 100 {m = sharp_allowance start harms} {n = 26 * most_units start (plan_of script 0 path) + 3250 * (harms + spare)} (omega (arith, is)) in omega (arith, low)
+    let low = div-le_of_le-mul 100 {m = sharp_allowance start harms} {n = 23 * most_units start (plan_of script 0 path) + 2530 * (harms + spare)} (omega (arith, is)) in omega (arith, low)
 
 pub sharp_ends_by_scripts : SharpEndsByScripts
 sharp_ends_by_scripts Also paid in_octets same ends = (

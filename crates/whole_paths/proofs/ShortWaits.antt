@@ -25,7 +25,7 @@ use Rattle.whole_paths.proofs.Courses.{round_next, round_step}
 use Rattle.whole_paths.proofs.Debts.{sharp_by_debts}
 use Rattle.whole_paths.proofs.SegmentsRead.{units_up}
 use Rattle.whole_paths.proofs.Unmended.{none_owed}
-use Rattle.whole_paths.proofs.UnitRounds.{all_units_are_there, goes_on, parted, unit_so}
+use Rattle.whole_paths.proofs.UnitRounds.{all_units_are_there, goes_on, unit_so}
 
 module _ (start : Start) (plan : PathPlan) (most : ℕ) (paid count : List Turn → ℕ) (Owes : ℕ → List Turn → Type 0) (Mends : ℕ → ℕ → List Turn → Type 0) (x : BeginsWithOnePath start plan)
     (counts : Counts start paid count) (debts : DebtsAreMendedBy start plan most count Owes Mends long_wait) (makes : MakesUnits start plan Owes) where
@@ -137,7 +137,7 @@ module _ (start : Start) (plan : PathPlan) (most : ℕ) (paid count : List Turn 
       goes_still : ((x : ℕ) → by_then ≤ x → Timed h.read x u) → GoesSo n by_then u
       goes_still timed = stays v u turn n by_then h owing timed
 
-      -- without debts the wait for 23 rounds begins, goes on, or ends
+      -- without debts the wait for twenty rounds begins, goes on, or ends
       without : Owes 0 v → Timed h.read by_then v → GoesSo n by_then u
       without nothing (times.later soon) = ⊎_elim
           (λ less. goes_still (λ x later. times.since 0 v (subst (λ t. WaitsSince start (Owes 0) 0 v t) (sym step.is) (waits.begins v step.over nothing step.before.is_open open_after)) (omega arith) (omega (arith, soon, later)) h.so_far less))
@@ -146,7 +146,7 @@ module _ (start : Start) (plan : PathPlan) (most : ℕ) (paid count : List Turn 
       without nothing (times.since rounds w since few soon low more) = ⊎_elim
           (λ less. goes_still (λ x later. times.since (suc rounds) w next (omega (arith, less)) (omega (arith, soon, later)) low more))
           (λ all. paid_by_unit (made all))
-          (cases_lt rounds 22)
+          (cases_lt rounds 19)
         where
           next : WaitsSince start (Owes 0) (suc rounds) w u
           next = subst (λ t. WaitsSince start (Owes 0) (suc rounds) w t) (sym step.is) (waits.next rounds w v since step.over nothing open_after)
@@ -154,9 +154,9 @@ module _ (start : Start) (plan : PathPlan) (most : ℕ) (paid count : List Turn 
           last_up : read next.last ≤ read u
           last_up = subst (λ t. read next.last ≤ read t) (sym next.is) (units_up start plan next.last (Turn.Round ∷ steps_of next.order))
 
-          made : 22 ≤ rounds → h.read < read u
+          made : 19 ≤ rounds → h.read < read u
           made all =
-              let as_many : suc rounds ≡ 23 = omega (arith, all, few) in
+              let as_many : suc rounds ≡ 20 = omega (arith, all, few) in
               ⊎_elim (λ full. absurd (omega (arith, full, more))) (λ up. omega (arith, up, last_up, low)) (makes w next.last (subst (λ k. WellRounds start (Owes 0) k w next.last) as_many next.rounds))
 
       -- with debts the wait is a long one, or they are paid
@@ -199,7 +199,7 @@ module _ (start : Start) (plan : PathPlan) (most : ℕ) (paid count : List Turn 
     begun : (n : ℕ) → Owes 0 u → IsPaidSo n u → AllIsThere (reached values start u) ⊎ AWaitBegins (the_course start plan paid most (AreMended start plan most count Owes) (AwaitsEither start plan most count Owes Mends Short)) (top start plan paid most) n v u
     begun n owes pays = ⊎_elim
         (λ less. (let few = pays.mended.few in let enough = pays.enough in let low = turn.low in inr (record {
-          within = 2500;
+          within = 2200;
           payable = omega (arith, few, enough, low, less);
           waits = short (record {
             harms = pays.harms;
@@ -227,27 +227,9 @@ module _ (start : Start) (plan : PathPlan) (most : ℕ) (paid count : List Turn 
 pub units_are_awaited : UnitsAreAwaited
 units_are_awaited start plan most paid count Owes Mends x counts debts makes = short_waits start plan most paid count Owes Mends x counts debts makes
 
--- of 23 rounds some first ones are enough
-module _ (start : Start) (plan : PathPlan) (Well : List Turn → Type 0) where
-  units_rise : (n : ℕ) (v u : List Turn) → WellRounds start Well n v u → units start plan (reached values start v) ≤ units start plan (reached values start u)
-  units_rise zero v u r = subst (λ t. units start plan (reached values start v) ≤ units start plan (reached values start t)) r.0 (le_refl (units start plan (reached values start v)))
-  units_rise (suc n) v u r =
-      let first = units_rise n v r.0 r.1.0 in
-      let round = r.1.1.0 in
-      let more = subst (λ t. units start plan (reached values start r.0) ≤ units start plan (reached values start t)) (sym round.is) (units_up start plan r.0 (Turn.Round ∷ steps_of round.order)) in omega (arith, first, more)
-
-  in_fewer : (n m : ℕ) → 23 ≡ m + n → ((v u : List Turn) → WellRounds start Well n v u
-      → (most_units start plan ≤ units start plan (reached values start v)) ⊎ (units start plan (reached values start v) < units start plan (reached values start u)))
-      → (v u : List Turn) → WellRounds start Well 23 v u
-      → (most_units start plan ≤ units start plan (reached values start v)) ⊎ (units start plan (reached values start v) < units start plan (reached values start u))
-  in_fewer n m is made v u r =
-      let parts = parted start Well n m 23 v u is r in
-      let more = units_rise m parts.between_them u parts.rest in
-      ⊎_elim (λ all. inl all) (λ up. inr (omega (arith, up, more))) (made v parts.between_them parts.first)
-
 pub exchanges_go_on_so : ExchangesGoOnSo
 exchanges_go_on_so start plan most paid count Owes Mends x counts debts well hears = sharp_by_debts start plan most paid count Owes Mends (WaitsForAUnit start plan count Owes) x.mild counts debts
-    (short_waits start plan most paid count Owes Mends x counts debts (in_fewer start plan (Owes 0) 20 3 refl (λ v u rounds. unit_so start plan x (Owes 0) well hears v u rounds)))
+    (short_waits start plan most paid count Owes Mends x counts debts (λ v u rounds. unit_so start plan x (Owes 0) well hears v u rounds))
 
 -- ---- where nothing is owed
 

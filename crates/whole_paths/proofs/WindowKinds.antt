@@ -95,17 +95,17 @@ module _ (Also : Start → PathPlan → Type 0) (Holds : Start → Side → List
 
   -- ---- windows
 
-  after_them : (s : Side) → OneIsMendedAfter start plan most count (OwesDirections start) (Holds start s) (Waits start s) 90000
+  after_them : (s : Side) → OneIsMendedAfter start plan most count (OwesDirections start) (Holds start s) (Waits start s) 64000
   after_them s = mends.mended start plan most s count one also opened
 
   window : (s : Side) → DebtsAreMendedBy start plan most count (OwesWindow Also Holds Waits start s) (MendsWindow Also Holds Waits start s) long_wait
-  window s = debts_are_mended_by_more start plan most (one_timeout + 100 + 90000) long_wait count count (OwesWindow Also Holds Waits start s)
-      (MendsAfter start (OwesDirections start) (MendsDirections start) (Waits start s) 90000) one.mild (counts_itself start count) (omega arith)
-      (one_debt_is_mended_after start plan most one_timeout 90000 count (OwesDirections start) (MendsDirections start) (Holds start s) (Waits start s) one counts.harms directions (after_them s))
+  window s = debts_are_mended_by_more start plan most (one_timeout + 100 + 64000) long_wait count count (OwesWindow Also Holds Waits start s)
+      (MendsAfter start (OwesDirections start) (MendsDirections start) (Waits start s) 64000) one.mild (counts_itself start count) (omega arith)
+      (one_debt_is_mended_after start plan most one_timeout 64000 count (OwesDirections start) (MendsDirections start) (Holds start s) (Waits start s) one counts.harms directions (after_them s))
 
   few_window : (s : Side) → FewAreOwedBy start plan most count (OwesWindow Also Holds Waits start s)
   few_window s = kinds_are_few_together start plan most count (OwesDirections start) (OwesOneOf (Holds start s)) few_directions
-      (one_debt_is_few start plan most 90000 count (OwesDirections start) (Holds start s) (Waits start s) one counts.harms (after_them s))
+      (one_debt_is_few start plan most 64000 count (OwesDirections start) (Holds start s) (Waits start s) one counts.harms (after_them s))
 
   -- ---- DATA_FINs
 

@@ -25,17 +25,17 @@ module _ (start : Start) (plan : PathPlan) (most : ℕ) (Owes : ℕ → List Tur
 abbrev pub one_timeout : ℕ
 one_timeout = 62000
 
--- and of any kind: of two timers, one after the other, and four hundred rounds
+-- and of any kind: of two timers, one after the other, and 62 rounds
 abbrev pub long_wait : ℕ
-long_wait = 160000
+long_wait = 126200
 
 -- by such an event the wait for the next one is put off, from the end of its round on
 abbrev pub put_off_by : ℕ
-put_off_by = 160200
+put_off_by = 126400
 
 -- half of what a harm pays, for each debt
 abbrev pub half_price : ℕ
-half_price = 162500
+half_price = 126500
 
 -- `count turns`: how many harms were counted
 module _ (start : Start) (plan : PathPlan) (most : ℕ) (count : List Turn → ℕ) (Owes : ℕ → List Turn → Type 0) where

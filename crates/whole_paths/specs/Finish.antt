@@ -74,12 +74,12 @@ pub record IsBrief (script : Script) (turns : List Turn) : Type 0 where
 abbrev pub Patience : Type 0
 Patience = Script → PathLine → List ℕ → List ℕ → ℕ → ℕ
 
--- 13,000 rounds, 26 for each full segment of either file, and 3,900 for each segment that is harmed. A harm may cost a wait for a timer of 60,000 ticks
--- as the path opens, and four afterwards, with what is sent behind them. Of the 13,000 rounds 3,100 are for the opening, and 9,750 for three such harms,
--- though no segment is harmed: what is sent as the path opens may be dropped, and the end of a stream may be overtaken by its last bytes.
+-- 10,800 rounds, 23 for each full segment of either file, and 3,150 for each segment that is harmed. A harm may cost a wait for a timer of 60,000
+-- ticks as the path opens, and four afterwards, with what is sent behind them. Of the 10,800 rounds 3,055 are for the opening, and 7,590 for three
+-- such harms, though no segment is harmed: the end of a stream may be overtaken by its last bytes, and what is told as the path opens may not be heard.
 abbrev pub patience : Patience
 patience script path file_a file_b harmed =
-    13000 + 26 * (segments path.mss (length file_a) + segments path.mss (length file_b)) + 3900 * harmed
+    10800 + 23 * (segments path.mss (length file_a) + segments path.mss (length file_b)) + 3150 * harmed
 
 -- how many rounds end by these turns
 abbrev pub rounds_in : List Turn → ℕ

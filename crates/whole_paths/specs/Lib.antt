@@ -150,6 +150,7 @@ pub mod RisesOwed
 pub mod ToldStays
 pub mod PatientPaths
 pub mod WindowKinds
+pub mod WindowsHeld
 pub mod QuietOpenings
 pub mod ShortWaits
 pub mod Rising

@@ -1,4 +1,4 @@
--- How many rounds a mild connection over one path takes, where a full segment that is read pays for 26, and a harm for 3,250.
+-- How many rounds a mild connection over one path takes, where a full segment that is read pays for 23, and a harm for 2,530.
 use Rattle.std.specs.Prelude.{ℕ, ◌+◌, ◌*◌, ◌/◌, ◌≡◌, ◌<◌, ◌≤◌, ◌⊎◌, nat_le, if◌then◌else◌, is_some, List, [], ◌∷◌, length}
 use Rattle.sides.specs.declared.side.Side.TheVariants.{A, B}
 use Rattle.send_book.specs.State.{Sending}
@@ -41,7 +41,7 @@ most_units start plan = segments plan.mss (length start.file_a) + segments plan.
 
 -- the ticks that so many units pay, and so many harms that are mended
 abbrev pub price : ℕ → ℕ → ℕ
-price units mended = 2600 * units + 325000 * mended
+price units mended = 2300 * units + 253000 * mended
 
 -- by the first path, for all units, each segment that is harmed, and each event that counts as a harm
 abbrev pub price_by : Start → List PathPlan → ℕ → ℕ

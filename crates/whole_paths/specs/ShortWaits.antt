@@ -1,4 +1,4 @@
--- Short waits, in which a unit is made: they begin where nothing is to be mended, and 23 rounds in which nothing is bring a unit more.
+-- Short waits, in which a unit is made: they begin where nothing is to be mended, and twenty rounds in which nothing is bring a unit more.
 use Rattle.std.specs.Prelude.{ℕ, ◌+◌, ◌<◌, ◌≤◌, ◌⊎◌, List}
 use Rattle.path_core.specs.Values.{values}
 use Rattle.world_laws.specs.Openings.{PathPlan, Start}
@@ -13,20 +13,20 @@ use Rattle.whole_paths.specs.Unmended.{Owes}
 use Rattle.whole_paths.specs.UnitRounds.{IsAllWell, WaitsSince, WellRounds, WhatIsToldIsHeard}
 
 module _ (start : Start) (plan : PathPlan) (Owes : ℕ → List Turn → Type 0) where
-  -- A wait of 24 rounds: it begins as the next round is over, or it goes on since a round was over.
+  -- A wait of 21 rounds: it begins as the next round is over, or it goes on since a round was over.
   pub data IsTimed (read x : ℕ) (turns : List Turn) : Type 0 where
-    later : round_end values start turns + 2400 ≤ x → IsTimed read x turns
-    since : (rounds : ℕ) (v : List Turn) → WaitsSince start (Owes 0) rounds v turns → rounds ≤ 22 → round_end values start v + 2400 ≤ x
+    later : round_end values start turns + 2100 ≤ x → IsTimed read x turns
+    since : (rounds : ℕ) (v : List Turn) → WaitsSince start (Owes 0) rounds v turns → rounds ≤ 19 → round_end values start v + 2100 ≤ x
         → read ≤ units start plan (reached values start v) → units start plan (reached values start v) < most_units start plan → IsTimed read x turns
 
-  -- 23 rounds without debts bring a unit more, unless there are as many as can be
+  -- twenty rounds without debts bring a unit more, unless there are as many as can be
   abbrev pub MakesUnits : Type 0
-  MakesUnits = (v u : List Turn) → WellRounds start (Owes 0) 23 v u
+  MakesUnits = (v u : List Turn) → WellRounds start (Owes 0) 20 v u
       → (most_units start plan ≤ units start plan (reached values start v))
       ⊎ (units start plan (reached values start v) < units start plan (reached values start u))
 
 module _ (start : Start) (plan : PathPlan) (count : List Turn → ℕ) (Owes : ℕ → List Turn → Type 0) where
-  -- So many ticks are paid by this one: 26 rounds by a unit more, and the others by units and by harms that are mended.
+  -- So many ticks are paid by this one: 23 rounds by a unit more, and the others by units and by harms that are mended.
   pub record WaitsForAUnit (n x : ℕ) (turns : List Turn) : Type 0 where
     pub harms : ℕ
     pub debts : ℕ
@@ -35,7 +35,7 @@ module _ (start : Start) (plan : PathPlan) (count : List Turn → ℕ) (Owes : �
     pub read : ℕ
     pub so_far : read ≤ units start plan (reached values start turns)
     pub more : read < most_units start plan
-    pub enough : n ≤ price read harms + 2600
+    pub enough : n ≤ price read harms + 2300
     pub timed : IsTimed start plan Owes read x turns
 
 -- so short waits are as they are to be where debts are mended

@@ -43,12 +43,12 @@ module _ (Also : Start → PathPlan → Type 0) (Holds : Start → Side → List
     pub holds : (s : Side) → Holds start s turns
     pub well : IsAllWell start turns
 
-  -- A window is mended within 90,000 ticks where nothing is owed along both directions, by a count of harms and of one event that has come from the
+  -- A window is mended within 64,000 ticks where nothing is owed along both directions, by a count of harms and of one event that has come from the
   -- beginning on; and where it stands the side may send, six rounds later, a full segment's payload past what was read, or all of its file.
   pub record WindowsAreMended : Type 0 where
     pub mended : (start : Start) (plan : PathPlan) (most : ℕ) (s : Side) (count : List Turn → ℕ) → BeginsWithOnePath start plan → Also start plan
         → CountsAsMuch start (with_events start ((λ turns. true) ∷ [])) count
-        → OneIsMendedAfter start plan most count (OwesDirections start) (Holds start s) (Waits start s) 90000
+        → OneIsMendedAfter start plan most count (OwesDirections start) (Holds start s) (Waits start s) 64000
     pub heard : (start : Start) (plan : PathPlan) (s : Side) (v u : List Turn) → BeginsWithOnePath start plan → Also start plan
         → WellRounds start (WindowsStand start) 6 v u → IsAllThere s (reached values start u)
         ⊎ (min (length (pick s start.file_a start.file_b)) (read_after start s v + (plan.mss - 28)) ≤ (written_by s (reached values start u)).edge)
@@ -60,7 +60,7 @@ module _ (Also : Start → PathPlan → Type 0) (Holds : Start → Side → List
     OwesWindow s = OwesBoth (OwesDirections start) (OwesOneOf (Holds start s))
 
     abbrev pub MendsWindow : Side → ℕ → ℕ → List Turn → Type 0
-    MendsWindow s = MendsSoon (MendsAfter start (OwesDirections start) (MendsDirections start) (Waits start s) 90000)
+    MendsWindow s = MendsSoon (MendsAfter start (OwesDirections start) (MendsDirections start) (Waits start s) 64000)
 
     abbrev pub OwesWindows : ℕ → List Turn → Type 0
     OwesWindows = OwesBoth (OwesWindow A) (OwesWindow B)

@@ -3,7 +3,7 @@ ghost use Rattle.path_core.specs.Octets.{octets};
 ghost use Rattle.path_core.specs.Values.{values};
 ghost use Rattle.whole_paths.specs.PatientPaths.{FewLossesFinishPatiently, PatientPathEnds, PatientPathsEnd};
 
-/// A law: over one path both files are delivered after 13,000 rounds, 26 for each full segment of either file, and 3,900 for each segment that is
+/// A law: over one path both files are delivered after 10,800 rounds, 23 for each full segment of either file, and 3,150 for each segment that is
 /// harmed, unless an end dies; however much is lost, late or repeated.
 ///
 /// It is said of mild scripts whose files fit the first windows: with three octets more into what the peer buffers, and with one more into the
