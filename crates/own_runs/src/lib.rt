@@ -16,9 +16,9 @@ mod sent_laws;
 
 pub use laws::{
     captures_are_their_packets, captures_show_the_files, data_acks_never_fall,
-    own_runs_break_no_rule, paths_open_in_order, segments_are_found, the_opener_shows_both_keys,
-    traces_are_their_segments, what_came_was_sent, whole_runs_break_no_rule, whole_runs_end_well,
-    whole_runs_say_what_they_bear,
+    own_runs_break_no_rule, paths_open_in_order, resets_end_a_path, segments_are_found,
+    the_opener_shows_both_keys, traces_are_their_segments, what_came_was_sent,
+    whole_runs_break_no_rule, whole_runs_end_well, whole_runs_say_what_they_bear,
 };
 pub use sent_laws::{
     delivered_files_were_counted, delivered_files_were_granted, delivered_files_were_sent,
