@@ -1,5 +1,5 @@
 -- In the trace of a run an end that sent a reset behind a SYN of B's sends resets alone.
-use Rattle.std.proofs.Common.{◌≡◌, refl, sym, ap, ◌∙◌, subst, ℕ, zero, suc, ◌-◌, ◌<◌, ◌≤◌, arith, ◌⊎◌, inl, inr, ⊎_elim, Bool, true, false, Option, Some, None, List, [], ◌∷◌, ◌++◌, length, length-append}
+use Rattle.std.proofs.Common.{◌≡◌, refl, sym, ap, ◌∙◌, subst, ℕ, zero, suc, ◌-◌, ◌<◌, arith, ⊎_elim, Bool, true, false, Option, Some, None, List, [], ◌∷◌, ◌++◌, length, length-append}
 use Rattle.std.specs.List.{slice_get}
 use Rattle.std.specs.Option.{option_to_list}
 use Rattle.link_trace.specs.declared.sent.Sent.{Sent}
@@ -14,7 +14,7 @@ use Rattle.world_laws.specs.Promises.{HasRoom, NumbersFit}
 use Rattle.world_laws.specs.Worlds.{Turn, WorldState, after_turn, world_run}
 use Rattle.own_runs.specs.ResetsEnd.{EachResetEnds}
 use Rattle.own_runs.proofs.AckMoments.{one_turn}
-use Rattle.own_runs.proofs.InTime.{Sending, SynsAt, WasReset, WasSaid, turn_sending, was_more}
+use Rattle.own_runs.proofs.InTime.{SynsAt, WasReset, WasSaid, turn_sending, was_more}
 use Rattle.own_runs.proofs.Moments.{IsSpoken, world_speaks}
 use Rattle.own_runs.proofs.TimeRuns.{OpensSo, opens_so}
 
