@@ -101,6 +101,7 @@ mod Reached
 mod ReadEnds
 mod ReadingBack
 mod RecordsKept
+mod ResetTrace
 mod Sayings
 mod Segments
 mod SentGrows

@@ -20,6 +20,7 @@ use Rattle.sides.specs.declared.side.Side.TheVariants.{A, B}
 use Rattle.sides.specs.declared.side.Side.{Side}
 use Rattle.stream_lanes.specs.Duo.{Duo}
 use Rattle.subflow_tcp.specs.States.{is_closed_to_segments, is_dead}
+use Rattle.subflow_tcp.specs.declared.handshake.State.{State as EndPhase}
 use Rattle.world_laws.proofs.Joins.TokensAgree.{opened_met, run_met}
 use Rattle.world_laws.proofs.Keys.ToldAreOwn.{MemberIs}
 use Rattle.world_laws.proofs.Promises.Made.{run_fresh}
@@ -66,6 +67,7 @@ module _ (start : Start) (size : HasRoom start) (fit : NumbersFit start) (turns 
   -- but for the key
   pub record OpensSo (path : ℕ) (s : Side) (sg : PlainSegment) : Type 0 where
     pub answers : s ≡ B → sg.syn ≡ true → WasSaid start (OpensAt path) turns
+    pub living : sg.rst ≡ false → WasReset start path s turns → ⊥
     pub behind : sg.syn ≡ false → sg.rst ≡ false → WasSaid start (AnswersAt path) turns × (WasReset start path s turns → ⊥)
 
   path_so : (p : PathState Carried) → IsSettled p → PathSo start size fit turns p → PathAlso OpensSo p
@@ -82,10 +84,16 @@ module _ (start : Start) (size : HasRoom start) (fit : NumbersFit start) (turns 
       fell A said = h.0.fell_a said
       fell B said = h.0.fell_b said
 
+      dead_closed : (state : EndPhase) → is_dead state ≡ true → is_closed_to_segments state ≡ false → ⊥
+      dead_closed EndPhase.Dead is opened = false≢true (sym opened)
+      dead_closed EndPhase.Waiting is opened = false≢true is
+      dead_closed _ is opened = false≢true is
+
       by : (o : Option ToSend) → IfSome o (SendsWell p) → IfSome o (λ t. OpensSo n t.from (segment_sent p t))
       by None well = tt
       by (Some t) well = record {
         answers = λ of_b syn. h.0.asked (subst (λ (s : Side). is_closed_to_segments (end_at s p).tcp.state ≡ false) of_b (well.opened (inr syn)));
+        living = λ rst said. dead_closed (end_at t.from p).tcp.state (fell t.from said) (well.opened (inl rst));
         behind = λ syn rst. let is = well.plain syn rst in
             (met t.from is, λ said. both_ways (is_dead (end_at t.from p).tcp.state) (met_so (end_at t.from p).tcp.state is).living (fell t.from said));
       }

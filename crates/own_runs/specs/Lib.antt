@@ -5,6 +5,7 @@ pub mod Granting
 pub mod Handshakes
 pub mod KeysShown
 pub mod Packets
+pub mod ResetsEnd
 pub mod Runs
 pub mod Segments
 pub mod Sending

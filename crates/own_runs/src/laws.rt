@@ -8,6 +8,7 @@ ghost use Rattle.own_runs.specs.Packets.{CapturesAreTheirPackets};
 ghost use Rattle.own_runs.specs.Runs.{DataFinsEndTheFiles, DeliveredRunsShowTheFiles, NoPlainRunBreaks, NoRunBreaks, NoWholeRunBreaks, ReadersGetWhatIsShown, SeenOctetsAreTheFiles, StreamsBeginTheFiles, WholeStreamsAreTheFiles};
 ghost use Rattle.own_runs.specs.Segments.{SegmentsAreFound, WrittenSegmentsAreFound};
 ghost use Rattle.own_runs.specs.Traces.{TracesAreTheirPackets, TracesAreTheirSegments};
+ghost use Rattle.own_runs.specs.ResetsEnd.{EachResetEnds};
 ghost use Rattle.own_runs.specs.WholeKept.{DeliveredRunsAreKept, WholeReportsAreKept, WholeRunsEndWell};
 ghost use Rattle.own_runs.specs.WholeSegments.{DeliveredRunsTellTheEnds, EachSaysWhatItBears};
 
@@ -83,6 +84,13 @@ pub fn whole_runs_break_no_rule()
 /// start fit.
 pub fn paths_open_in_order()
     ensures { EachComesInOrder }
+{}
+
+/// A law: behind a SYN of B's, an end that sent a reset sends resets alone on its path, whatever the script does (RFC 9293, section 3.10.7.1). Before
+/// that SYN B refuses a join by a reset, and listens on (RFC 8684, section 3.2). It holds of every list of turns, lawful or not, where the numbers
+/// of the start fit.
+pub fn resets_end_a_path()
+    ensures { EachResetEnds }
 {}
 
 /// A law: the judge ends well with the capture of such a run, at whichever side it was taken, and wherever the judge takes that to be. The
