@@ -101,6 +101,7 @@ mod Reached
 mod ReadEnds
 mod ReadingBack
 mod RecordsKept
+mod RoundShown
 mod Sayings
 mod Segments
 mod SentGrows
