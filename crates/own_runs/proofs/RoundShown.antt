@@ -27,7 +27,6 @@ use Rattle.world_laws.specs.Worlds.{Turn, WorldState, all_over, world_run}
 use Rattle.world_laws.specs.declared.member.Member.TheVariants.{App, Path}
 use Rattle.own_runs.proofs.CameSent.{IsOnLane, cell_sent, d, lanes_many, links, path_at, w}
 use Rattle.own_runs.proofs.Granted.{way}
-use Rattle.own_runs.proofs.Grants.{same_books}
 use Rattle.own_runs.proofs.ShownAcks.{IsShown, shown_by, whole_acks}
 use Rattle.own_runs.proofs.WasSent.{Known, over_at, waits_none}
 
@@ -63,6 +62,10 @@ module _ (start : Start) (turns : List Turn) (plain : IsPlain start) (fit : Numb
         let inside = slice_get_within lane.0.sent cell.at cell.item cell.there in
         cell_sent start plain fit turns k s place n lane.0 lane.1 cell.at cell.item cell.there cell.holds (side.told cell.at cell.item (omega (arith, inside, all)) cell.there)
 
+  sent_by : (k : Known start plain fit turns) (s : Side) → send_of s (books_in (w start plain fit turns k).books) ≡ (way s (d start plain fit turns k)).send
+  sent_by k A = ap (λ (v : WorldState Carried). (books_in v.books).send_a) k.shows.is ∙ sym (ap (λ (e : Duo). e.ab.send) k.shows.duo_is)
+  sent_by k B = ap (λ (v : WorldState Carried). (books_in v.books).send_b) k.shows.is ∙ sym (ap (λ (e : Duo). e.ba.send) k.shows.duo_is)
+
   abbrev run : WorldState (List ℕ)
   run = world_run octets turns (opened_world start)
 
@@ -80,5 +83,5 @@ module _ (start : Start) (turns : List Turn) (plain : IsPlain start) (fit : Numb
       by k =
           let book : send_of s (books_in run.books) ≡ (way s (d start plain fit turns k)).send =
           ap (λ (v : WorldState (List ℕ)). send_of s (books_in v.books)) fresh
-          ∙ sym (same_books (links start plain fit turns k) start (d start plain fit turns k) (world_run values turns (opened_world start)) k.shows s) in
+          ∙ sent_by k s in
           tried_sent k over_now s path place below (ap (λ (b : Sending). tried path (slice_get b.marks place)) (sym book) ∙ is)
