@@ -1,13 +1,16 @@
 -- The judge ends well with the capture of a whole run: no side broke a rule, and each join's connection was found.
-use Rattle.std.proofs.Common.{◌≡◌, refl, sym, ap, ◌∙◌, subst, ℕ, suc, arith, ◌≤◌, ◌==◌, ◌&&◌, ◌||◌, not, Bool, true, false, if◌then◌else◌, Option, Some, None, Ok, option_map, List, [], ◌∷◌, length}
+use Rattle.std.proofs.Common.{◌≡◌, refl, sym, ap, ◌∙◌, subst, ℕ, suc, arith, ◌≤◌, ◌==◌, ◌&&◌, ◌||◌, not, Bool, true, false, if◌then◌else◌, Option, Some, None, Ok, option_map, List, [], ◌∷◌, ◌++◌, length}
 use Rattle.std.specs.List.{list_any, slice_get}
 use Rattle.std.proofs.lemmas.Bool.{both_ways, false≢true, or_from}
 use Rattle.capture_verdict.specs.Ending.{broke_rule, ending_of, has_none, is_broken, was_refused}
 use Rattle.capture_verdict.specs.Judging.{judged_capture}
+use Rattle.capture_verdict.specs.Report.{broken_words, kept_line, side_words, stray_words_by, strays_words}
 use Rattle.capture_verdict.specs.declared.ending.Ending.{Ending}
+use Rattle.capture_verdict.specs.declared.totals.Unread.{Unread}
 use Rattle.judge_laws.specs.GoesOn.{broke, stream_in}
 use Rattle.judge_rules.specs.Rules.{rule_number}
 use Rattle.judge_rules.specs.declared.finding.Rule.{Rule}
+use Rattle.judge_words.specs.Lines.{kept_words}
 use Rattle.rule_book.specs.State.{BookValue, JudgedValue, stream_at}
 use Rattle.seen_connections.specs.Flows.{is_stray}
 use Rattle.seen_connections.specs.declared.connections.Keys.{Keys}
@@ -23,7 +26,7 @@ use Rattle.world_laws.specs.Promises.{IsPlain, NumbersFit}
 use Rattle.world_laws.specs.Worlds.{Turn}
 use Rattle.own_runs.specs.Fitting.{RunFits}
 use Rattle.own_runs.specs.Runs.{NoWholeRunBreaks, capture_of}
-use Rattle.own_runs.specs.WholeKept.{DeliveredRunsAreKept, WholeRunsEndWell}
+use Rattle.own_runs.specs.WholeKept.{DeliveredRunsAreKept, WholeReportsAreKept, WholeRunsEndWell}
 use Rattle.own_runs.proofs.AckRuns.{all_judged, all_read, all_stood, file_shown, no_whole_run_breaks}
 use Rattle.own_runs.proofs.Kept.{no_run_breaks, same_judged}
 use Rattle.own_runs.proofs.TimeRuns.{timed}
@@ -147,3 +150,25 @@ delivered_are_kept start turns plain whole fit run delivered side at judged read
     some : {stream : StreamValue} → (books : List BookValue) → option_map (stream_at A) (slice_get books 0) ≡ Some stream → has_none books ≡ false
     some [] there = cc
     some (book ∷ books) there = refl
+
+-- ---- what is told
+
+line_kept : (s : Side) (stream : StreamValue) → has_none stream.broken ≡ true → (unread : Unread) (syn_data : ℕ) → side_words s stream unread syn_data ≡ kept_words (kept_line s stream unread syn_data)
+line_kept s stream none unread syn_data = ap (λ (kept : Bool). if kept then kept_words (kept_line s stream unread syn_data) else broken_words s stream.broken) none
+
+none_told : (flows : List Flow) → ((i : ℕ) (flow : Flow) → slice_get flows i ≡ Some flow → IsNamed flow) → strays_words flows ≡ []
+none_told [] named = refl
+none_told (flow ∷ flows) named = first flow.opening flow.belongs (named 0 flow refl) (none_told flows (λ i x at. named (suc i) x at))
+  where
+    first : (o : Opening) (belongs : Option Belongs) → NamesIts o belongs → strays_words flows ≡ [] → stray_words_by flow o belongs ++ strays_words flows ≡ []
+    first (Opening.Capable checksums) belongs named rest = rest
+    first (Opening.Join token nonce) (Some belongs) named rest = rest
+    first (Opening.Join token nonce) None named rest = absurd (false≢true named)
+
+pub reports_are_kept : WholeReportsAreKept
+reports_are_kept start turns plain whole fit run side at judged read =
+    let mine : JudgedValue = verdict start turns plain whole fit run side at in
+    let same : mine ≡ judged = same_judged mine judged (sym (is_read start turns plain whole fit run side at) ∙ read) in (
+      λ connection s stream there. line_kept s stream (none_broken stream (λ r. whole_breaks r start turns plain whole fit run side at judged read connection s stream there)),
+      ap (λ (j : JudgedValue). strays_words j.seen.flows) (sym same) ∙ none_told mine.seen.flows (all_stood timed start turns plain whole fit run side at).stands.tokens.seen.named,
+    )

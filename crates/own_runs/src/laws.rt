@@ -8,7 +8,7 @@ ghost use Rattle.own_runs.specs.Packets.{CapturesAreTheirPackets};
 ghost use Rattle.own_runs.specs.Runs.{DataFinsEndTheFiles, DeliveredRunsShowTheFiles, NoPlainRunBreaks, NoRunBreaks, NoWholeRunBreaks, ReadersGetWhatIsShown, SeenOctetsAreTheFiles, StreamsBeginTheFiles, TriedOctetsAreSeen, WholeStreamsAreTheFiles};
 ghost use Rattle.own_runs.specs.Segments.{SegmentsAreFound, WrittenSegmentsAreFound};
 ghost use Rattle.own_runs.specs.Traces.{TracesAreTheirPackets, TracesAreTheirSegments};
-ghost use Rattle.own_runs.specs.WholeKept.{DeliveredRunsAreKept, WholeRunsEndWell};
+ghost use Rattle.own_runs.specs.WholeKept.{DeliveredRunsAreKept, WholeReportsAreKept, WholeRunsEndWell};
 ghost use Rattle.own_runs.specs.WholeSegments.{DeliveredRunsTellTheEnds, EachSaysWhatItBears};
 
 /// A law: what is written of a section's blocks is read as a capture of their packets, in order, each a raw IPv4 packet with all its octets.
@@ -87,10 +87,12 @@ pub fn paths_open_in_order()
 
 /// A law: the judge ends well with the capture of such a run, at whichever side it was taken, and wherever the judge takes that to be. The
 /// capture is read. At most one connection is seen, and where it is, no side broke any rule, and each join's connection was found (`ends`). Once
-/// the run is delivered it is seen (`delivered`). The premises are those of `whole_runs_break_no_rule`.
+/// the run is delivered it is seen (`delivered`). So each side's line says that it was kept, and no line is of a join (`lines`). The premises are
+/// those of `whole_runs_break_no_rule`.
 pub fn whole_runs_end_well()
     ensures ends { WholeRunsEndWell }
     ensures delivered { DeliveredRunsAreKept }
+    ensures lines { WholeReportsAreKept }
 {}
 
 /// A law: what the judge finds of a side's stream in the capture of such a run, over all subflows, up to the first octet that isn't there, is a

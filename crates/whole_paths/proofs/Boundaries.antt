@@ -1,26 +1,22 @@
 -- Where mappings are checked, the receiver's end of a lane passes each piece whole or not at all, as long as its side goes by mappings: no piece
 -- lies on both sides of its edge (RFC 8684, section 3.3.1). And two pieces that begin at one position are the same.
-use Rattle.std.proofs.Common.{replicate, set, ◌≡◌, refl, sym, subst, ap, ◌∙◌, ◌⊎◌, ⊎_elim, inl, inr, ℕ, zero, suc, ◌+◌, ◌-◌, ◌<◌, ◌≤◌, nat_le, nat_lt, ◌==◌, ◌&&◌, ◌||◌, not, arith, Bool, true, false, true≢false, if◌then◌else◌, Option, Some, None, List, [], ◌∷◌, ◌++◌, length, map, drop}
+use Rattle.std.proofs.Common.{replicate, ◌≡◌, refl, sym, subst, ap, ◌∙◌, ◌⊎◌, ⊎_elim, inl, inr, ℕ, zero, suc, ◌+◌, ◌-◌, ◌<◌, ◌≤◌, nat_le, nat_lt, ◌==◌, ◌&&◌, ◌||◌, not, arith, Bool, true, false, true≢false, if◌then◌else◌, Option, Some, None, List, [], ◌∷◌, ◌++◌, length, map, drop}
 use Rattle.std.specs.List.{slice_get}
 use Rattle.std.proofs.lemmas.Bool.{and_parts, cases_eq, cases_lt, eqb-true, or_cases}
 use Rattle.std.proofs.lemmas.List.{length-drop, length-map, length-take}
 use Rattle.std.proofs.lemmas.Option.{same_Some}
-use Rattle.send_book.specs.declared.call.SendCall.TheVariants as send_calls
 use Rattle.send_book.specs.declared.call.SendReply.{SendReply}
 use Rattle.send_book.specs.declared.call.SendReply.TheVariants as send_replies
-use Rattle.send_book.specs.State.{acked_len}
-use Rattle.send_book.specs.Steps.{after_call}
 use Rattle.reassembly_book.specs.declared.call.ReassemblyReply.{ReassemblyReply}
 use Rattle.reassembly_book.specs.declared.call.ReassemblyReply.TheVariants as reassembly_replies
 use Rattle.stream_lanes.specs.Duo.{Duo, Event, Modes, after_event, after_events, begins_join, falls_a, falls_b, flags_ab, flags_ba, hears_join, opening_over, sends_join}
 use Rattle.stream_lanes.specs.Duo.Event.{ToB, ToA, FallA, FallB, LoosenA, LoosenB, BeginJoin, SendJoin, HearJoin}
-use Rattle.stream_lanes.specs.Holding.{BytesHold, DirectionHolds, Holds, IsPiece, IsRight}
+use Rattle.stream_lanes.specs.Holding.{BytesHold, Holds, IsPiece, IsRight}
 use Rattle.stream_lanes.specs.Lane.{AckCopy, Ask, DataCopy, Lane, Mapping, Pair, lane_over}
-use Rattle.stream_lanes.specs.Lane.Ask.{Nothing, AskGrant, AskAckIn, AskPlace, AskFin, AskAckOut}
+use Rattle.stream_lanes.specs.Lane.Ask.{AskGrant, AskPlace, AskFin}
 use Rattle.stream_lanes.specs.Moves.{Flags, Move, are_same, clashes, ends_pair, hears, hears_data_fin, hears_fin, hears_sub, in_order, is_whole, keeps, learns, learns_mapping, lies_in, may_finish, moved, part_of, passes, place_by, places, places_pair, sends_altered, sends_fin_pair, sends_pair, sends_piece, shifted, takes_ack, takes_ack_out, takes_fin, takes_grant, takes_pair, takes_placed}
 use Rattle.stream_lanes.specs.Moves.{Move as move}
-use Rattle.stream_lanes.specs.Streams.{Direction, StreamEvent, after, asks, asks_at, goes_infinite, is_done, may_go, moves, reads}
-use Rattle.stream_lanes.specs.Streams.{StreamEvent as event}
+use Rattle.stream_lanes.specs.Streams.{Direction, asks}
 use Rattle.stream_lanes.specs.Words.{Every, Has}
 use Rattle.stream_lanes.proofs.Duos.{any_held}
 use Rattle.stream_lanes.proofs.Lists.{Every-nil, in_append, in_one, in_replicate}
@@ -32,8 +28,8 @@ use Rattle.world_laws.proofs.Falls.FirmRuns.{firm_run}
 use Rattle.world_laws.proofs.Lanes.Beginning.{each_run_shows}
 use Rattle.world_laws.proofs.Lanes.OfAWorld.{Carries, WorldShows, first_duo}
 use Rattle.whole_paths.specs.Mild.{IsMildStart}
+use Rattle.whole_paths.proofs.EachLane.{Steps, after_goes}
 use Rattle.whole_paths.proofs.FinishedThere.{never_fallen}
-use Rattle.whole_paths.proofs.Unended.{every_set}
 
 -- ---- a lane
 
@@ -296,59 +292,16 @@ one_piece p b h i j m n at there same = ⊎_elim
 abbrev pub AreCut : Direction → Type 0
 AreCut d = Every IsCut d.lanes
 
-module _ (f : Flags) (d : Direction) (mapped : f.receiver ≡ false) (firm : f.loose ≡ false) (holds : DirectionHolds f d) (h : AreCut d) where
-  bytes_of : (path : ℕ) (p : Lane) → slice_get d.lanes path ≡ Some p → BytesHold p.alters p.sent p.pieces p.datas p.edge p.kept p.maps p.acks
-  bytes_of path p there = (holds.lanes.each path path p (omega arith) there).bytes
-
-  lane_goes : (path : ℕ) (p q : Lane) → slice_get d.lanes path ≡ Some p → (BytesHold p.alters p.sent p.pieces p.datas p.edge p.kept p.maps p.acks → IsCut p → IsCut q) → Every IsCut (set d.lanes path q)
-  lane_goes path p q there go = every_set d.lanes path q h (go (bytes_of path p there) (h.each path p there))
-
-  asks_goes : (path : ℕ) (p : Lane) → slice_get d.lanes path ≡ Some p → (x : Ask) → p.asking ≡ x → AreCut (asks path x p d)
-  asks_goes path p there Nothing is = h
-  asks_goes path p there (AskGrant max standby) is = lane_goes path p _ there (λ b c. grant_cut p b c _)
-  asks_goes path p there (AskAckIn next window) is = lane_goes path p _ there (λ b c. ack_cut p b c next _)
-  asks_goes path p there (AskPlace at bytes) is = lane_goes path p _ there (λ b c. arrived_cut p b c at bytes _ (subst (AskCut p.pieces p.edge) is c.asks))
-  asks_goes path p there (AskFin at) is = lane_goes path p _ there (λ b c. set_cut p b c _)
-  asks_goes path p there AskAckOut is = lane_goes path p _ there (λ b c. told_cut p b c _ _)
-
-  asked_goes : (path : ℕ) (o : Option Lane) → slice_get d.lanes path ≡ o → AreCut (asks_at path o d)
-  asked_goes path None there = h
-  asked_goes path (Some p) there = asks_goes path p there p.asking refl
-
-  moves_goes : (path : ℕ) (m : Move) (o : Option Lane) → slice_get d.lanes path ≡ o → AreCut (moves f path m o d)
-  moves_goes path m None there = h
-  moves_goes path m (Some p) there = lane_goes path p _ there (λ b c. moved_cut p b c f path mapped firm m)
-
-  infinite_goes : (path pos : ℕ) (o : Option Lane) → slice_get d.lanes path ≡ o → AreCut (goes_infinite path pos o d)
-  infinite_goes path pos None there = h
-  infinite_goes path pos (Some p) there = by (may_go path pos d.send p)
-    where
-      paired : Lane
-      paired = record p { pair = Some (record { pos = pos; place = acked_len d.send.marks }) }
-
-      by : (c : Bool) → AreCut (if c then record d { send = after_call d.send (send_calls.GoInfinite path); lanes = set d.lanes path paired } else d)
-      by true = lane_goes path p paired there (λ b c. same_cut p paired refl refl refl refl refl c.asks c)
-      by false = h
-
-  identity_goes : (c : Bool) → AreCut (if c then record d { send = after_call d.send send_calls.GoIdentity } else d)
-  identity_goes true = h
-  identity_goes false = h
-
-  read_goes : (max : ℕ) (c : Bool) → AreCut (if c then d else reads max d)
-  read_goes max true = h
-  read_goes max false = h
-
-  after_goes : (e : StreamEvent) → AreCut (after f e d)
-  after_goes (event.Write bytes) = h
-  after_goes event.Close = h
-  after_goes (event.Return path) = h
-  after_goes event.GoIdentity = identity_goes f.sender
-  after_goes (event.GoInfinite path pos) = infinite_goes path pos (slice_get d.lanes path) refl
-  after_goes event.AbortSend = h
-  after_goes (event.Read max) = read_goes max (is_done d.reader)
-  after_goes (event.AbortRead by_peer) = h
-  after_goes (event.Moves path m) = moves_goes path m (slice_get d.lanes path) refl
-  after_goes (event.Asks path) = asked_goes path (slice_get d.lanes path) refl
+cut_steps : (f : Flags) → f.receiver ≡ false → f.loose ≡ false → Steps IsCut f
+cut_steps f mapped firm = record {
+  moves = λ path m p b c. moved_cut p b c f path mapped firm m;
+  pairs = λ x p c. same_cut p (record p { pair = Some x }) refl refl refl refl refl c.asks c;
+  grants = λ r p b c. grant_cut p b c r;
+  acks = λ next r p b c. ack_cut p b c next r;
+  places = λ at bytes r p b c is. arrived_cut p b c at bytes r (subst (AskCut p.pieces p.edge) is c.asks);
+  ends = λ r p b c. set_cut p b c r;
+  tells = λ next window p b c. told_cut p b c next window;
+}
 
 -- ---- both directions
 
@@ -373,8 +326,8 @@ either_back true m x y first second = first
 either_back false m x y first second = second
 
 event_goes : (e : Event) (w : Duo) → Holds w → BothCut w → BothCut (after_event e w)
-event_goes (ToB e) w held h = record { ab = λ firm. after_goes (flags_ab w.modes) w.ab firm.plain_b firm.loose_b held.ab (h.ab firm) e; ba = h.ba }
-event_goes (ToA e) w held h = record { ab = h.ab; ba = λ firm. after_goes (flags_ba w.modes) w.ba firm.plain_a firm.loose_a held.ba (h.ba firm) e }
+event_goes (ToB e) w held h = record { ab = λ firm. after_goes IsCut (flags_ab w.modes) w.ab held.ab (cut_steps (flags_ab w.modes) firm.plain_b firm.loose_b) (h.ab firm) e; ba = h.ba }
+event_goes (ToA e) w held h = record { ab = h.ab; ba = λ firm. after_goes IsCut (flags_ba w.modes) w.ba held.ba (cut_steps (flags_ba w.modes) firm.plain_a firm.loose_a) (h.ba firm) e }
 event_goes FallA w held h = modes_go (falls_a w.modes) w (either_back w.modes.begun w.modes w.modes _ (λ x. x) (λ x. absurd (true≢false x.plain_a))) h
 event_goes FallB w held h = modes_go (falls_b w.modes) w (either_back w.modes.answered w.modes w.modes _ (λ x. x) (λ x. absurd (true≢false x.plain_b))) h
 event_goes LoosenA w held h = modes_go _ w (λ x. absurd (true≢false x.loose_a)) h

@@ -188,12 +188,14 @@ data Grants (s : Side) (six : SixBooks) (p q : PathState Carried) : Type 0 where
   stays : (end_at s q).tcp.send.nxt ≡ (end_at s p).tcp.send.nxt → Grants s six p q
   ends : (end_at s q).tcp.send.finished ≡ true → Grants s six p q
   gives : (stands : Bool) (span : Span) → decision (path_of p) (payload_size p.profile) stands (send_of s six) ≡ Ok span
-      → Has (IsGrantOf (end_at s p).tcp.send (send_of s six) span) (end_at s q).tcp.send.records → Grants s six p q
+      → Has (IsGrantOf (end_at s p).tcp.send (send_of s six) span) (end_at s q).tcp.send.records
+      → (end_at s q).tcp.send.nxt ≡ (end_at s p).tcp.send.nxt + length (part_of span (send_of s six).written) → Grants s six p q
 
 then_same : (s : Side) (six : SixBooks) (p y q : PathState Carried) → SameSend y q → Grants s six p y → Grants s six p q
 then_same s six p y q same (stays is) = stays (ap (λ (v : SendState). v.nxt) (same s) ∙ is)
 then_same s six p y q same (ends is) = ends (ap (λ (v : SendState). v.finished) (same s) ∙ is)
-then_same s six p y q same (gives stands span decided has) = gives stands span decided (subst (Has (IsGrantOf (end_at s p).tcp.send (send_of s six) span)) (sym (ap (λ (v : SendState). v.records) (same s))) has)
+then_same s six p y q same (gives stands span decided has next) =
+    gives stands span decided (subst (Has (IsGrantOf (end_at s p).tcp.send (send_of s six) span)) (sym (ap (λ (v : SendState). v.records) (same s))) has) (ap (λ (v : SendState). v.nxt) (same s) ∙ next)
 
 module _ (six : SixBooks) (p : PathState Carried) where
   all_stay : (s : Side) (q : PathState Carried) → AllStay p q → Grants s six p q
@@ -205,12 +207,12 @@ module _ (six : SixBooks) (p : PathState Carried) where
     where
       by : (o : Result Span Why) → decision (path_of p) (payload_size p.profile) p.a.modes.standby six.send_a ≡ o → let r = replies.Send (reply_by o six.send_a) in Grants A six p (answered_grant A (grant_in r) r p)
       by (Err why) is = let r : Reply = replies.Send (reply_by (Err why) six.send_a) in all_stay A (answered_grant A None r p) (refused_next A r p)
-      by (Ok span) is = gives p.a.modes.standby span is (last_so (IsGrantOf p.a.tcp.send six.send_a span) p.a.tcp.send.records (record { pos = p.a.tcp.send.nxt; kind = Data; piece = part_of span six.send_a.written; mapping = mapping_of p.profile A span.from p.a.tcp.send.nxt (part_of span six.send_a.written); sending = never_sent }) (refl, refl, refl))
+      by (Ok span) is = gives p.a.modes.standby span is (last_so (IsGrantOf p.a.tcp.send six.send_a span) p.a.tcp.send.records (record { pos = p.a.tcp.send.nxt; kind = Data; piece = part_of span six.send_a.written; mapping = mapping_of p.profile A span.from p.a.tcp.send.nxt (part_of span six.send_a.written); sending = never_sent }) (refl, refl, refl)) refl
   granted_row B = by (decision (path_of p) (payload_size p.profile) p.b.modes.standby six.send_b) refl
     where
       by : (o : Result Span Why) → decision (path_of p) (payload_size p.profile) p.b.modes.standby six.send_b ≡ o → let r = replies.Send (reply_by o six.send_b) in Grants B six p (answered_grant B (grant_in r) r p)
       by (Err why) is = let r : Reply = replies.Send (reply_by (Err why) six.send_b) in all_stay B (answered_grant B None r p) (refused_next B r p)
-      by (Ok span) is = gives p.b.modes.standby span is (last_so (IsGrantOf p.b.tcp.send six.send_b span) p.b.tcp.send.records (record { pos = p.b.tcp.send.nxt; kind = Data; piece = part_of span six.send_b.written; mapping = mapping_of p.profile B span.from p.b.tcp.send.nxt (part_of span six.send_b.written); sending = never_sent }) (refl, refl, refl))
+      by (Ok span) is = gives p.b.modes.standby span is (last_so (IsGrantOf p.b.tcp.send six.send_b span) p.b.tcp.send.records (record { pos = p.b.tcp.send.nxt; kind = Data; piece = part_of span six.send_b.written; mapping = mapping_of p.profile B span.from p.b.tcp.send.nxt (part_of span six.send_b.written); sending = never_sent }) (refl, refl, refl)) refl
 
   other_next : (s : Side) (o : Option Record) (r : Reply) → (end_at s (answered_data values (peer s) o r p)).tcp.send.nxt ≡ (end_at s p).tcp.send.nxt
   other_next A (Some u) r = refl
@@ -288,6 +290,9 @@ module _ (start : Start) (plan : PathPlan) (turns : List Turn) (turn : Turn) (on
       subst (λ m. PathsBetween EachGrants old.books (after_turn values turn old).books there.crew.list (Path p) m) there.is
       (subst (λ m. PathsBetween EachGrants old.books (after_turn values turn old).books there.crew.list m there.crew.member) here.is far) s
 
+  ends_at : (span : Span) (x : Record) → x.kind ≡ Data → x.pos ≡ (end_at s p).tcp.send.nxt → x.piece ≡ part_of span b.written → end_of x ≡ (end_at s p).tcp.send.nxt + length (part_of span b.written)
+  ends_at span x kind pos piece = (let size : occupied x.kind x.piece ≡ length (part_of span b.written) = ap (λ k. occupied k x.piece) kind ∙ ap (λ (o : List ℕ). length o) piece in omega (arith, size, pos))
+
   full_one : (span : Span) (x : Record) → x.kind ≡ Data → x.pos ≡ (end_at s p).tcp.send.nxt → x.piece ≡ part_of span b.written
       → (payload_size p.profile ≤ length (part_of span b.written)) ⊎ (min (length b.written) b.edge ≤ taken_len 0 b.marks + length (part_of span b.written))
       → ((end_at s p).tcp.send.nxt + payload_size p.profile ≤ end_of x) ⊎ (min (length b.written) b.edge < end_of x)
@@ -302,11 +307,12 @@ module _ (start : Start) (plan : PathPlan) (turns : List Turn) (turn : Turn) (on
       by : Grants s (books_in old.books) p q → ((end_at s q).tcp.send.nxt ≡ (end_at s p).tcp.send.nxt) ⊎ HoldsAFullPiece p.profile b (end_at s p).tcp.send.nxt (end_at s q)
       by (stays is) = inl is
       by (ends is) = absurd (true≢false (sym is ∙ unfinished))
-      by (gives stands span decided has) = inr (record {
+      by (gives stands span decided has next) = inr (record {
         piece = has.item;
         there = record { at = has.at; item = has.item; there = has.there; holds = refl };
         kind = has.holds.0;
         pos = has.holds.1;
+        last = next ∙ sym (ends_at span has.item has.holds.0 has.holds.1 has.holds.2);
         full = full_one span has.item has.holds.0 has.holds.1 has.holds.2
             (ends_so (payload_size p.profile) stands b span (subst (λ n. decision n (payload_size p.profile) stands b ≡ Ok span) number decided) counted.marked counted.free);
       })

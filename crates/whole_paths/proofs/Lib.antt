@@ -238,6 +238,7 @@ pub mod ReadSegments
 pub mod EndRounds
 pub mod UnitRounds
 pub mod PatientPaths
+pub mod WindowKinds
 pub mod QuietOpenings
 pub mod ShortWaits
 pub mod UnderWay
@@ -289,3 +290,5 @@ pub mod Opened
 pub mod SignPieces
 pub mod EarlyRecords
 pub mod ProbeWaits
+pub mod EachLane
+pub mod WindowStalls

@@ -214,7 +214,7 @@ module _ (start : Start) (plan : PathPlan) (one : BeginsWithOnePath start plan) 
       where
         of_shut : (end_at s q).tcp.send.records ≡ [] → (b : Bool) → (end_at s q).sending.shut ≡ b → Goes
         of_shut none true shut = then_so (record { none = none; shut = shut })
-        of_shut none false open_now = on.opens open_now
+        of_shut none false open_now = on.opens is.shut open_now
 
         by : (records : List Record) → (end_at s q).tcp.send.records ≡ records → may_finish (end_at s q).tcp.state ≡ true → Goes
         by [] none may = of_shut none (end_at s q).sending.shut refl

@@ -37,7 +37,6 @@ use Rattle.whole_paths.specs.Straying.{IsOpen}
 use Rattle.whole_paths.proofs.DataLeft.{what_is_left_is_data}
 use Rattle.whole_paths.proofs.Exchanges.{Shown, each_shown}
 use Rattle.whole_paths.proofs.OnePath.{Spends, reached_at, what_was_written_is_spent}
-use Rattle.whole_paths.proofs.OnlyBooks.{AreSpent}
 use Rattle.whole_paths.proofs.OpenPieces.{EndsAgreeWith, ends_agree}
 use Rattle.whole_paths.proofs.OpenCourses.{IsFirstPath, each_first}
 use Rattle.whole_paths.proofs.PositionCounts.{positions_count_bytes, spent_taken}

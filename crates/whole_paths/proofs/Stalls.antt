@@ -1,6 +1,6 @@
 -- A stream stalls at a window that is shut alone: in four rounds all is acknowledged that came, in the next one the application writes more, and as the
 -- one after that is over all is sent that may be.
-use Rattle.std.proofs.Common.{◌≡◌, refl, sym, subst, ap, ⊎_elim, ◌+◌, ◌-◌, ◌<◌, ◌≤◌, min, arith, true, Some, ℕ, List, [], ◌∷◌, length}
+use Rattle.std.proofs.Common.{◌≡◌, refl, sym, subst, ap, ⊎_elim, ◌<◌, ◌≤◌, arith, true, Some, List, [], ◌∷◌, length}
 use Rattle.std.specs.List.{slice_get}
 use Rattle.std.proofs.lemmas.Bool.{cases_lt}
 use Rattle.sides.specs.declared.side.Side.{Side}
@@ -9,7 +9,6 @@ use Rattle.send_book.specs.State.{acked_len}
 use Rattle.reassembly_book.specs.State.{received}
 use Rattle.subflow_send.specs.Records.{Record}
 use Rattle.subflow_tcp.specs.States.{may_finish}
-use Rattle.actor_desk.specs.Words.{pick}
 use Rattle.path_core.specs.State.{PathState, end_at}
 use Rattle.path_core.specs.Values.{Carried, values}
 use Rattle.world_laws.specs.Members.{HoldsOfKind}

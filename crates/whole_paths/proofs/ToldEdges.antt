@@ -33,7 +33,7 @@ use Rattle.path_core.specs.FastClose.{fast_close_of, having_fast_closed}
 use Rattle.path_core.specs.Handover.{edge_told, having_sent, with_edge_told}
 use Rattle.path_core.specs.MpCapable.{syn_ack_of}
 use Rattle.path_core.specs.Profile.{Profile}
-use Rattle.path_core.specs.Standing.{ack_segment, after_ack_out, answered_ack_out, has_grown, is_connected, is_update_due}
+use Rattle.path_core.specs.Standing.{ack_segment, after_ack_out, answered_ack_out, has_grown, is_connected, is_update_due, tellable_edge}
 use Rattle.path_core.specs.State.{PathState, end_at, goes_on, with_agenda}
 use Rattle.path_core.specs.Steps.{next_round, settled, takes}
 use Rattle.path_core.specs.Timer.{with_timer_settled}
@@ -53,7 +53,7 @@ use Rattle.world_laws.proofs.Writes.Steps.{Lasts, begins_lasts, settled_lasts, u
 use Rattle.whole_paths.specs.AgendaSteps.{is_gone}
 use Rattle.whole_paths.specs.Brought.{IsToReset}
 use Rattle.whole_paths.specs.Brought.{IsToReset as resetting}
-use Rattle.whole_paths.specs.ToldEdges.{TellsEdge, ToldOn, UpdatesIfGrown, WhatIsToldGoesOn, offer, told}
+use Rattle.whole_paths.specs.ToldEdges.{TellsEdge, ToldOn, UpdatesIfGrown, UpdatesTellAll, WhatIsToldGoesOn, offer, told}
 use Rattle.whole_paths.specs.ToldEdges.{ToldOn as told_on}
 use Rattle.whole_paths.proofs.Agendas.{gone_end, own_end}
 use Rattle.whole_paths.proofs.KnownWindows.{duty_told}
@@ -418,24 +418,43 @@ takes_updates r p t others is connected = inr (subst (λ ds. let v : PathState C
 next_updates : (p : PathState Carried) (t : Side) → is_nil p.agenda ≡ true → UpdatesIfGrown t p (next_round p)
 next_updates p t over others is connected = absurd (true≢false (sym over ∙ ap is_nil is))
 
+-- ---- what an Update tells
+
+all_told : (e f : PathEnd) → SameTold e f → told e ≡ tellable_edge e → told f ≡ tellable_edge f
+all_told e f x is = x.told ∙ is ∙ sym (ap (λ n. n + window_told false f.receiving.window) x.next ∙ ap (λ n. e.receiving.next + window_told false n) x.window)
+
+takes_all : (r : Reply) (p : PathState Carried) (t : Side) → UpdatesTellAll t p (takes values r p)
+takes_all r p t others is = inr (⊎_elim (λ update. at (duties.Send (send_duties.Update t)) (own refl) update) (λ ack. at (duties.Send (send_duties.Acknowledge t)) (own refl) ack) is)
+  where
+    own : {f : PathEnd} → f ≡ having_sent to_send.Ack p.clock (ack_segment t p) (end_at t p) → told (pick t (pick t f p.a) (pick t p.b f)) ≡ tellable_edge (pick t (pick t f p.a) (pick t p.b f))
+    own {f} so = subst (λ (g : PathEnd). told g ≡ tellable_edge g) (sym (own_end t f p.a p.b)) (subst (λ (g : PathEnd). told g ≡ tellable_edge g) (sym so) refl)
+
+    at : (d : Duty) → (let y : PathState Carried = answered values d r (with_agenda (d ∷ others) p) in told (end_at t y) ≡ tellable_edge (end_at t y)) → p.agenda ≡ d ∷ others
+        → let z : PathState Carried = takes values r p in told (end_at t z) ≡ tellable_edge (end_at t z)
+    at d now first = subst (λ ds. let z : PathState Carried = takes values r (with_agenda ds p) in told (end_at t z) ≡ tellable_edge (end_at t z)) (sym first)
+        (all_told (end_at t (answered values d r (with_agenda (d ∷ others) p))) (end_at t (takes values r (with_agenda (d ∷ others) p))) (same_then d others r p t) now)
+
+next_all : (p : PathState Carried) (t : Side) → is_nil p.agenda ≡ true → UpdatesTellAll t p (next_round p)
+next_all p t over others is = absurd (true≢false (sym over ∙ ⊎_elim (λ first. ap is_nil first) (λ first. ap is_nil first) is))
+
 -- ---- the world
 
 abbrev ToldTo : Actor Carried → Actor Carried → Type 0
-ToldTo (Path p) (Path q) = (t : Side) → ToldOn t p q × UpdatesIfGrown t p q
+ToldTo (Path p) (Path q) = (t : Side) → ToldOn t p q × UpdatesIfGrown t p q × UpdatesTellAll t p q
 ToldTo (App a) (App b) = Unit {0}
 ToldTo _ _ = ⊥
 
 same_to : (m : Actor Carried) → ToldTo m m
 same_to (App a) = tt
-same_to (Path p) = λ t. (told_on.keeps refl refl (inl refl), λ others is connected. inl refl)
+same_to (Path p) = λ t. (told_on.keeps refl refl (inl refl), λ others is connected. inl refl, λ others is. inl refl)
 
 member_to : (r : Reply) (m : Actor Carried) → ToldTo m (member_takes values r m)
 member_to r (App a) = tt
-member_to r (Path p) = λ t. (takes_told r p t, takes_updates r p t)
+member_to r (Path p) = λ t. (takes_told r p t, takes_updates r p t, takes_all r p t)
 
 member_begins : (m : Actor Carried) → is_over m ≡ true → ToldTo m (member_next m)
 member_begins (App a) over = tt
-member_begins (Path p) over = λ t. (next_told p t, next_updates p t over)
+member_begins (Path p) over = λ t. (next_told p t, next_updates p t over, next_all p t over)
 
 pub what_is_told_goes_on : WhatIsToldGoesOn
 what_is_told_goes_on start turns turn p q here there t =

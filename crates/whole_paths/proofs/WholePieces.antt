@@ -1,6 +1,6 @@
 -- What is sent on a lane is whole pieces, which lie in order: so each copy under way, and each mapping that is known, has all of a record of data or
 -- none of it.
-use Rattle.std.proofs.Common.{replicate, set, ◌≡◌, refl, sym, subst, ap, ◌∙◌, ◌⊎◌, ⊎_elim, inl, inr, ℕ, zero, suc, ◌+◌, ◌<◌, ◌≤◌, ◌==◌, ◌&&◌, ◌||◌, nat_lt, nat_le, arith, Bool, true, false, if◌then◌else◌, Option, Some, None, IfSome, List, [], ◌∷◌, ◌++◌, length}
+use Rattle.std.proofs.Common.{replicate, ◌≡◌, refl, sym, subst, ap, ◌∙◌, ◌⊎◌, ⊎_elim, inl, inr, ℕ, zero, suc, ◌+◌, ◌<◌, ◌≤◌, ◌==◌, ◌&&◌, ◌||◌, nat_lt, nat_le, arith, Bool, true, false, if◌then◌else◌, Option, Some, None, IfSome, List, [], ◌∷◌, ◌++◌, length}
 use Rattle.std.specs.List.{slice_get}
 use Rattle.std.proofs.lemmas.Bool.{cases_lt}
 use Rattle.std.proofs.lemmas.Option.{same_Some, slice_get_within}
@@ -8,11 +8,8 @@ use Rattle.path_segments.specs.Spelled.{PlainSegment}
 use Rattle.sides.specs.declared.side.Side.{Side}
 use Rattle.sides.specs.declared.side.Side.TheVariants.{A, B}
 use Rattle.sides.specs.Side.{peer}
-use Rattle.send_book.specs.declared.call.SendCall.TheVariants as send_calls
 use Rattle.send_book.specs.declared.call.SendReply.{SendReply}
 use Rattle.send_book.specs.declared.call.SendReply.TheVariants as send_replies
-use Rattle.send_book.specs.State.{acked_len}
-use Rattle.send_book.specs.Steps.{after_call}
 use Rattle.reassembly_book.specs.declared.call.ReassemblyReply.{ReassemblyReply}
 use Rattle.reassembly_book.specs.declared.call.ReassemblyReply.TheVariants as reassembly_replies
 use Rattle.dss_mapping.specs.Mappings.{octets_of}
@@ -20,13 +17,11 @@ use Rattle.dss_mapping.specs.declared.kept.KeptMapping.{KeptMapping}
 use Rattle.link_model.specs.declared.flight.Flight.{Flight}
 use Rattle.stream_lanes.specs.Duo.{Duo, Event, after_event, after_events, flags_ab, flags_ba, opening_over}
 use Rattle.stream_lanes.specs.Duo.Event.{ToB, ToA}
-use Rattle.stream_lanes.specs.Holding.{BytesHold, DirectionHolds, Holds, LaneHolds}
-use Rattle.stream_lanes.specs.Lane.{AckCopy, Ask, DataCopy, Lane, Mapping, Pair, lane_over}
-use Rattle.stream_lanes.specs.Lane.Ask.{Nothing, AskGrant, AskAckIn, AskPlace, AskFin, AskAckOut}
+use Rattle.stream_lanes.specs.Holding.{BytesHold, Holds, LaneHolds}
+use Rattle.stream_lanes.specs.Lane.{AckCopy, DataCopy, Lane, Mapping, Pair, lane_over}
 use Rattle.stream_lanes.specs.Moves.{Flags, Move, altered_piece_of, clashes, ends_pair, hears, hears_data_fin, hears_fin, hears_sub, in_order, keeps, learns, learns_mapping, lies_in, may_finish, moved, part_of, passes, piece_of, places, places_pair, sends_altered, sends_fin_pair, sends_pair, sends_piece, takes_ack, takes_ack_out, takes_fin, takes_grant, takes_pair, takes_placed, is_whole}
 use Rattle.stream_lanes.specs.Moves.{Move as move}
-use Rattle.stream_lanes.specs.Streams.{Direction, StreamEvent, after, asks, asks_at, goes_infinite, is_done, may_go, moves, reads}
-use Rattle.stream_lanes.specs.Streams.{StreamEvent as event}
+use Rattle.stream_lanes.specs.Streams.{Direction}
 use Rattle.stream_lanes.specs.View.{View}
 use Rattle.stream_lanes.specs.Words.{Every, Has}
 use Rattle.stream_lanes.proofs.Checking.{length-turned}
@@ -54,8 +49,8 @@ use Rattle.whole_paths.specs.Copies.{IsUnderWay}
 use Rattle.whole_paths.specs.Mending.{IsRecordOf}
 use Rattle.whole_paths.specs.News.{one_if}
 use Rattle.whole_paths.proofs.Boundaries.{part_size}
+use Rattle.whole_paths.proofs.EachLane.{Steps, after_goes}
 use Rattle.whole_paths.proofs.Exchanges.{under_way}
-use Rattle.whole_paths.proofs.Unended.{every_set}
 
 -- ---- a lane
 
@@ -258,56 +253,16 @@ one_piece p h i j m n at there before behind = ⊎_elim
 abbrev AreGranted : Direction → Type 0
 AreGranted d = Every IsGranted d.lanes
 
-module _ (f : Flags) (d : Direction) (holds : DirectionHolds f d) (h : AreGranted d) where
-  lane_goes : (path : ℕ) (p q : Lane) → slice_get d.lanes path ≡ Some p → (BytesHold p.alters p.sent p.pieces p.datas p.edge p.kept p.maps p.acks → IsGranted p → IsGranted q) → Every IsGranted (set d.lanes path q)
-  lane_goes path p q there go = every_set d.lanes path q h (go (holds.lanes.each path path p (omega arith) there).bytes (h.each path p there))
-
-  asks_goes : (path : ℕ) (p : Lane) → slice_get d.lanes path ≡ Some p → (x : Ask) → AreGranted (asks path x p d)
-  asks_goes path p there Nothing = h
-  asks_goes path p there (AskGrant max standby) = lane_goes path p _ there (λ b c. grant_goes p b c _)
-  asks_goes path p there (AskAckIn next window) = lane_goes path p _ there (λ b c. ack_goes p b c next _)
-  asks_goes path p there (AskPlace at bytes) = lane_goes path p _ there (λ b c. arrived_goes p b c (length bytes) _)
-  asks_goes path p there (AskFin at) = lane_goes path p _ there (λ b c. set_goes p b c _)
-  asks_goes path p there AskAckOut = lane_goes path p _ there (λ b c. told_goes p b c _ _)
-
-  asked_goes : (path : ℕ) (o : Option Lane) → slice_get d.lanes path ≡ o → AreGranted (asks_at path o d)
-  asked_goes path None there = h
-  asked_goes path (Some p) there = asks_goes path p there p.asking
-
-  moves_goes : (path : ℕ) (m : Move) (o : Option Lane) → slice_get d.lanes path ≡ o → AreGranted (moves f path m o d)
-  moves_goes path m None there = h
-  moves_goes path m (Some p) there = lane_goes path p _ there (λ b c. moved_goes p b c f path m)
-
-  infinite_goes : (path pos : ℕ) (o : Option Lane) → slice_get d.lanes path ≡ o → AreGranted (goes_infinite path pos o d)
-  infinite_goes path pos None there = h
-  infinite_goes path pos (Some p) there = by (may_go path pos d.send p)
-    where
-      paired : Lane
-      paired = record p { pair = Some (record { pos = pos; place = acked_len d.send.marks }) }
-
-      by : (c : Bool) → AreGranted (if c then record d { send = after_call d.send (send_calls.GoInfinite path); lanes = set d.lanes path paired } else d)
-      by true = lane_goes path p paired there (λ b c. same_granted p paired (refl, refl) c)
-      by false = h
-
-  identity_goes : (c : Bool) → AreGranted (if c then record d { send = after_call d.send send_calls.GoIdentity } else d)
-  identity_goes true = h
-  identity_goes false = h
-
-  read_goes : (max : ℕ) (c : Bool) → AreGranted (if c then d else reads max d)
-  read_goes max true = h
-  read_goes max false = h
-
-  after_goes : (e : StreamEvent) → AreGranted (after f e d)
-  after_goes (event.Write bytes) = h
-  after_goes event.Close = h
-  after_goes (event.Return path) = h
-  after_goes event.GoIdentity = identity_goes f.sender
-  after_goes (event.GoInfinite path pos) = infinite_goes path pos (slice_get d.lanes path) refl
-  after_goes event.AbortSend = h
-  after_goes (event.Read max) = read_goes max (is_done d.reader)
-  after_goes (event.AbortRead by_peer) = h
-  after_goes (event.Moves path m) = moves_goes path m (slice_get d.lanes path) refl
-  after_goes (event.Asks path) = asked_goes path (slice_get d.lanes path) refl
+granted_steps : (f : Flags) → Steps IsGranted f
+granted_steps f = record {
+  moves = λ path m p b c. moved_goes p b c f path m;
+  pairs = λ x p c. same_granted p (record p { pair = Some x }) (refl, refl) c;
+  grants = λ r p b c. grant_goes p b c r;
+  acks = λ next r p b c. ack_goes p b c next r;
+  places = λ at bytes r p b c is. arrived_goes p b c (length bytes) r;
+  ends = λ r p b c. set_goes p b c r;
+  tells = λ next window p b c. told_goes p b c next window;
+}
 
 -- ---- both directions
 
@@ -316,8 +271,8 @@ record BothGranted (w : Duo) : Type 0 where
   ba : AreGranted w.ba
 
 event_goes : (e : Event) (w : Duo) → Holds w → BothGranted w → BothGranted (after_event e w)
-event_goes (ToB e) w held h = record { ab = after_goes (flags_ab w.modes) w.ab held.ab h.ab e; ba = h.ba }
-event_goes (ToA e) w held h = record { ab = h.ab; ba = after_goes (flags_ba w.modes) w.ba held.ba h.ba e }
+event_goes (ToB e) w held h = record { ab = after_goes IsGranted (flags_ab w.modes) w.ab held.ab (granted_steps (flags_ab w.modes)) h.ab e; ba = h.ba }
+event_goes (ToA e) w held h = record { ab = h.ab; ba = after_goes IsGranted (flags_ba w.modes) w.ba held.ba (granted_steps (flags_ba w.modes)) h.ba e }
 event_goes _ w held h = record { ab = h.ab; ba = h.ba }
 
 events_go : (events : List Event) (w : Duo) → ((more : List Event) → Holds (after_events more w)) → BothGranted w → BothGranted (after_events events w)

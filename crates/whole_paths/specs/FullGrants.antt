@@ -18,12 +18,14 @@ use Rattle.whole_paths.specs.Finish.{IsPathAt}
 use Rattle.whole_paths.specs.Mending.{IsRecordOf}
 use Rattle.whole_paths.specs.Mild.{IsMildStart}
 
--- at this position a record of data begins that holds a full segment's payload, or reaches all that is written, or the edge of the peer's window
+-- At this position the end's last record begins, of data, that holds a full segment's payload, or reaches all that is written, or the edge of the
+-- peer's window.
 pub record HoldsAFullPiece (c : Profile) (b : Sending) (from : ℕ) (e : PathEnd) : Type 0 where
   pub piece : Record
   pub there : IsRecordOf e piece
   pub kind : piece.kind ≡ Data
   pub pos : piece.pos ≡ from
+  pub last : e.tcp.send.nxt ≡ end_of piece
   pub full : (from + payload_size c ≤ end_of piece) ⊎ (min (length b.written) b.edge < end_of piece)
 
 -- On the only path of a mild connection, by any turn: SND.NXT of an end that sent no FIN stays, or such a record begins where it was.

@@ -149,6 +149,7 @@ pub mod UnitRounds
 pub mod RisesOwed
 pub mod ToldStays
 pub mod PatientPaths
+pub mod WindowKinds
 pub mod QuietOpenings
 pub mod ShortWaits
 pub mod Rising
@@ -172,3 +173,4 @@ pub mod Opened
 pub mod SignPieces
 pub mod EarlyRecords
 pub mod ProbeWaits
+pub mod WindowStalls

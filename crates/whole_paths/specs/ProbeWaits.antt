@@ -57,7 +57,7 @@ module _ (s : Side) where
     -- the peer owes an acknowledgement
     owed : (end_at (peer s) q).tcp.due.ack ≡ true → ProbeGoesOn start turns turn p q x until
     -- the window opens, or the end sends more: SND.NXT rises
-    opens : (end_at s q).sending.shut ≡ false → ProbeGoesOn start turns turn p q x until
+    opens : (end_at s p).sending.shut ≡ true → (end_at s q).sending.shut ≡ false → ProbeGoesOn start turns turn p q x until
     sends : (end_at s p).tcp.send.nxt < (end_at s q).tcp.send.nxt → ProbeGoesOn start turns turn p q x until
     harmed : is_harmed s p q ≡ true → ProbeGoesOn start turns turn p q x until
     all_there : IsAllThere s (reached values start (turns ++ turn ∷ [])) → ProbeGoesOn start turns turn p q x until

@@ -1,5 +1,5 @@
--- How many of A's records may be lost as path 0 opens, though no segment was harmed: those that its end has, where a copy with octets came to B's end
--- before that may send a DSS (RFC 8684, section 3.1); else none.
+-- How many of A's records may be lost as path 0 opens, though no segment was harmed: those that its end has, where a copy with octets came to B's
+-- end before that may send a DSS (RFC 8684, section 3.1); else none.
 use Rattle.std.specs.Prelude.{ℕ, ◌+◌, ◌≤◌, nat_lt, Bool, false, ◌&&◌, ◌||◌, if◌then◌else◌, Option, Some, None, List, [], ◌∷◌, length, slice_get}
 use Rattle.sides.specs.declared.side.Side.TheVariants.{B}
 use Rattle.sides.specs.declared.side.Side.{Side}

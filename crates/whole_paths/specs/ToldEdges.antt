@@ -8,7 +8,7 @@ use Rattle.path_agenda.specs.declared.duty.AskDuty.TheVariants as ask_duties
 use Rattle.path_agenda.specs.declared.duty.SendDuty.TheVariants as send_duties
 use Rattle.path_segments.specs.Laws.{window_told}
 use Rattle.path_core.specs.End.{PathEnd}
-use Rattle.path_core.specs.Standing.{has_grown, is_connected}
+use Rattle.path_core.specs.Standing.{has_grown, is_connected, tellable_edge}
 use Rattle.path_core.specs.State.{PathState, end_at}
 use Rattle.path_core.specs.Values.{Carried, values}
 use Rattle.world_laws.specs.Openings.{Start}
@@ -44,7 +44,12 @@ UpdatesIfGrown t p q = (others : List Duty) → p.agenda ≡ duties.Ask (ask_dut
     → is_connected (end_at t p).tcp.state ≡ true
     → (q ≡ p) ⊎ ((q.agenda ≡ duties.Send (send_duties.Update t) ∷ others) ⊎ (has_grown q.profile (end_at t q) ≡ false))
 
+-- As an Update or an acknowledgement goes, the window is told as the end could tell it then.
+abbrev pub UpdatesTellAll : Side → PathState Carried → PathState Carried → Type 0
+UpdatesTellAll t p q = (others : List Duty) → (p.agenda ≡ duties.Send (send_duties.Update t) ∷ others) ⊎ (p.agenda ≡ duties.Send (send_duties.Acknowledge t) ∷ others)
+    → (q ≡ p) ⊎ (told (end_at t q) ≡ tellable_edge (end_at t q))
+
 -- by each turn, on path 0
 abbrev pub WhatIsToldGoesOn : Type 0
 WhatIsToldGoesOn = (start : Start) (turns : List Turn) (turn : Turn) → let w = reached values start turns in (p q : PathState Carried)
-    → IsPathAt 0 w p → IsPathAt 0 (after_turn values turn w) q → (t : Side) → ToldOn t p q × UpdatesIfGrown t p q
+    → IsPathAt 0 w p → IsPathAt 0 (after_turn values turn w) q → (t : Side) → ToldOn t p q × UpdatesIfGrown t p q × UpdatesTellAll t p q

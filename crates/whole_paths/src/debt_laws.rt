@@ -187,8 +187,8 @@ pub fn what_runs_out_is_mended()
 /// A law: what the end of the only path of a mild connection is granted is a full segment's payload, or all that there is for it (RFC 9293, section
 /// 3.8.6).
 ///
-/// By any turn SND.NXT of an end that sent no FIN stays; or where it was a record of data begins now that holds a full segment's payload, or reaches
-/// all that is written of the side's stream, or the edge of the peer's window.
+/// By any turn SND.NXT of an end that sent no FIN stays; or where it was the end's last record begins now, of data, that holds a full segment's payload,
+/// or reaches all that is written of the side's stream, or the edge of the peer's window.
 pub fn each_grant_is_full()
     ensures { EachGrantIsFull }
 {}

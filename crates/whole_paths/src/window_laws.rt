@@ -33,7 +33,7 @@ pub fn fitting_files_are_never_shut()
 ///
 /// By each turn on path 0: how far the end was told that its book takes bytes stays, and the edge that it told last stays, or is what it tells then: all of
 /// that, rounded to 32 bytes or as a SYN tells it. Or the end asks its book, as a turn begins, and then tells the window next unless it hasn't grown so; or
-/// it asks behind a copy; or it dies, or is reset.
+/// it asks behind a copy; or it dies, or is reset. As an Update or an acknowledgement goes, all of it is told, but for the rounding.
 pub fn what_is_told_goes_on()
     ensures { WhatIsToldGoesOn }
 {}
