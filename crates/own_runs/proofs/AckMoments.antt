@@ -27,6 +27,7 @@ use Rattle.own_runs.proofs.InTime.{AnswersAt, AnswersPath, ComesAt, InTime, KeyA
 use Rattle.own_runs.proofs.LateJoins.{ComesBehind}
 use Rattle.own_runs.proofs.Moments.{IsSpoken, MemberAlso, MemberSpeaks, PathAlso, PathSpeaks, WorldAlso, WorldSpeaks, path_sends, world_speaks}
 use Rattle.own_runs.proofs.NextTrace.{AcksBy, also_next, octets_append, wants_at, wants_up}
+use Rattle.own_runs.proofs.RoundShown.{tried_shown}
 use Rattle.own_runs.proofs.ShownAcks.{EndTold, IsShown, OfferedAndAcked, both_worlds, read_shown, whole_acks}
 use Rattle.own_runs.proofs.Speaking.{ToSend}
 use Rattle.own_runs.proofs.ToldAcks.{AckShows}
@@ -294,4 +295,4 @@ WholeComes = (start : Start) (turns : List Turn) → IsPlain start → IsWhole s
 
 pub whole_timed : WholeComes → WholeTimed
 whole_timed comes start turns plain whole fit run =
-    ((whole_acks start turns plain whole fit).0, all_timed start turns plain whole fit (λ more later is. comes start more plain whole fit), read_shown start turns plain fit whole)
+    ((whole_acks start turns plain whole fit).0, all_timed start turns plain whole fit (λ more later is. comes start more plain whole fit), read_shown start turns plain fit whole, tried_shown start turns plain fit whole)

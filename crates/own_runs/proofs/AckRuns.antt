@@ -33,9 +33,12 @@ use Rattle.world_laws.specs.NeverFalls.{IsWhole}
 use Rattle.world_laws.specs.Openings.{Start, opened_world}
 use Rattle.world_laws.specs.Promises.{IsPlain, NumbersFit}
 use Rattle.world_laws.specs.Outcomes.{outcome_of, output_of}
-use Rattle.world_laws.specs.Worlds.{Turn, world_run}
+use Rattle.world_laws.specs.Worlds.{Turn, all_over, world_run}
+use Rattle.actor_desk.specs.Books.{books_in}
+use Rattle.actor_desk.specs.Desk.{send_of}
+use Rattle.stream_lanes.specs.Marks.{tried}
 use Rattle.world_laws.specs.declared.outcome.Outcome.TheVariants.{Delivered}
-use Rattle.own_runs.specs.Runs.{DataFinsEndTheFiles, DeliveredRunsShowTheFiles, HasRead, NoWholeRunBreaks, ReadersGetWhatIsShown, SeenOctetsAreTheFiles, ShowsTheFile, StreamsBeginTheFiles, WholeStreamsAreTheFiles, capture_of, file_of}
+use Rattle.own_runs.specs.Runs.{DataFinsEndTheFiles, DeliveredRunsShowTheFiles, HasRead, NoWholeRunBreaks, ReadersGetWhatIsShown, SeenOctetsAreTheFiles, ShowsTheFile, StreamsBeginTheFiles, TriedOctetsAreSeen, WasSeen, WholeStreamsAreTheFiles, capture_of, file_of}
 use Rattle.own_runs.specs.Fitting.{RunFits}
 use Rattle.own_runs.specs.Traces.{FitsCapture, packet_for}
 use Rattle.own_runs.proofs.AckTrace.{IsKnown, StandsAt, narrowed, raised, stands_next}
@@ -184,6 +187,8 @@ abbrev pub WholeTimed : Type 0
 WholeTimed = (start : Start) (turns : List Turn) → IsPlain start → IsWhole start → (fit : NumbersFit start) → RunFits start turns
     → (last : Duo) × AllTimed start last fit (λ n t. 0) [] (λ n. ⊥) (λ n. ⊥) (λ n. ⊥) ⊥ (λ n t. ⊥) (trace_of turns (opened_world start))
     × ((s : Side) (place : ℕ) → place < length (output_of (peer s) (world_run octets turns (opened_world start))) → Has (IsShown start last s place) (trace_of turns (opened_world start)))
+    × (all_over (world_run octets turns (opened_world start)).crew ≡ true → (s : Side) (path place : ℕ) → path < length start.paths
+    → tried path (slice_get (send_of s (books_in (world_run octets turns (opened_world start)).books)).marks place) ≡ true → Has (IsShown start last s place) (trace_of turns (opened_world start)))
 
 module _ (whole_timed : WholeTimed) where
   module _ (start : Start) (turns : List Turn) (plain : IsPlain start) (whole : IsWhole start) (fit : NumbersFit start)
@@ -194,6 +199,8 @@ module _ (whole_timed : WholeTimed) where
 
     abbrev timed : (last : Duo) × AllTimed start last fit (λ n t. 0) [] (λ n. ⊥) (λ n. ⊥) (λ n. ⊥) ⊥ (λ n t. ⊥) trace
         × ((s : Side) (place : ℕ) → place < length (output_of (peer s) (world_run octets turns (opened_world start))) → Has (IsShown start last s place) trace)
+        × (all_over (world_run octets turns (opened_world start)).crew ≡ true → (s : Side) (path place : ℕ) → path < length start.paths
+        → tried path (slice_get (send_of s (books_in (world_run octets turns (opened_world start)).books)).marks place) ≡ true → Has (IsShown start last s place) trace)
     timed = whole_timed start turns plain whole fit run
 
     room : All FitsCapture trace
@@ -253,25 +260,29 @@ module _ (whole_timed : WholeTimed) where
     judged_so judged read connection s stream there =
         ap (λ (j : JudgedValue). stream_in j connection s) (same_judged all_judged judged (sym all_read ∙ read)) ∙ there
 
+    -- what was in a segment was seen
+    pub shown_seen : (s : Side) (place : ℕ) → Has (IsShown start timed.0 s place) trace → WasSeen all_judged s place
+    shown_seen s place shown = by (slice_get all_judged.books 0) refl (all_stood.stands.shown s place shown)
+      where
+        by : (o : Option BookValue) → slice_get all_judged.books 0 ≡ o → is_some o ≡ true → WasSeen all_judged s place
+        by None e some = absurd (false≢true some)
+        by (Some book) e some =
+            record { stream = stream_at s book; there = ap (option_map (stream_at s)) e; seen = (all_stood.stands.hold.books 0 book e s).seen place shown }
+
     -- what was read
     module _ (s : Side) (place : ℕ) (below : place < length (output_of (peer s) (world_run octets turns (opened_world start)))) where
       abbrev output : List ℕ
       output = output_of (peer s) (world_run octets turns (opened_world start))
 
       pub output_shown : HasRead start turns all_judged s place
-      output_shown = by (slice_get all_judged.books 0) refl (all_stood.stands.shown s place (timed.2 s place below))
-        where
-          by : (o : Option BookValue) → slice_get all_judged.books 0 ≡ o → is_some o ≡ true → HasRead start turns all_judged s place
-          by None e some = absurd (false≢true some)
-          by (Some book) e some =
-              let there : stream_in all_judged 0 s ≡ Some (stream_at s book) = ap (option_map (stream_at s)) e in
-              let seen = (all_stood.stands.hold.books 0 book e s).seen place (timed.2 s place below) in
-              record {
-                stream = stream_at s book;
-                there = there;
-                seen = seen;
-                octet = (seen_is 0 s (stream_at s book) there place seen).1 ∙ in_begin output (file_of start s) (read_begins start turns plain fit s) place below;
-              }
+      output_shown =
+          let was = shown_seen s place (timed.2 s place below) in
+          record {
+            stream = was.stream;
+            there = was.there;
+            seen = was.seen;
+            octet = (seen_is 0 s was.stream was.there place was.seen).1 ∙ in_begin output (file_of start s) (read_begins start turns plain fit s) place below;
+          }
 
     -- once it is delivered
     module _ (delivered : outcome_of (world_run octets turns (opened_world start)).crew ≡ Delivered) (s : Side) where
@@ -334,6 +345,11 @@ module _ (whole_timed : WholeTimed) where
   reads_are start turns plain whole fit run side at judged read s place below =
       subst (λ (j : JudgedValue). HasRead start turns j s place) (same_judged (all_judged start turns plain whole fit run side at) judged (sym (all_read start turns plain whole fit run side at) ∙ read))
       (output_shown start turns plain whole fit run side at s place below)
+
+  pub tried_are : TriedOctetsAreSeen
+  tried_are start turns plain whole fit run over side at judged read s path place below is =
+      subst (λ (j : JudgedValue). WasSeen j s place) (same_judged (all_judged start turns plain whole fit run side at) judged (sym (all_read start turns plain whole fit run side at) ∙ read))
+      (shown_seen start turns plain whole fit run side at s place ((whole_timed start turns plain whole fit run).3 over s path place below is))
 
   pub files_are : DeliveredRunsShowTheFiles
   files_are start turns plain whole fit run delivered side at =

@@ -38,7 +38,7 @@ use Rattle.world_laws.specs.declared.member.Member.TheVariants.{Path}
 use Rattle.own_runs.specs.Arrivals.{HasCome, WhatCameWasSent}
 use Rattle.own_runs.specs.Runs.{file_of}
 use Rattle.own_runs.proofs.Granted.{way}
-use Rattle.own_runs.proofs.Handed.{Covers}
+use Rattle.own_runs.proofs.Handed.{Covered, Covers}
 use Rattle.own_runs.proofs.Passed.{AllPassed, WasPassed, always_passed}
 use Rattle.own_runs.proofs.WasSent.{Known, always_known, can}
 
@@ -171,7 +171,7 @@ module _ (start : Start) (plain : IsPlain start) (fit : NumbersFit start) (turns
   abbrev pub w : WorldState Carried
   w = world_run values turns (opened_world start)
 
-  lanes_many : (s : Side) → length (way s d).lanes ≡ length start.paths
+  pub lanes_many : (s : Side) → length (way s d).lanes ≡ length start.paths
   lanes_many A = events_count A k.events (first_duo links start) ∙ length-replicate (length start.paths) _
   lanes_many B = events_count B k.events (first_duo links start) ∙ length-replicate (length start.paths) _
 
@@ -200,6 +200,28 @@ module _ (start : Start) (plain : IsPlain start) (fit : NumbersFit start) (turns
   was_passed s place (inl before) = (passed_of s).before place before
   was_passed s place (inr held) = let low = held.0 in (passed_of s).cells.each (place - (way s d).arrived.read) place held.1.0 (omega (arith, low)) held.1.1
 
+  -- the octet of a cell that is covered
+  pub cell_sent : (s : Side) (place path : ℕ) (lane : Lane) → slice_get (way s d).lanes path ≡ Some lane → (position : ℕ) (cell : Cell) → slice_get lane.sent position ≡ Some cell → cell.place ≡ place
+      → Has (Covered start path s position cell.place) (trace_of turns (opened_world start)) → Has (IsOnLane start d s place) (trace_of turns (opened_world start))
+  cell_sent s place path lane there position cell cell_there place_is has =
+      let held : Covers start path s position cell.place has.item = ⊎_elim (λ c. c) absurd has.holds in
+      let same = held.path in
+      let cover : Covers start path s position place has.item = subst (λ (place : ℕ). Covers start path s position place has.item) place_is held in
+      record {
+        at = has.at;
+        item = has.item;
+        there = has.there;
+        holds = record {
+          position = position;
+          lane = lane;
+          there = ap (slice_get (way s d).lanes) same ∙ there;
+          cell = cell;
+          cell_there = cell_there;
+          place_is = place_is;
+          covers = subst (λ (n : ℕ). Covers start n s position place has.item) (sym same) cover;
+        };
+      }
+
   pub was_sent : (s : Side) (place : ℕ) → WasPassed (way s d).lanes place → Has (IsOnLane start d s place) (trace_of turns (opened_world start))
   was_sent s place h =
       let many = lanes_many s in
@@ -207,24 +229,7 @@ module _ (start : Start) (plain : IsPlain start) (fit : NumbersFit start) (turns
       let actor = path_at h.path (omega (arith, many, inside)) in
       let side = k.sent h.path actor.0 actor.1 actor.2 actor.3 s h.lane h.there in
       let edge = side.edge in let below = h.below in
-      let has = side.told h.position h.cell (omega (arith, edge, below)) h.cell_there in
-      let held : Covers start h.path s h.position h.cell.place has.item = ⊎_elim (λ c. c) absurd has.holds in
-      let path = held.path in
-      let cover : Covers start h.path s h.position place has.item = subst (λ (place : ℕ). Covers start h.path s h.position place has.item) h.place_is held in
-      record {
-        at = has.at;
-        item = has.item;
-        there = has.there;
-        holds = record {
-          position = h.position;
-          lane = h.lane;
-          there = ap (slice_get (way s d).lanes) path ∙ h.there;
-          cell = h.cell;
-          cell_there = h.cell_there;
-          place_is = h.place_is;
-          covers = subst (λ (n : ℕ). Covers start n s h.position place has.item) (sym path) cover;
-        };
-      }
+      cell_sent s place h.path h.lane h.there h.position h.cell h.cell_there h.place_is (side.told h.position h.cell (omega (arith, edge, below)) h.cell_there)
 
 pub on_lane_carries : (start : Start) (e : Duo) (s : Side) (place : ℕ) (x : Sent) → IsOnLane start e s place x → CarriesPlace s (file_of start s) place x
 on_lane_carries start e s place x h = carries start x.path s h.position place x h.covers

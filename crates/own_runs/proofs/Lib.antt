@@ -102,6 +102,7 @@ mod ReadEnds
 mod ReadingBack
 mod RecordsKept
 mod ResetTrace
+mod RoundShown
 mod Sayings
 mod Segments
 mod SentGrows

@@ -194,17 +194,22 @@ module _ (start : Start) (turns : List Turn) (plain : IsPlain start) (fit : Numb
   output_same r =
       ap (λ (v : WorldState (List ℕ)). output_of r v) (run_fresh start turns plain.size fit) ∙ ap read_by (same_notes_of r (world_run values turns (opened_world start)))
 
+  -- what is on the lanes was in a segment
+  pub shown_by : (whole : IsWhole start) (s : Side) (place : ℕ) → ((k : Known start plain fit turns) → Has (IsOnLane start (d start plain fit turns k) s place) (trace_of turns (opened_world start)))
+      → Has (IsShown start (whole_acks start turns plain whole fit).0 s place) (trace_of turns (opened_world start))
+  unfolding whole_acks
+  shown_by whole s place lanes =
+      let all = known_reaches start plain fit turns in
+      let r = all.1 turns [] (append-nil turns) in
+      has_map (trace_of turns (opened_world start)) (shown_last start (d start plain fit turns r.0) all.0 r.1 s place) (lanes r.0)
+
   -- each octet of it was in a segment
   pub read_shown : (whole : IsWhole start) (s : Side) (place : ℕ) → place < length (output_of (peer s) run)
       → Has (IsShown start (whole_acks start turns plain whole fit).0 s place) (trace_of turns (opened_world start))
-  unfolding whole_acks
-  read_shown whole s place below =
-      let all = known_reaches start plain fit turns in
-      let r = all.1 turns [] (append-nil turns) in
+  read_shown whole s place below = shown_by whole s place (λ k.
       let same = ap length (output_same (peer s)) in
-      let count = read_count start plain fit turns r.0 s in
-      has_map (trace_of turns (opened_world start)) (shown_last start (d start plain fit turns r.0) all.0 r.1 s place)
-      (was_sent start plain fit turns r.0 s place ((passed_of start plain fit turns r.0 s).before place (omega (arith, below, same, count))))
+      let count = read_count start plain fit turns k s in
+      was_sent start plain fit turns k s place ((passed_of start plain fit turns k s).before place (omega (arith, below, same, count))))
 
   -- it is a first part of the other side's file
   pub read_begins : (s : Side) → IsPrefix (output_of (peer s) run) (file_of start s)

@@ -290,12 +290,12 @@ module _ (start : Start) (trace more : List Sent) (n : ℕ) (s : Side) (p : Path
 
 -- ---- a turn
 
-over_at : (crew : List (ActorCrew Carried)) (i : ℕ) (c : ActorCrew Carried) → all_over crew ≡ true → slice_get crew i ≡ Some c → is_over c.member ≡ true
+pub over_at : (crew : List (ActorCrew Carried)) (i : ℕ) (c : ActorCrew Carried) → all_over crew ≡ true → slice_get crew i ≡ Some c → is_over c.member ≡ true
 over_at [] i c over there = cc
 over_at (x ∷ crew) zero c over there = subst (λ (y : ActorCrew Carried). is_over y.member ≡ true) (some_same x c there) (and_parts (is_over x.member) (all_over crew) over).0
 over_at (x ∷ crew) (suc i) c over there = over_at crew i c (and_parts (is_over x.member) (all_over crew) over).1 there
 
-waits_none : (start : Start) (s : Side) (p : PathState Carried) (lane : Lane) (upto : ℕ) → is_nil p.agenda ≡ true → Waits start s p lane upto → ⊥
+pub waits_none : (start : Start) (s : Side) (p : PathState Carried) (lane : Lane) (upto : ℕ) → is_nil p.agenda ≡ true → Waits start s p lane upto → ⊥
 waits_none start s p lane upto over waits = by p.agenda over waits.next.sends
   where
     by : (todo : List Duty) → is_nil todo ≡ true → first_sends todo p ≡ unsent_sends s (Some waits.next.record_of) → ⊥

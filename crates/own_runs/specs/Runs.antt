@@ -20,7 +20,10 @@ use Rattle.world_laws.specs.Openings.{Start, opened_world}
 use Rattle.world_laws.specs.NeverFalls.{IsWhole}
 use Rattle.world_laws.specs.Outcomes.{outcome_of, output_of}
 use Rattle.world_laws.specs.Promises.{HasRoom, IsPlain, NumbersFit}
-use Rattle.world_laws.specs.Worlds.{Turn, world_run}
+use Rattle.world_laws.specs.Worlds.{Turn, all_over, world_run}
+use Rattle.actor_desk.specs.Books.{books_in}
+use Rattle.actor_desk.specs.Desk.{send_of}
+use Rattle.stream_lanes.specs.Marks.{tried}
 use Rattle.world_laws.specs.declared.outcome.Outcome.TheVariants.{Delivered}
 use Rattle.own_runs.specs.Fitting.{RunFits}
 
@@ -82,6 +85,21 @@ DeliveredRunsShowTheFiles =
     (start : Start) (turns : List Turn) → IsPlain start → IsWhole start → NumbersFit start → RunFits start turns
     → outcome_of (world_run octets turns (opened_world start)).crew ≡ Delivered → (side : Side) (at : Option Side)
     → (judged : JudgedValue) × (judged_capture at true (capture_of start turns side) ≡ Ok judged) × ((s : Side) → ShowsTheFile start s judged)
+
+-- the octet of this place of a side's stream was seen, in a capture's first connection
+pub record WasSeen (judged : JudgedValue) (s : Side) (place : ℕ) : Type 0 where
+  pub stream : StreamValue
+  pub there : stream_in judged 0 s ≡ Some stream
+  pub seen : stream.seen place ≡ true
+
+-- As a round ends, where each actor's turn is over, no octet waits: each that was granted to a path, and isn't acknowledged, was seen.
+abbrev pub TriedOctetsAreSeen : Type 0
+TriedOctetsAreSeen =
+    (start : Start) (turns : List Turn) → IsPlain start → IsWhole start → NumbersFit start → RunFits start turns
+    → all_over (world_run octets turns (opened_world start)).crew ≡ true
+    → (side : Side) (at : Option Side) (judged : JudgedValue) → judged_capture at true (capture_of start turns side) ≡ Ok judged
+    → (s : Side) (path place : ℕ) → path < length start.paths
+    → tried path (slice_get (send_of s (books_in (world_run octets turns (opened_world start)).books)).marks place) ≡ true → WasSeen judged s place
 
 -- After these turns the octet that the other side's application has read at this place stands there in a capture's first connection, and was seen.
 pub record HasRead (start : Start) (turns : List Turn) (judged : JudgedValue) (s : Side) (place : ℕ) : Type 0 where

@@ -5,7 +5,7 @@ ghost use Rattle.own_runs.specs.Fitting.{TracesFit};
 ghost use Rattle.own_runs.specs.Handshakes.{EachComesInOrder};
 ghost use Rattle.own_runs.specs.KeysShown.{EachComesBehindKeys, EachShowsKeysSo};
 ghost use Rattle.own_runs.specs.Packets.{CapturesAreTheirPackets};
-ghost use Rattle.own_runs.specs.Runs.{DataFinsEndTheFiles, DeliveredRunsShowTheFiles, NoPlainRunBreaks, NoRunBreaks, NoWholeRunBreaks, ReadersGetWhatIsShown, SeenOctetsAreTheFiles, StreamsBeginTheFiles, WholeStreamsAreTheFiles};
+ghost use Rattle.own_runs.specs.Runs.{DataFinsEndTheFiles, DeliveredRunsShowTheFiles, NoPlainRunBreaks, NoRunBreaks, NoWholeRunBreaks, ReadersGetWhatIsShown, SeenOctetsAreTheFiles, StreamsBeginTheFiles, TriedOctetsAreSeen, WholeStreamsAreTheFiles};
 ghost use Rattle.own_runs.specs.Segments.{SegmentsAreFound, WrittenSegmentsAreFound};
 ghost use Rattle.own_runs.specs.Traces.{TracesAreTheirPackets, TracesAreTheirSegments};
 ghost use Rattle.own_runs.specs.ResetsEnd.{EachResetEnds};
@@ -108,7 +108,8 @@ pub fn whole_runs_end_well()
 /// stands behind the file's last octet (`ends`, RFC 8684, section 3.3.3), so where all octets before it are there it is the file (`whole`). Else
 /// as in `whole_runs_break_no_rule`. Once such a run is delivered its capture is read, and shows both files whole, each with its DATA_FIN
 /// (`delivered`). Whether it is or not, an application has read nothing that the capture doesn't show: each octet that it has read was seen, in
-/// the other side's stream, at its place (`read`).
+/// the other side's stream, at its place (`read`). As a round ends, where each actor's turn is over, each octet that was granted to a path, and
+/// isn't acknowledged, was seen (`tried`).
 pub fn captures_show_the_files()
     ensures begins { StreamsBeginTheFiles }
     ensures seen { SeenOctetsAreTheFiles }
@@ -116,6 +117,7 @@ pub fn captures_show_the_files()
     ensures whole { WholeStreamsAreTheFiles }
     ensures delivered { DeliveredRunsShowTheFiles }
     ensures read { ReadersGetWhatIsShown }
+    ensures tried { TriedOctetsAreSeen }
 {}
 
 /// A law: each octet that came to a side, whether its reader has it or the book of the side holds it, was in a segment that the other side

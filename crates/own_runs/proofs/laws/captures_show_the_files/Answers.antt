@@ -1,4 +1,4 @@
-use Rattle.own_runs.proofs.AckRuns.{ends_are, files_are, reads_are, seen_are, streams_are, whole_are}
+use Rattle.own_runs.proofs.AckRuns.{ends_are, files_are, reads_are, seen_are, streams_are, tried_are, whole_are}
 use Rattle.own_runs.proofs.TimeRuns.{timed}
 use Rattle.own_runs.proofs.laws.captures_show_the_files.Goals as goal
 
@@ -19,3 +19,6 @@ returns-clause-delivered c = files_are timed
 
 pub returns-clause-read : goal.returns-clause-read
 returns-clause-read c = reads_are timed
+
+pub returns-clause-tried : goal.returns-clause-tried
+returns-clause-tried c = tried_are timed
