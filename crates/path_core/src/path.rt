@@ -28,7 +28,8 @@ use subflow_tcp::State;
 /// segment. A segment is on its way for a tick or longer, and so a timeout is.
 #[derive(Drop)]
 pub struct Path {
-    state: PathState,
+    // 7 KiB, which lie in memory of their own, so that an actor is moved cheaply.
+    state: Box<PathState>,
 }
 
 impl Model for Path {
@@ -43,9 +44,9 @@ impl Model for Path {
 
     ghost coded = { Prim.hlevel (codes, mappings_code) };
 
-    ghost view = { λ p. p.state };
+    ghost view = { λ p. p.state.value };
 
-    ghost invariant = { λ p. (is_none (passable p.state) ≡ true) × TakesTime p.state };
+    ghost invariant = { λ p. (is_none (passable p.state.value) ≡ true) × TakesTime p.state.value };
 }
 
 impl Path {
@@ -54,7 +55,7 @@ impl Path {
     ///
     /// # Errors
     ///
-    /// Only where there is no memory for the script's lines.
+    /// Only where there is no memory for the path and the script's lines.
     pub fn new(alloc: Global, script: &Script, path: u8) -> Result<Self, AllocError>
         requires ranges { HasRanges script.now }
         requires path { path < length script.now.paths }
@@ -62,7 +63,10 @@ impl Path {
     {
         let state = PathState::new(alloc, script, path)?;
         state.takes_time();
-        Ok(Path { state })
+        match Box::new(alloc, state) {
+            Ok(state) => Ok(Path { state }),
+            Err(_) => Err(AllocError),
+        }
     }
 
     /// Its turn ends, whatever replies of the asked kind come, and so does the turn that the next round begins.
@@ -71,7 +75,7 @@ impl Path {
         ensures round { Ends octets (next_round self.now) }
     {
         // For the proof: the invariant of the state.
-        let _state = &self.state;
+        let _state = &*self.state;
     }
 
     /// The number of the path, below 16.
