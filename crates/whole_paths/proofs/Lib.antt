@@ -293,3 +293,5 @@ pub mod EarlyRecords
 pub mod ProbeWaits
 pub mod EachLane
 pub mod WindowStalls
+pub mod PlainQueues
+pub mod QuietTexts

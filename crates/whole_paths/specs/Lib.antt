@@ -175,3 +175,4 @@ pub mod SignPieces
 pub mod EarlyRecords
 pub mod ProbeWaits
 pub mod WindowStalls
+pub mod QuietTexts

@@ -5,6 +5,7 @@ ghost use Rattle.path_core.specs.Octets.{octets};
 ghost use Rattle.path_core.specs.Values.{values};
 ghost use Rattle.whole_paths.specs.EarlyRecords.{EarlyNeverFalls, EarlyOverOctets, OpensOwingRecords};
 ghost use Rattle.whole_paths.specs.FirstPiecesSoon.{EachFirstPieceComesSoon};
+ghost use Rattle.whole_paths.specs.QuietTexts.{NothingComesEarlyByText};
 ghost use Rattle.whole_paths.specs.SignPieces.{EachSignPieceComes};
 ghost use Rattle.whole_paths.specs.SynsSoon.{EachSynComesSoon};
 
@@ -57,4 +58,13 @@ pub fn paths_open_owing_records()
     ensures early_values { EarlyNeverFalls values }
     ensures early_octets { EarlyNeverFalls octets }
     ensures over_octets { EarlyOverOctets }
+{}
+
+/// A law: where no line of the script moves a segment of A's, none with octets comes to B's end before that may send a DSS, over the only path of a
+/// mild connection (RFC 8684, section 3.1).
+///
+/// A's copies come in the order in which they were sent. The first one that acknowledges B's SYN has no octet, and shows both keys. It is said of fewer
+/// than 2^64 - 1 turns by which no end died, over a path of 400 ticks at most.
+pub fn nothing_comes_early_by_text()
+    ensures { NothingComesEarlyByText }
 {}
