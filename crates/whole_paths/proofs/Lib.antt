@@ -295,3 +295,4 @@ pub mod EachLane
 pub mod WindowStalls
 pub mod PlainQueues
 pub mod QuietTexts
+pub mod FewTexts

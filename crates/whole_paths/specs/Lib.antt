@@ -176,3 +176,4 @@ pub mod EarlyRecords
 pub mod ProbeWaits
 pub mod WindowStalls
 pub mod QuietTexts
+pub mod FewTexts

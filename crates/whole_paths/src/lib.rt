@@ -206,6 +206,7 @@ pub use opening_laws::each_syn_ack_is_answered_soon;
 pub use opening_laws::each_syn_comes_soon;
 pub use opening_laws::nothing_comes_early_by_text;
 pub use opening_laws::paths_open_owing_records;
+pub use patience_laws::few_texts_deliver;
 pub use patience_laws::patient_paths_deliver;
 pub use window_laws::each_turn_asks_its_window;
 pub use window_laws::fitting_files_are_never_shut;

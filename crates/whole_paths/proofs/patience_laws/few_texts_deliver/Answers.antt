@@ -1,0 +1,8 @@
+use Rattle.whole_paths.proofs.FewTexts.{few_texts_finish, few_texts_go_on}
+use Rattle.whole_paths.proofs.patience_laws.few_texts_deliver.Goals as goal
+
+pub returns-clause-finish : goal.returns-clause-finish
+returns-clause-finish c = few_texts_finish
+
+pub returns-clause-go_on : goal.returns-clause-go_on
+returns-clause-go_on c = few_texts_go_on
