@@ -296,3 +296,4 @@ pub mod WindowStalls
 pub mod PlainQueues
 pub mod QuietTexts
 pub mod FewTexts
+pub mod BriefRuns

@@ -1,8 +1,9 @@
 -- What is promised of the text of a script of one path by which few segments are lost or late, for runs that carry octets.
-use Rattle.std.specs.Prelude.{ℕ, ◌≡◌, ◌≤◌, ◌⊎◌, not, true, List}
+use Rattle.std.specs.Prelude.{ℕ, ◌≡◌, ◌<◌, ◌≤◌, ◌^◌, ◌⊎◌, not, true, List, [], ◌∷◌, length}
 use Rattle.std.specs.List.{list_all}
 use Rattle.link_script.specs.declared.script.PathLine.{PathLine}
 use Rattle.link_script.specs.declared.script.Script.{Script}
+use Rattle.stream_lanes.specs.Words.{Every}
 use Rattle.path_core.specs.Octets.{octets}
 use Rattle.world_laws.specs.declared.outcome.Outcome.{Outcome}
 use Rattle.world_laws.specs.declared.outcome.Outcome.TheVariants.{Delivered, Going}
@@ -36,3 +37,9 @@ FewTextsFinish = OfFewLosses (λ enough turns outcome. enough ≤ rounds_in turn
 -- until then it goes on: no reader is told of an abort, and the path lives
 abbrev pub FewTextsGoOn : Type 0
 FewTextsGoOn = OfFewLosses (λ enough turns outcome. (outcome ≡ Going) ⊎ (outcome ≡ Delivered))
+
+-- Fewer than 2^57 steps of each actor of a connection over one path are fewer than 2^64 - 1 turns: a round has a step of the path.
+abbrev pub FewStepsAreBrief : Type 0
+FewStepsAreBrief = (script : Script) (path : PathLine) (file_a file_b : List ℕ) (turns : List Turn) → script.paths ≡ path ∷ []
+    → AreLawful octets turns (opened script file_a file_b) → Every (λ c. length c.list < 2 ^ 57) (run_of octets script file_a file_b turns).crew
+    → IsBrief script turns
