@@ -95,6 +95,7 @@ pub fn make_turns<O: Outside>(
     requires few { lines ≤ 3 }
     ensures ok { OnOk result (CourseMade (course.told (all_turns order.now)) run.old.opening
         run.old.world.state run.new.world.state (O.told outside.old) (O.told outside.new)) }
+    ensures stands { OnOk result (run.new.world.failed ≡ false) }
     ensures stop { IfErr result (LogStops (all_turns order.now) lines
         run.old.opening run.old.world.state (O.told outside.old) (O.told outside.new)) }
     ensures cause { IfErr result
