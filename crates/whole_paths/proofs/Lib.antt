@@ -193,6 +193,7 @@ pub mod Waiting
 pub mod WellOctets
 pub mod WindowRoom
 pub mod WindowWaits
+pub mod Wanted
 pub mod WindowsHeard
 pub mod Writers
 pub mod Endings

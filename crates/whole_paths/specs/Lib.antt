@@ -107,6 +107,7 @@ pub mod Unstopped
 pub mod Waits
 pub mod WindowRoom
 pub mod WindowWaits
+pub mod Wanted
 pub mod WindowsHeard
 pub mod WideWindows
 pub mod BareSegments
