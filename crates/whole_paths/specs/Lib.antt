@@ -109,7 +109,6 @@ pub mod WindowRoom
 pub mod WindowWaits
 pub mod Wanted
 pub mod WindowsHeard
-pub mod WideWindows
 pub mod BareSegments
 pub mod FinsComing
 pub mod OneDebt
