@@ -175,3 +175,5 @@ pub mod SignPieces
 pub mod EarlyRecords
 pub mod ProbeWaits
 pub mod WindowStalls
+pub mod Holders
+pub mod GivenBack
