@@ -29,7 +29,7 @@ use Rattle.path_core.specs.Steps.{asks_first}
 use Rattle.path_core.specs.Values.{values}
 use Rattle.world_laws.specs.declared.member.Member.TheVariants.{App, Path}
 use Rattle.world_laws.specs.Actors.{Actor, ActorCrew}
-use Rattle.world_laws.specs.Openings.{opened_world}
+use Rattle.world_laws.specs.Openings.{Start, opened_world}
 use Rattle.world_laws.specs.Promises.{written_by}
 use Rattle.world_laws.specs.RoundDone.{reached}
 use Rattle.world_laws.specs.Worlds.{Turn, WorldState, after_turn}
@@ -68,7 +68,7 @@ module _ {X : Type 0} (t : Option X → Bool) (never : t None ≡ false) where
   count_up (x ∷ xs) (y ∷ ys) keeps =
       let rest = count_up xs ys (λ place. keeps (suc place)) in let first = one_more (t (Some x)) (t (Some y)) (keeps 0) in omega (arith, rest, first, count_first x xs, count_first y ys)
 
-  count_rises : (place : ℕ) (xs ys : List X) → ((place : ℕ) → t (slice_get xs place) ≡ true → t (slice_get ys place) ≡ true) → t (slice_get xs place) ≡ false → t (slice_get ys place) ≡ true
+  pub count_rises : (place : ℕ) (xs ys : List X) → ((place : ℕ) → t (slice_get xs place) ≡ true → t (slice_get ys place) ≡ true) → t (slice_get xs place) ≡ false → t (slice_get ys place) ≡ true
       → count xs < count ys
   count_rises place xs [] keeps was is = absurd (both_ways (t None) never is)
   count_rises zero [] (y ∷ ys) keeps was is = let first : cond {A = ℕ} (t (Some y)) 1 0 ≡ 1 = ap (λ b. cond {A = ℕ} b 1 0) is in omega (arith, first, count_first y ys)
@@ -100,14 +100,14 @@ ask_marks B place (asks.Control B call) six P stays by = stays _
 ask_marks A place (asks.Local step) six P stays by = stays _
 ask_marks B place (asks.Local step) six P stays by = stays _
 
-ask_lets_go : (s : Side) (path place : ℕ) (x : Ask) (six : SixBooks) → let_go path (slice_get (send_of s six).marks place) ≡ true → let_go path (slice_get (send_of s (after_ask x six)).marks place) ≡ true
+pub ask_lets_go : (s : Side) (path place : ℕ) (x : Ask) (six : SixBooks) → let_go path (slice_get (send_of s six).marks place) ≡ true → let_go path (slice_get (send_of s (after_ask x six)).marks place) ≡ true
 ask_lets_go s path place x six = ask_marks s place x six (λ o q. let_go path o ≡ true → let_go path q ≡ true) (λ o gone. gone) (λ call o q step gone. let_go_stays path call o q step gone)
 
 given_up : (s : Side) (path : ℕ) (x : Ask) (six : SixBooks) → given_back path (send_of s six).marks ≤ given_back path (send_of s (after_ask x six)).marks
 given_up s path x six = count_up (let_go path) refl (send_of s six).marks (send_of s (after_ask x six)).marks (λ place. ask_lets_go s path place x six)
 
 -- each holder tried its byte
-abbrev rightly : Option ByteMark → Bool
+abbrev pub rightly : Option ByteMark → Bool
 rightly None = true
 rightly (Some mark) = is_held_rightly mark
 
@@ -127,7 +127,7 @@ rightly_step call o q (gives asker max standby among asks there untried is) h = 
 rightly_step call o q (acked m there is) h = ap rightly is
 rightly_step call o q (returns asker m asks there is) h = ap rightly is ∙ rightly_returned asker m (sym (ap rightly there) ∙ h)
 
-abbrev AreRightly : SixBooks → Type 0
+abbrev pub AreRightly : SixBooks → Type 0
 AreRightly six = (s : Side) (place : ℕ) → rightly (slice_get (send_of s six).marks place) ≡ true
 
 ask_rightly : (x : Ask) (six : SixBooks) → AreRightly six → AreRightly (after_ask x six)
@@ -135,7 +135,7 @@ ask_rightly x six h s place = ask_marks s place x six (λ o q. rightly o ≡ tru
 
 -- ---- what is held is let go as it is given back
 
-held_apart : (n : ℕ) (o : Option ByteMark) → holds n o ≡ true → let_go n o ≡ false
+pub held_apart : (n : ℕ) (o : Option ByteMark) → holds n o ≡ true → let_go n o ≡ false
 held_apart n None held = absurd (true≢false (sym held))
 held_apart n (Some Acked) held = absurd (true≢false (sym held))
 held_apart n (Some (Free among)) held = absurd (true≢false (sym held))
@@ -157,7 +157,7 @@ gone_returned n asker (Free among) right held away = absurd (true≢false (sym h
 gone_returned n asker (Held holder among) right held away = gone_if n holder among (holder == asker) (subst (λ (x : ℕ). contains x among ≡ true) (eqb-true holder n held) right) held away
 
 -- what a path held before a call, and doesn't hold after it, it let go
-gone_step : (n : ℕ) (call : SendCall) (o q : Option ByteMark) → MarkStep call o q → holds n q ≡ false → rightly o ≡ true → holds n o ≡ true → let_go n q ≡ true
+pub gone_step : (n : ℕ) (call : SendCall) (o q : Option ByteMark) → MarkStep call o q → holds n q ≡ false → rightly o ≡ true → holds n o ≡ true → let_go n q ≡ true
 gone_step n call o q (same is) none right held = absurd (true≢false (sym held ∙ sym (ap (holds n) is) ∙ none))
 gone_step n call o q (is_written isn't is) none right held = absurd (true≢false (sym held ∙ ap (holds n) isn't))
 gone_step n call o q (gives asker max standby among asks there untried is) none right held = absurd (true≢false (sym held ∙ ap (holds n) there))
@@ -172,6 +172,9 @@ module _ {C : Type 0} (k : Codec C) where
       let w = reached k start before in
       books_by_turns k (λ six. given_back path (written_by s w).marks ≤ given_back path (send_of s six).marks)
       (λ x six low. let up = given_up s path x six in omega (arith, low, up)) more w (le_refl _)
+
+  pub marks_are_right : (start : Start) (turns : List Turn) → AreRightly (books_in (reached k start turns).books)
+  marks_are_right start turns = books_by_turns k AreRightly (λ x six h. ask_rightly x six h) turns (opened_world start) (elim [ A ↦ λ place. refl | B ↦ λ place. refl ])
 
   -- from the six books to what an ask makes of them
   record Gave (s : Side) (path : ℕ) (six after : SixBooks) : Type 0 where
@@ -221,17 +224,10 @@ module _ {C : Type 0} (k : Codec C) where
       numbered : path_of p ≡ number
       numbered = let named = (subst (IsNamed k (2 + number)) here.is ((always_known k start turns).named (2 + number) here.crew here.there)).0 in omega (arith, named)
 
-      right : AreRightly (books_in w.books)
-      right = books_by_turns k AreRightly (λ x six h. ask_rightly x six h) turns (opened_world start) first_right
-        where
-          first_right : AreRightly (books_in (opened_world {C = C} start).books)
-          first_right A place = refl
-          first_right B place = refl
-
       gives : Gave s (path_of p) (books_in w.books) (books_in v.books) → GivesBack s number w v
       gives g = subst (λ n. GivesBack s n w v) numbered (record {
         none = g.none;
-        more = λ place held. count_rises (let_go (path_of p)) refl place (written_by s w).marks (written_by s v).marks g.keeps (held_apart (path_of p) (slice_get (written_by s w).marks place) held) (g.gone place (right s place) held);
+        more = λ place held. count_rises (let_go (path_of p)) refl place (written_by s w).marks (written_by s v).marks g.keeps (held_apart (path_of p) (slice_get (written_by s w).marks place) held) (g.gone place (marks_are_right start turns s place) held);
       })
 
       by : (e : ActorCrew C) → slice_get v.crew (2 + number) ≡ Some e → (m : Actor C) → e.member ≡ m → PathsBetween Returns w.books v.books e.list (Path p) e.member

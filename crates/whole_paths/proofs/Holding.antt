@@ -104,6 +104,13 @@ past_so phase.Established is = (omega arith, refl)
 past_so phase.CloseWait is = (omega arith, refl)
 past_so _ is = absurd (true≢false (sym is))
 
+-- an agenda that is over has nobody leave
+pub never_leaves : (s : Side) (ds : List Duty) → is_nil ds ≡ true → IsToLeave s ds → ⊥
+never_leaves s ds none (leaving.leaves others) = absurd (true≢false (sym none))
+never_leaves s ds none (leaving.resets others) = absurd (true≢false (sym none))
+never_leaves s ds none (leaving.behind t others l) = absurd (true≢false (sym none))
+never_leaves s ds none (leaving.behind_dead t others l) = absurd (true≢false (sym none))
+
 module _ {C : Type 0} (k : Codec C) where
   -- the path that asks for bytes is the one that they are asked for, and its end is open
   pub record MayAsk (s : Side) (number : ℕ) (p : PathState C) : Type 0 where
@@ -236,12 +243,6 @@ module _ {C : Type 0} (k : Codec C) where
     module _ (over : all_over w.crew ≡ true) where
       abbrev u : WorldState C
       u = record w { crew = map (begins (greatest 0 w.crew)) w.crew }
-
-      never_leaves : (s : Side) (ds : List Duty) → is_nil ds ≡ true → IsToLeave s ds → ⊥
-      never_leaves s ds none (leaving.leaves others) = absurd (true≢false (sym none))
-      never_leaves s ds none (leaving.resets others) = absurd (true≢false (sym none))
-      never_leaves s ds none (leaving.behind t others l) = absurd (true≢false (sym none))
-      never_leaves s ds none (leaving.behind_dead t others l) = absurd (true≢false (sym none))
 
       next_may : (s : Side) (p : PathState C) → is_nil p.agenda ≡ true → MayHold s p → MayHold s (next_round p)
       next_may s p none g = record {

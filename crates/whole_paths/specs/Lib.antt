@@ -177,3 +177,4 @@ pub mod ProbeWaits
 pub mod WindowStalls
 pub mod Holders
 pub mod GivenBack
+pub mod HolderWaits

@@ -4,6 +4,7 @@ ghost use Rattle.path_core.specs.Values.{values};
 ghost use Rattle.world_laws.specs.Laws.{Always};
 ghost use Rattle.world_laws.specs.Promises.{HoldsAnyway, HoldsAnywayOfOctets};
 ghost use Rattle.whole_paths.specs.GivenBack.{EachReturnCounts, GivenBackIsBounded, GivenBackNeverFalls};
+ghost use Rattle.whole_paths.specs.HolderWaits.{HoldersLetGo};
 ghost use Rattle.whole_paths.specs.Holders.{HoldersLive, WhatIsTriedIsAwaited};
 
 /// A law: a byte that a path tried and that isn't acknowledged stands in a piece that the path's end waits for, whatever the links do, over any number of
@@ -34,4 +35,13 @@ pub fn what_is_given_back_counts()
     ensures returns_octets { EachReturnCounts octets }
     ensures returns { EachReturnCounts values }
     ensures bounded { GivenBackIsBounded }
+{}
+
+/// A law: a byte that a path holds is acknowledged or given back within a minute, or there is news at the path's end, or it dies (RFC 6298, section 5).
+///
+/// Where the path's turn is over the end's timer runs, for a minute at most (`begins`). By each turn it runs still, to the same tick, or it ran out, and to
+/// give back comes next (`goes_on`); and no turn is over in a round that ends past the tick (`due`). So it is of each path of a connection, whatever its link
+/// does.
+pub fn holders_let_go()
+    ensures { HoldersLetGo }
 {}
