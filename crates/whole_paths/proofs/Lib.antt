@@ -292,3 +292,9 @@ pub mod EarlyRecords
 pub mod ProbeWaits
 pub mod EachLane
 pub mod WindowStalls
+pub mod MarkSteps
+pub mod TriedBytes
+pub mod Leaving
+pub mod Holding
+pub mod GivenBack
+pub mod HolderWaits

@@ -175,3 +175,6 @@ pub mod SignPieces
 pub mod EarlyRecords
 pub mod ProbeWaits
 pub mod WindowStalls
+pub mod Holders
+pub mod GivenBack
+pub mod HolderWaits

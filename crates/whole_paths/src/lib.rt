@@ -24,6 +24,7 @@
 mod debt_laws;
 mod delivery_laws;
 mod expiry_laws;
+mod holder_laws;
 mod laws;
 mod many_laws;
 mod opening_laws;
@@ -126,6 +127,10 @@ pub use expiry_laws::few_losses_finish;
 pub use expiry_laws::first_addresses_stay;
 pub use expiry_laws::harmless_ends_die_of_expiries;
 pub use expiry_laws::mild_ends_die_of_expiries;
+pub use holder_laws::holders_let_go;
+pub use holder_laws::holders_live;
+pub use holder_laws::what_is_given_back_counts;
+pub use holder_laws::what_is_tried_is_awaited;
 pub use laws::a_copy_leaves_by_arriving;
 pub use laws::clear_ends_are_past;
 pub use laws::copies_arrive_as_sent;
