@@ -298,3 +298,4 @@ pub mod Leaving
 pub mod Holding
 pub mod GivenBack
 pub mod HolderWaits
+pub mod BookNews

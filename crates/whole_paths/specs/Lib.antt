@@ -178,3 +178,4 @@ pub mod WindowStalls
 pub mod Holders
 pub mod GivenBack
 pub mod HolderWaits
+pub mod BookNews

@@ -3,6 +3,7 @@ ghost use Rattle.path_core.specs.Octets.{octets};
 ghost use Rattle.path_core.specs.Values.{values};
 ghost use Rattle.world_laws.specs.Laws.{Always};
 ghost use Rattle.world_laws.specs.Promises.{HoldsAnyway, HoldsAnywayOfOctets};
+ghost use Rattle.whole_paths.specs.BookNews.{BookNewsIsBounded, BookNewsNeverFalls, EachByteCounts};
 ghost use Rattle.whole_paths.specs.GivenBack.{EachReturnCounts, GivenBackIsBounded, GivenBackNeverFalls};
 ghost use Rattle.whole_paths.specs.HolderWaits.{HoldersLetGo};
 ghost use Rattle.whole_paths.specs.Holders.{HoldersLive, WhatIsTriedIsAwaited};
@@ -44,4 +45,16 @@ pub fn what_is_given_back_counts()
 /// does.
 pub fn holders_let_go()
     ensures { HoldersLetGo }
+{}
+
+/// A law: how far the bytes of a side's stream are, as one number, never falls by any turns, and is bounded by the side's file and the number of paths.
+///
+/// Each byte counts as it is acknowledged, and for each path as that tries it, and as it lets it go. So the number rises where a byte that a path might
+/// have taken is acknowledged, or granted to it or to another path (`rises`).
+pub fn each_byte_counts()
+    ensures octets { BookNewsNeverFalls octets }
+    ensures values { BookNewsNeverFalls values }
+    ensures rises_octets { EachByteCounts octets }
+    ensures rises { EachByteCounts values }
+    ensures bounded { BookNewsIsBounded }
 {}
