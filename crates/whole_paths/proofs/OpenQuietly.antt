@@ -1,6 +1,7 @@
 -- Where nothing comes early no more of A's records may be lost as path 0 opens than segments were harmed.
 use Rattle.std.proofs.Common.{◌≡◌, refl, sym, subst, ap, ◌∙◌, ℕ, ◌+◌, arith, nat_lt, Bool, true, false, ◌&&◌, if◌then◌else◌, Option, Some, None, List, [], ◌∷◌, ◌++◌, length}
 use Rattle.std.specs.List.{slice_get}
+use Rattle.std.specs.Prelude.{min}
 use Rattle.std.proofs.lemmas.List.{append_assoc}
 use Rattle.link_model.specs.Steps.{arriving}
 use Rattle.link_model.specs.declared.flight.Due.{Due}
@@ -24,7 +25,7 @@ use Rattle.world_laws.specs.Openings.{Start, opened_world}
 use Rattle.world_laws.specs.RoundDone.{reached}
 use Rattle.world_laws.specs.Worlds.{Turn, WorldState, after_turn}
 use Rattle.whole_paths.specs.Brought.{Comes}
-use Rattle.whole_paths.specs.EarlyCopies.{brings_octets, came_early, came_from, comes_early, early_at, has_octets, octets_next}
+use Rattle.whole_paths.specs.EarlyCopies.{brings_octets, came_early, came_from, comes_early, counted_by, early_at, expiries_at, has_octets, may_send_at, octets_next}
 use Rattle.whole_paths.specs.Finish.{IsPathAt}
 use Rattle.whole_paths.specs.Mild.{IsMildStart}
 use Rattle.whole_paths.specs.News.{one_if}
@@ -57,11 +58,7 @@ module _ (p : PathState Carried) (none : (x : Comes values p) → x.due.to ≡ B
   next_none _ is = refl
 
   none_early : comes_early p ≡ false
-  none_early = by p.b.modes.clear
-    where
-      by : (m : Bool) → (if m then false else octets_next p.agenda p) ≡ false
-      by true = refl
-      by false = next_none p.agenda refl
+  none_early = next_none p.agenda refl
 
 -- ---- by turns
 
@@ -74,12 +71,27 @@ module _ (start : Start) (mild : IsMildStart start) (turns : List Turn) (none : 
       by (App a) same = refl
       by (Path p) same = none_early p (none before more turn is p (record { crew = c; there = at; is = same }))
 
-  none_came : (before more : List Turn) → turns ≡ before ++ more → came_from more (reached values start before) ≡ 0
-  none_came before [] is = refl
-  none_came before (turn ∷ more) is =
-      let now = ap one_if (none_at before more turn is (slice_get (reached values start before).crew 2) refl) in
-      let rest : came_from more (after_turn values turn (reached values start before)) ≡ 0 = subst (λ (w : WorldState Carried). came_from more w ≡ 0) (last start mild before turn)
-      (none_came (before ++ turn ∷ []) more (is ∙ sym (append_assoc before (turn ∷ []) more))) in omega (arith, now, rest)
+  none_came : (before more : List Turn) → turns ≡ before ++ more → came_from 0 more (reached values start before) ≡ 0
+  none_came before [] is = elim (may_send_at (slice_get (reached values start before).crew 2)) as (λ m. (if m then 0 else 0) ≡ 0) [ true ↦ refl | false ↦ refl ]
+  none_came before (turn ∷ more) is = by (may_send_at (slice_get w.crew 2))
+    where
+      w : WorldState Carried
+      w = reached values start before
+
+      v : WorldState Carried
+      v = after_turn values turn w
+
+      none_counts : counted_by 0 w v ≡ 0
+      none_counts = ap (λ m. if nat_lt (expiries_at (slice_get w.crew 2)) (expiries_at (slice_get v.crew 2)) then min (one_if m) 1 else one_if m) (none_at before more turn is (slice_get w.crew 2) refl)
+          ∙ elim (nat_lt (expiries_at (slice_get w.crew 2)) (expiries_at (slice_get v.crew 2))) as (λ m. (if m then min 0 1 else 0) ≡ 0) [ true ↦ refl | false ↦ refl ]
+
+      rest : came_from (counted_by 0 w v) more v ≡ 0
+      rest = ap (λ n. came_from n more v) none_counts ∙ subst (λ (x : WorldState Carried). came_from 0 more x ≡ 0) (last start mild before turn)
+          (none_came (before ++ turn ∷ []) more (is ∙ sym (append_assoc before (turn ∷ []) more)))
+
+      by : (m : Bool) → (if m then 0 else came_from (counted_by 0 w v) more v) ≡ 0
+      by true = refl
+      by false = rest
 
 pub opens_quietly : OpensQuietly
 opens_quietly start plan turns one h none = record { lost = few.lost; well = few.well; few = (let low = few.few in let came = none_came start one.mild turns none [] turns refl in omega (arith, low, came)) }

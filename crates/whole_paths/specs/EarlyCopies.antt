@@ -1,6 +1,6 @@
--- How many copies with octets come to B's end of path 0 before that may send a DSS: it has no key of A's then, and drops their payload (RFC 8684,
--- section 3.1).
-use Rattle.std.specs.Prelude.{ℕ, ◌+◌, ◌≤◌, nat_lt, Bool, false, ◌&&◌, if◌then◌else◌, Option, Some, None, List, [], ◌∷◌, length, slice_get}
+-- How many copies with octets come to B's end of path 0 before that may send a DSS, since A's timer ran out last: it has no key of A's then, and
+-- drops their payload (RFC 8684, section 3.1).
+use Rattle.std.specs.Prelude.{ℕ, ◌+◌, ◌≤◌, nat_lt, min, Bool, false, ◌&&◌, if◌then◌else◌, Option, Some, None, List, [], ◌∷◌, length, slice_get}
 use Rattle.sides.specs.declared.side.Side.TheVariants.{A, B}
 use Rattle.link_script.specs.Places.{same_side}
 use Rattle.link_model.specs.Steps.{arriving}
@@ -19,6 +19,7 @@ use Rattle.world_laws.specs.Members.{of_kind}
 use Rattle.world_laws.specs.Openings.{PathPlan, Start, opened_world}
 use Rattle.world_laws.specs.Worlds.{Turn, WorldState, after_turn}
 use Rattle.whole_paths.specs.Courses.{harmed_so_far}
+use Rattle.whole_paths.specs.ExpiriesInARow.{in_a_row}
 use Rattle.whole_paths.specs.News.{one_if}
 use Rattle.whole_paths.specs.OnePathScripts.{BeginsWithOnePath, Count}
 use Rattle.whole_paths.specs.OpenFirst.{HasJustOpened}
@@ -39,22 +40,38 @@ abbrev pub octets_next : List Duty → PathState Carried → Bool
 octets_next (duties.Step step_duties.Events ∷ others) p = brings_octets (next_event p) p
 octets_next _ p = false
 
--- before B's end may send a DSS
 abbrev pub comes_early : PathState Carried → Bool
-comes_early p = if p.b.modes.clear then false else octets_next p.agenda p
+comes_early p = octets_next p.agenda p
 
+-- on path 0
 abbrev pub early_at : Option (ActorCrew Carried) → Bool
 early_at (Some c) = of_kind (λ app. false) comes_early c.member
 early_at None = false
 
--- on path 0, by so many of these turns
-abbrev pub came_from : List Turn → WorldState Carried → ℕ
-came_from [] w = 0
-came_from (turn ∷ turns) w = one_if (early_at (slice_get w.crew 2)) + came_from turns (after_turn values turn w)
+-- how often A's timer ran out in a row there
+abbrev pub expiries_at : Option (ActorCrew Carried) → ℕ
+expiries_at (Some c) = of_kind (λ app. 0) (λ p. in_a_row p.a) c.member
+expiries_at None = 0
+
+-- whether B's end may send a DSS there
+abbrev pub may_send_at : Option (ActorCrew Carried) → Bool
+may_send_at (Some c) = of_kind (λ app. false) (λ p. p.b.modes.clear) c.member
+may_send_at None = false
+
+-- So many came until a turn, which may bring one more. Where A's timer runs out by it each record but the first is sent again: one counts then at most.
+abbrev pub counted_by : ℕ → WorldState Carried → WorldState Carried → ℕ
+counted_by n w v = let more = n + one_if (early_at (slice_get w.crew 2)) in
+    if nat_lt (expiries_at (slice_get w.crew 2)) (expiries_at (slice_get v.crew 2)) then min more 1 else more
+
+-- how many they are at the first of these moments at which B's end may send a DSS, with so many before; none where it never may
+abbrev pub came_from : ℕ → List Turn → WorldState Carried → ℕ
+came_from n [] w = if may_send_at (slice_get w.crew 2) then n else 0
+came_from n (turn ∷ turns) w =
+    if may_send_at (slice_get w.crew 2) then n else came_from (counted_by n w (after_turn values turn w)) turns (after_turn values turn w)
 
 -- of a connection
 abbrev pub came_early : Count
-came_early start turns = came_from turns (opened_world start)
+came_early start turns = came_from 0 turns (opened_world start)
 
 -- As path 0 opens no more of A's records may be lost than copies came so, and segments were harmed.
 pub record LosesFew (start : Start) (turns : List Turn) (p : PathState Carried) : Type 0 where
