@@ -1,7 +1,8 @@
 -- Until B's end may send a DSS each record of A's that was sent is under way, or was harmed, or a copy of it came to B's end.
-use Rattle.std.proofs.Common.{◌≡◌, refl, sym, subst, ap, ◌∙◌, ◌⊎◌, inl, inr, ⊎_elim, ℕ, ◌+◌, ◌<◌, ◌≤◌, arith, nat_lt, Bool, true, false, true≢false, ◌&&◌, if◌then◌else◌, Option, Some, None, List, [], ◌∷◌, ◌++◌, length}
+use Rattle.std.proofs.Common.{◌≡◌, refl, sym, subst, ap, ◌∙◌, ◌⊎◌, inl, inr, ⊎_elim, ℕ, zero, suc, ◌+◌, ◌<◌, ◌≤◌, arith, nat_lt, Bool, true, false, true≢false, ◌&&◌, if◌then◌else◌, Option, Some, None, List, [], ◌∷◌, ◌++◌, length}
 use Rattle.std.specs.List.{slice_get}
-use Rattle.std.specs.Prelude.{min, option_map, option_map_or}
+use Rattle.std.specs.Option.{option_map_or}
+use Rattle.std.specs.Prelude.{min, option_map}
 use Rattle.std.proofs.lemmas.Bool.{both_ways, cases_lt, lt-ltb, ltb-true}
 use Rattle.std.proofs.lemmas.List.{append-nil, append_assoc}
 use Rattle.link_model.specs.Steps.{arriving}
@@ -13,6 +14,7 @@ use Rattle.sides.specs.declared.side.Side.TheVariants.{A, B}
 use Rattle.stream_lanes.specs.Words.{Has}
 use Rattle.subflow_send.specs.Records.{Record}
 use Rattle.subflow_send.specs.declared.record.RecordKind.TheVariants as kinds
+use Rattle.subflow_tcp.specs.States.{is_dead}
 use Rattle.path_agenda.specs.declared.duty.AskDuty.TheVariants as ask_duties
 use Rattle.path_agenda.specs.declared.duty.Duty.{Duty}
 use Rattle.path_agenda.specs.declared.duty.Duty.TheVariants as duties
@@ -93,7 +95,7 @@ pub came_never_falls : NeverFalls came_early
 came_never_falls start turns more = came_up 0 turns more (opened_world start)
 
 -- whether B's end may send a DSS or not
-so_far : ℕ → List Turn → WorldState Carried → ℕ
+abbrev so_far : ℕ → List Turn → WorldState Carried → ℕ
 so_far n [] w = n
 so_far n (turn ∷ turns) w = so_far (counted_by n w (after_turn values turn w)) turns (after_turn values turn w)
 
@@ -112,11 +114,11 @@ came_first n (b ∷ bs) t w none last_is = ap (λ m. if m then n else came_from 
 
 -- ---- the copy that comes next
 
-position_at : Option Event → PathState Carried → Option ℕ
+abbrev position_at : Option Event → PathState Carried → Option ℕ
 position_at (Some (happenings.Arrives due)) p = option_map (λ (f : Flight Carried). f.carried.segment.position) (arriving due p.link)
 position_at _ p = None
 
-position_next : List Duty → PathState Carried → Option ℕ
+abbrev position_next : List Duty → PathState Carried → Option ℕ
 position_next (duties.Step step_duties.Events ∷ others) p = position_at (next_event p) p
 position_next _ p = None
 
@@ -201,15 +203,16 @@ module _ (start : Start) (plan : PathPlan) (one : BeginsWithOnePath start plan) 
   comes_on : (r : Record) → IsRecordOf (end_at A p) r → r.kind ≡ kinds.Data → ComesBy A r (p.clock + 400) p → ComesBy A r (p.clock + 400) q ⊎ ComesAt r.pos p
   comes_on r has kind h = by (copies start mild turns turn b a h.copy h.there)
     where
-      arrived : Arrival h.of_it.segment p → ComesAt r.pos p
-      arrived x = subst (λ n. ComesAt n p) h.of_it.of_it.position (comes_at p h.of_it.segment
+      arrived : (x : Arrival h.of_it.segment p) → x.due.to ≡ B → ComesAt r.pos p
+      arrived x to = subst (λ n. ComesAt n p) h.of_it.of_it.position (comes_at p h.of_it.segment
           (let full = data_filled A p (of_p Shown (each_shown start turns mild.plain.size mild.fit)) r has kind in
-          let long : length h.of_it.segment.payload ≡ length r.piece = ap (λ (os : List ℕ). length os) h.of_it.of_it.payload in omega (arith, full, long)) x (to_b x))
+          let long : length h.of_it.segment.payload ≡ length r.piece = ap (λ (os : List ℕ). length os) h.of_it.of_it.payload in omega (arith, full, long)) x to)
 
       by : GoesOnItsWay h.copy p q → ComesBy A r (p.clock + 400) q ⊎ ComesAt r.pos p
       by (copy.on on) = inl (copy_stays start mild turns turn b a A r h.copy h.of_it h.whole (p.clock + 400) h.soon on)
-      by (copy.arrives others first_is next) = inr (arrived (each_copy_arrives A r p h.copy h.of_it h.whole.unstripped h.whole.unaltered h.there (numbered start mild turns turn b a h.copy h.there)
-          (known start mild turns turn b a).alike others first_is next first.first))
+      by (copy.arrives others first_is next) =
+          let x : Arrival h.of_it.segment p = each_copy_arrives A r p h.copy h.of_it h.whole.unstripped h.whole.unaltered h.there (numbered start mild turns turn b a h.copy h.there)
+          (known start mild turns turn b a).alike others first_is next first.first in inr (arrived x (sym (ap event_side x.next) ∙ ap event_side next ∙ h.of_it.to))
       by (copy.dies line next is dead) = absurd (both_ways (is_dead q.a.tcp.state) (a.is_open.living A) dead)
 
   -- once A's end is past the handshake
@@ -319,7 +322,7 @@ module _ (start : Start) (plan : PathPlan) (one : BeginsWithOnePath start plan) 
   counted n = if rises then min (n + one_if (comes_early p)) 1 else n + one_if (comes_early p)
 
   counted_is : (n : ℕ) → counted_by n (reached values start turns) (after_turn values turn (reached values start turns)) ≡ counted n
-  counted_is n = rw (at_p, at_q, before, after) refl
+  counted_is n = rw (at_p, before, after) refl
     where
       at_p : early_at (slice_get (reached values start turns).crew 2) ≡ comes_early p
       at_p = ap (λ o. early_at o) b.here.there ∙ ap (λ m. of_kind (λ app. false) comes_early m) b.here.is
