@@ -25,7 +25,7 @@ use Rattle.world_laws.specs.Openings.{Start, opened_world}
 use Rattle.world_laws.specs.RoundDone.{reached}
 use Rattle.world_laws.specs.Worlds.{Turn, WorldState, after_turn}
 use Rattle.whole_paths.specs.Brought.{Comes}
-use Rattle.whole_paths.specs.EarlyCopies.{brings_octets, came_early, came_from, comes_early, counted_by, early_at, expiries_at, has_octets, may_send_at, octets_next}
+use Rattle.whole_paths.specs.EarlyCopies.{LosesFew, brings_octets, came_early, came_from, comes_early, counted_by, early_at, expiries_at, has_octets, may_send_at, octets_next}
 use Rattle.whole_paths.specs.Finish.{IsPathAt}
 use Rattle.whole_paths.specs.Mild.{IsMildStart}
 use Rattle.whole_paths.specs.News.{one_if}
@@ -71,29 +71,41 @@ module _ (start : Start) (mild : IsMildStart start) (turns : List Turn) (none : 
       by (App a) same = refl
       by (Path p) same = none_early p (none before more turn is p (record { crew = c; there = at; is = same }))
 
+  module _ (before more : List Turn) (turn : Turn) (is : turns ≡ before ++ turn ∷ more) where
+    abbrev w : WorldState Carried
+    w = reached values start before
+
+    abbrev v : WorldState Carried
+    v = after_turn values turn w
+
+    none_counts : counted_by 0 w v ≡ 0
+    none_counts = ap (λ m. if nat_lt (expiries_at (slice_get w.crew 2)) (expiries_at (slice_get v.crew 2)) then min (0 + one_if m) 1 else 0 + one_if m) (none_at before more turn is (slice_get w.crew 2) refl)
+        ∙ by (nat_lt (expiries_at (slice_get w.crew 2)) (expiries_at (slice_get v.crew 2)))
+      where
+        by : (m : Bool) → (if m then min (0 + one_if false) 1 else 0 + one_if false) ≡ 0
+        by true = refl
+        by false = refl
+
+    none_then : came_from 0 more (reached values start (before ++ turn ∷ [])) ≡ 0 → came_from 0 (turn ∷ more) w ≡ 0
+    none_then rest = by (may_send_at (slice_get w.crew 2))
+      where
+        later : came_from (counted_by 0 w v) more v ≡ 0
+        later = ap (λ n. came_from n more v) none_counts ∙ subst (λ (x : WorldState Carried). came_from 0 more x ≡ 0) (last start mild before turn) rest
+
+        by : (m : Bool) → (if m then 0 else came_from (counted_by 0 w v) more v) ≡ 0
+        by true = refl
+        by false = later
+
   none_came : (before more : List Turn) → turns ≡ before ++ more → came_from 0 more (reached values start before) ≡ 0
-  none_came before [] is = elim (may_send_at (slice_get (reached values start before).crew 2)) as (λ m. (if m then 0 else 0) ≡ 0) [ true ↦ refl | false ↦ refl ]
-  none_came before (turn ∷ more) is = by (may_send_at (slice_get w.crew 2))
+  none_came before [] is = by (may_send_at (slice_get (reached values start before).crew 2))
     where
-      w : WorldState Carried
-      w = reached values start before
-
-      v : WorldState Carried
-      v = after_turn values turn w
-
-      none_counts : counted_by 0 w v ≡ 0
-      none_counts = ap (λ m. if nat_lt (expiries_at (slice_get w.crew 2)) (expiries_at (slice_get v.crew 2)) then min (one_if m) 1 else one_if m) (none_at before more turn is (slice_get w.crew 2) refl)
-          ∙ elim (nat_lt (expiries_at (slice_get w.crew 2)) (expiries_at (slice_get v.crew 2))) as (λ m. (if m then min 0 1 else 0) ≡ 0) [ true ↦ refl | false ↦ refl ]
-
-      rest : came_from (counted_by 0 w v) more v ≡ 0
-      rest = ap (λ n. came_from n more v) none_counts ∙ subst (λ (x : WorldState Carried). came_from 0 more x ≡ 0) (last start mild before turn)
-          (none_came (before ++ turn ∷ []) more (is ∙ sym (append_assoc before (turn ∷ []) more)))
-
-      by : (m : Bool) → (if m then 0 else came_from (counted_by 0 w v) more v) ≡ 0
+      by : (m : Bool) → ◌≡◌ {A = ℕ} (if m then 0 else 0) 0
       by true = refl
-      by false = rest
+      by false = refl
+  none_came before (turn ∷ more) is = none_then before more turn is (none_came (before ++ turn ∷ []) more (is ∙ sym (append_assoc before (turn ∷ []) more)))
 
 pub opens_quietly : OpensQuietly
 opens_quietly start plan turns one h none = record { lost = few.lost; well = few.well; few = (let low = few.few in let came = none_came start one.mild turns none [] turns refl in omega (arith, low, came)) }
   where
+    few : LosesFew start turns h.now.path
     few = opens_losing_few start plan turns one h
