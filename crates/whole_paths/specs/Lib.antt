@@ -173,6 +173,7 @@ pub mod AnswersSoon
 pub mod Opened
 pub mod SignPieces
 pub mod EarlyRecords
+pub mod EarlyCopies
 pub mod ProbeWaits
 pub mod WindowStalls
 pub mod Holders

@@ -209,6 +209,7 @@ pub use opening_laws::each_first_piece_comes_soon;
 pub use opening_laws::each_sign_piece_comes;
 pub use opening_laws::each_syn_ack_is_answered_soon;
 pub use opening_laws::each_syn_comes_soon;
+pub use opening_laws::paths_open_owing_few;
 pub use opening_laws::paths_open_owing_records;
 pub use patience_laws::patient_paths_deliver;
 pub use many_laws::what_is_wanted_is_told;
