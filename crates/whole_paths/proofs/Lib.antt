@@ -300,3 +300,7 @@ pub mod Holding
 pub mod GivenBack
 pub mod HolderWaits
 pub mod BookNews
+pub mod PlainQueues
+pub mod QuietTexts
+pub mod FewTexts
+pub mod BriefRuns

@@ -180,3 +180,5 @@ pub mod Holders
 pub mod GivenBack
 pub mod HolderWaits
 pub mod BookNews
+pub mod QuietTexts
+pub mod FewTexts
