@@ -11,8 +11,9 @@ ghost use Rattle.whole_paths.specs.PatientPaths.{FewLossesFinishPatiently, Patie
 /// 65,535 octets of a SYN's window (RFC 9293, section 3.8.6); and of fewer than 2^64 - 1 turns. So it is from the round's end at which the path is
 /// whole (`ends_octets`, `ends_values`), and from the beginning (`octets`, `values`). A segment is harmed where it is lost, or comes later than 400
 /// ticks; with four such segments at most, and no line by which the path dies or its address is taken back, no end dies (`few_octets`,
-/// `few_values`). Where a copy with octets comes to B's end before that may send a DSS, as none does unless A's first segment with both keys is
-/// harmed or overtaken, it is dropped (RFC 8684, section 3.1): then each record counts as a harm that A's end has as B's may send one first.
+/// `few_values`). Each copy with octets that comes to B's end before that may send a DSS, as none does unless A's first segment with both keys is
+/// harmed or overtaken, is dropped (RFC 8684, section 3.1), and counts as a harm; but no more of them than A's end has records as B's may send one
+/// first.
 pub fn patient_paths_deliver()
     ensures ends_octets { PatientPathsEnd octets }
     ensures ends_values { PatientPathsEnd values }
