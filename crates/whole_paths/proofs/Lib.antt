@@ -289,6 +289,7 @@ pub mod Opened
 pub mod SignPieces
 pub mod EarlyRecords
 pub mod EarlyCopies
+pub mod WrittenAtOnce
 pub mod ProbeWaits
 pub mod EachLane
 pub mod WindowStalls

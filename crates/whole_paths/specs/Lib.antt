@@ -173,5 +173,6 @@ pub mod Opened
 pub mod SignPieces
 pub mod EarlyRecords
 pub mod EarlyCopies
+pub mod WrittenAtOnce
 pub mod ProbeWaits
 pub mod WindowStalls

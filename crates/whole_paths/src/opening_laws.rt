@@ -10,6 +10,7 @@ ghost use Rattle.whole_paths.specs.OnePathScripts.{NeverFalls};
 ghost use Rattle.whole_paths.specs.QuietOpenings.{OpensOwingFew, lost_early};
 ghost use Rattle.whole_paths.specs.SignPieces.{EachSignPieceComes};
 ghost use Rattle.whole_paths.specs.SynsSoon.{EachSynComesSoon};
+ghost use Rattle.whole_paths.specs.WrittenAtOnce.{WhatFitsIsWrittenAtOnce};
 
 /// A law: a SYN that an end sends as it opens is harmed, or comes within 400 ticks (RFC 9293, section 3.5).
 ///
@@ -73,4 +74,12 @@ pub fn paths_open_owing_few()
     ensures count { NeverFalls came_early }
     ensures owes { OpensOwingFew }
     ensures fewer { NeverFalls lost_early }
+{}
+
+/// A law: an application writes a file at once that fits what its side buffers.
+///
+/// At every moment nothing of it is written, or all: as the first write comes nothing waits to be acknowledged, and a later one has nothing left.
+pub fn what_fits_is_written_at_once()
+    ensures values { WhatFitsIsWrittenAtOnce values }
+    ensures octets { WhatFitsIsWrittenAtOnce octets }
 {}
