@@ -290,6 +290,7 @@ pub mod SignPieces
 pub mod EarlyRecords
 pub mod EarlyCopies
 pub mod WrittenAtOnce
+pub mod FewRecords
 pub mod ProbeWaits
 pub mod EachLane
 pub mod WindowStalls

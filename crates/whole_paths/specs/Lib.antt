@@ -174,5 +174,6 @@ pub mod SignPieces
 pub mod EarlyRecords
 pub mod EarlyCopies
 pub mod WrittenAtOnce
+pub mod FewRecords
 pub mod ProbeWaits
 pub mod WindowStalls

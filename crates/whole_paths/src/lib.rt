@@ -204,6 +204,7 @@ pub use opening_laws::each_syn_ack_is_answered_soon;
 pub use opening_laws::each_syn_comes_soon;
 pub use opening_laws::paths_open_owing_few;
 pub use opening_laws::paths_open_owing_records;
+pub use opening_laws::records_are_full;
 pub use opening_laws::what_fits_is_written_at_once;
 pub use patience_laws::patient_paths_deliver;
 pub use window_laws::each_turn_asks_its_window;

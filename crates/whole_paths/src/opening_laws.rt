@@ -5,6 +5,7 @@ ghost use Rattle.path_core.specs.Octets.{octets};
 ghost use Rattle.path_core.specs.Values.{values};
 ghost use Rattle.whole_paths.specs.EarlyCopies.{OpensLosingFew, came_early};
 ghost use Rattle.whole_paths.specs.EarlyRecords.{EarlyNeverFalls, EarlyOverOctets, OpensOwingRecords};
+ghost use Rattle.whole_paths.specs.FewRecords.{OpensOwingSegments, RecordsAreFull};
 ghost use Rattle.whole_paths.specs.FirstPiecesSoon.{EachFirstPieceComesSoon};
 ghost use Rattle.whole_paths.specs.OnePathScripts.{NeverFalls};
 ghost use Rattle.whole_paths.specs.QuietOpenings.{OpensOwingFew, lost_early};
@@ -82,4 +83,14 @@ pub fn paths_open_owing_few()
 pub fn what_fits_is_written_at_once()
     ensures values { WhatFitsIsWrittenAtOnce values }
     ensures octets { WhatFitsIsWrittenAtOnce octets }
+{}
+
+/// A law: on the only path of a mild connection each record of an end holds a full segment's payload, where its side's file fits the first window, but
+/// for the SYN, and one that reaches past all of the file.
+///
+/// So it is as long as both ends live and the end sent no FIN (`full`). As the path opens nothing of A's file is acknowledged: so no more is owed
+/// along A's direction than that has full segments, and perhaps a shorter one (`owing`).
+pub fn records_are_full()
+    ensures full { RecordsAreFull }
+    ensures owing { OpensOwingSegments }
 {}
