@@ -236,6 +236,7 @@ pub mod ReadSegments
 pub mod EndRounds
 pub mod UnitRounds
 pub mod PatientPaths
+pub mod PatientTexts
 pub mod WindowKinds
 pub mod WindowsHeld
 pub mod QuietOpenings

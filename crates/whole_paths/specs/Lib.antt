@@ -148,6 +148,7 @@ pub mod UnitRounds
 pub mod RisesOwed
 pub mod ToldStays
 pub mod PatientPaths
+pub mod PatientTexts
 pub mod WindowKinds
 pub mod WindowsHeld
 pub mod QuietOpenings

@@ -207,6 +207,7 @@ pub use opening_laws::paths_open_owing_records;
 pub use opening_laws::records_are_full;
 pub use opening_laws::what_fits_is_written_at_once;
 pub use patience_laws::patient_paths_deliver;
+pub use patience_laws::patient_texts_deliver;
 pub use window_laws::each_turn_asks_its_window;
 pub use window_laws::fitting_files_are_never_shut;
 pub use window_laws::probes_go_again;

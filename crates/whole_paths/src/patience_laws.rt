@@ -2,6 +2,7 @@
 ghost use Rattle.path_core.specs.Octets.{octets};
 ghost use Rattle.path_core.specs.Values.{values};
 ghost use Rattle.whole_paths.specs.PatientPaths.{FewLossesFinishPatiently, PatientPathEnds, PatientPathsEnd};
+ghost use Rattle.whole_paths.specs.PatientTexts.{FewLossesFinishByText, PatientTextEnds, PatientTextsEnd};
 
 /// A law: over one path both files are delivered after 10,800 rounds, 23 for each full segment of either file, and 3,150 for each segment that is
 /// harmed, unless an end dies; however much is lost, late or repeated.
@@ -12,7 +13,7 @@ ghost use Rattle.whole_paths.specs.PatientPaths.{FewLossesFinishPatiently, Patie
 /// ticks; with four such segments at most, and no line by which the path dies or its address is taken back, no end dies (`few_octets`,
 /// `few_values`). Each copy with octets that comes to B's end before that may send a DSS, as none does unless A's first segment with both keys is
 /// harmed or overtaken, is dropped (RFC 8684, section 3.1), and counts as a harm; but no more of them than A's end has records as B's may send one
-/// first.
+/// first, nor than A's file has full segments.
 pub fn patient_paths_deliver()
     ensures ends_octets { PatientPathsEnd octets }
     ensures ends_values { PatientPathsEnd values }
@@ -20,4 +21,20 @@ pub fn patient_paths_deliver()
     ensures few_values { FewLossesFinishPatiently values }
     ensures octets { PatientPathEnds octets }
     ensures values { PatientPathEnds values }
+{}
+
+/// A law: over one path both files are delivered after as many rounds as the text of the script and its files say, whatever comes early: 10,800, 23
+/// for each full segment of either file, and 3,150 for each segment that is harmed and for each full segment of A's file; unless an end dies.
+///
+/// It is said of the scripts and files that `patient_paths_deliver` is said of, from the round's end at which the path is whole (`ends_octets`,
+/// `ends_values`), and from the beginning (`octets`, `values`). As path 0 opens A's end has no more records than A's file has full segments: so no
+/// more count of the copies that came to B's end before that could send a DSS. With four harmed segments at most, and no line by which the path
+/// dies or its address is taken back, no end dies (`few_octets`, `few_values`).
+pub fn patient_texts_deliver()
+    ensures ends_octets { PatientTextsEnd octets }
+    ensures ends_values { PatientTextsEnd values }
+    ensures few_octets { FewLossesFinishByText octets }
+    ensures few_values { FewLossesFinishByText values }
+    ensures octets { PatientTextEnds octets }
+    ensures values { PatientTextEnds values }
 {}
