@@ -240,6 +240,7 @@ pub mod UnitRounds
 pub mod PatientPaths
 pub mod WindowKinds
 pub mod WindowsHeld
+pub mod CalmWindows
 pub mod QuietOpenings
 pub mod ShortWaits
 pub mod UnderWay
