@@ -162,7 +162,7 @@ module _ (Also : Start → PathPlan → Type 0) (tells : WhatIsOwedIsTold Also) 
 pub windows_hold_so : (Also : Start → PathPlan → Type 0) → WindowsHoldSo Also
 windows_hold_so Also tells = record {
   stays = λ start plan s count one also counts turns turn h. held_on start plan s one count counts turns turn h;
-  meets = λ start plan s count one also counts. record {
+  meets = λ start plan s one also. record {
     owed = λ turns h due. told.since (owed.now h due);
     fits = λ turns h enough. told.fits enough;
     there = λ turns h all. told.there all;

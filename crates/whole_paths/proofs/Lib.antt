@@ -75,6 +75,7 @@ pub mod Gaps
 pub mod GoesOn
 pub mod GoingOn
 pub mod Halting
+pub mod ShutEnds
 pub mod Harmed
 pub mod Hearing
 pub mod Hears
