@@ -12,8 +12,8 @@ use Rattle.world_laws.specs.RoundDone.{reached}
 use Rattle.world_laws.specs.Worlds.{Turn, WorldState}
 use Rattle.world_laws.proofs.Weaving.WholeRounds.{run_append}
 use Rattle.whole_paths.specs.AsFar.{IsActorAsFar, IsPathAsFar}
-use Rattle.whole_paths.specs.CalmWindows.{OwedSince, WhatIsOwedIsTold, WindowIsTold, WindowsHoldSo}
-use Rattle.whole_paths.specs.CalmWindows.{OwedSince as owed, WindowIsTold as told}
+use Rattle.whole_paths.specs.CalmWindows.{OwedSince, WhatIsOwedIsTold, WindowIsKept, WindowsHoldSo}
+use Rattle.whole_paths.specs.CalmWindows.{OwedSince as owed, WindowIsKept as kept}
 use Rattle.whole_paths.specs.Counts.{CountsAsMuch, with_events}
 use Rattle.whole_paths.specs.Delivery.{IsAllThere}
 use Rattle.whole_paths.specs.Finish.{is_harmed}
@@ -85,7 +85,7 @@ module _ (start : Start) (plan : PathPlan) (s : Side) (one : BeginsWithOnePath s
 
   module _ (count : List Turn → ℕ) (counts : CountsAsMuch start (with_events start ((λ turns. true) ∷ [])) count) (turns : List Turn) (turn : Turn) (h : IsBegunTurn start turns turn) where
     abbrev Goes : Type 0
-    Goes = (count turns < count (turns ++ turn ∷ [])) ⊎ WindowIsTold start s (turns ++ turn ∷ [])
+    Goes = (count turns < count (turns ++ turn ∷ [])) ⊎ WindowIsKept start s (turns ++ turn ∷ [])
 
     since_on : OwedSince start s turns → Goes
     since_on o = by (is_harmed A h.before.path h.after.path) refl (is_harmed B h.before.path h.after.path) refl
@@ -96,19 +96,19 @@ module _ (start : Start) (plan : PathPlan) (s : Side) (one : BeginsWithOnePath s
         by : (a : Bool) → is_harmed A h.before.path h.after.path ≡ a → (b : Bool) → is_harmed B h.before.path h.after.path ≡ b → Goes
         by true a b is = inl (counted A a)
         by false a true b = inl (counted B b)
-        by false a false b = inr (told.since (calm_on turns turn h o (elim [ A ↦ a | B ↦ b ])))
+        by false a false b = inr (kept.since (calm_on turns turn h o (elim [ A ↦ a | B ↦ b ])))
 
-    held_on : WindowIsTold start s turns → Goes
-    held_on (told.since o) = since_on o
-    held_on (told.fits enough) = inr (told.fits (let up = edge_on turns turn in omega (arith, enough, up)))
-    held_on (told.there all) = inr (told.there (what_is_there_stays start turns (turn ∷ []) one.mild s all))
+    held_on : WindowIsKept start s turns → Goes
+    held_on (kept.since o) = since_on o
+    held_on (kept.fits enough) = inr (kept.fits (let up = edge_on turns turn in omega (arith, enough, up)))
+    held_on (kept.there all) = inr (kept.there (what_is_there_stays start turns (turn ∷ []) one.mild s all))
 
 -- ---- six rounds
 
 module _ (Also : Start → PathPlan → Type 0) (tells : WhatIsOwedIsTold Also) (start : Start) (plan : PathPlan) (s : Side) (v u : List Turn) (one : BeginsWithOnePath start plan) (also : Also start plan)
-    (rounds : WellRounds start (WindowsStand Also WindowIsTold StallsOf start) 6 v u) where
+    (rounds : WellRounds start (WindowsStand Also WindowIsKept StallsOf start) 6 v u) where
   abbrev Stand : List Turn → Type 0
-  Stand = WindowsStand Also WindowIsTold StallsOf start
+  Stand = WindowsStand Also WindowIsKept StallsOf start
 
   abbrev Goal : Type 0
   Goal = IsAllThere s (reached values start u)
@@ -151,10 +151,10 @@ module _ (Also : Start → PathPlan → Type 0) (tells : WhatIsOwedIsTold Also) 
   heard_so : Goal
   heard_so = by ((well_after start Stand 1 v a first.first).holds s)
     where
-      by : WindowIsTold start s a → Goal
-      by (told.fits enough) = inr (let more = up a to_end in omega (arith, enough, more))
-      by (told.there all) = inl (stays_there start plan one a u s to_end all)
-      by (told.since o) = ⊎_elim
+      by : WindowIsKept start s a → Goal
+      by (kept.fits enough) = inr (let more = up a to_end in omega (arith, enough, more))
+      by (kept.there all) = inl (stays_there start plan one a u s to_end all)
+      by (kept.since o) = ⊎_elim
           (λ all. inl (stays_there start plan one a u s to_end all))
           (λ assured. inr (let heard = four_rounds_assure start plan a b one (rounds_of start Stand 4 a b four.first) s open_a.path open_a.here (read_after start s v + (plan.mss - 28)) assured in let more = up b from_b in omega (arith, heard, more)))
           (tells start plan s v a one also is_round o open_a.path open_a.here)
@@ -163,9 +163,9 @@ pub windows_hold_so : (Also : Start → PathPlan → Type 0) → WindowsHoldSo A
 windows_hold_so Also tells = record {
   stays = λ start plan s count one also counts turns turn h. held_on start plan s one count counts turns turn h;
   meets = λ start plan s one also. record {
-    owed = λ turns h due. told.since (owed.now h due);
-    fits = λ turns h enough. told.fits enough;
-    there = λ turns h all. told.there all;
+    owed = λ turns h due. kept.since (owed.now h due);
+    fits = λ turns h enough. kept.fits enough;
+    there = λ turns h all. kept.there all;
   };
   heard = λ start plan s v u one also rounds. heard_so Also tells start plan s v u one also rounds;
 }

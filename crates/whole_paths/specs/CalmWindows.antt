@@ -28,10 +28,10 @@ module _ (start : Start) (s : Side) where
         → ((u : Side) → is_harmed u h.before.path h.after.path ≡ false) → OwedSince turns
 
   -- so it is, or the side may send all of its file, or all of its stream is there
-  pub data WindowIsTold (turns : List Turn) : Type 0 where
-    since : OwedSince turns → WindowIsTold turns
-    fits : length (pick s start.file_a start.file_b) ≤ (written_by s (reached values start turns)).edge → WindowIsTold turns
-    there : IsAllThere s (reached values start turns) → WindowIsTold turns
+  pub data WindowIsKept (turns : List Turn) : Type 0 where
+    since : OwedSince turns → WindowIsKept turns
+    fits : length (pick s start.file_a start.file_b) ≤ (written_by s (reached values start turns)).edge → WindowIsKept turns
+    there : IsAllThere s (reached values start turns) → WindowIsKept turns
 
 module _ (Also : Start → PathPlan → Type 0) where
   -- Where so it is as a round is over, a window of a full segment's payload past what was read as the round began is heard, or comes within 400 ticks.
@@ -43,4 +43,4 @@ module _ (Also : Start → PathPlan → Type 0) where
 
   -- so windows are held
   abbrev pub WindowsHoldSo : Type 0
-  WindowsHoldSo = WhatIsOwedIsTold → WindowsHold Also WindowIsTold
+  WindowsHoldSo = WhatIsOwedIsTold → WindowsHold Also WindowIsKept
