@@ -161,12 +161,10 @@ pub mod Timing
 pub mod ToldSoon
 pub mod Treating
 pub mod UnaSaid
-pub mod WideWindows
 pub mod BareSegments
 pub mod FinsComing
 pub mod FinsSent
 pub mod FinRounds
-pub mod OneDebt
 pub mod OneDebtAfter
 pub mod PaidEnds
 pub mod WindowsComing

@@ -108,7 +108,6 @@ pub mod Waits
 pub mod WindowRoom
 pub mod WindowWaits
 pub mod WindowsHeard
-pub mod WideWindows
 pub mod BareSegments
 pub mod FinsComing
 pub mod OneDebt
