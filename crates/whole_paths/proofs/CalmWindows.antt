@@ -35,6 +35,10 @@ use Rattle.whole_paths.proofs.SegmentRounds.{stays_there}
 use Rattle.whole_paths.proofs.UnitRounds.{Parted, parted, rounds_of, well_after}
 use Rattle.whole_paths.proofs.WindowsAssured.{four_rounds_assure}
 
+open_then : (start : Start) (s : Side) (turns : List Turn) → OwedSince start s turns → IsOpenAfter start turns
+open_then start s turns (owed.now ts now due) = now
+open_then start s turns (owed.later ts before last is o g none) = subst (IsOpenAfter start) (sym is) g.after
+
 module _ (start : Start) (plan : PathPlan) (s : Side) (one : BeginsWithOnePath start plan) where
   -- the side may send as far still
   edge_on : (turns : List Turn) (turn : Turn) → (written_by s (reached values start turns)).edge ≤ (written_by s (reached values start (turns ++ turn ∷ []))).edge
@@ -71,15 +75,11 @@ module _ (start : Start) (plan : PathPlan) (s : Side) (one : BeginsWithOnePath s
         clear A = far_on.a.clear (clear_before A)
         clear B = far_on.b.clear (clear_before B)
 
-    open_before : OwedSince start s turns → IsOpenAfter start turns
-    open_before (owed.now now due) = now
-    open_before (owed.later before last is o g none) = subst (IsOpenAfter start) (sym is) g.after
-
     -- neither end's segment is harmed
     calm_on : OwedSince start s turns → ((u : Side) → is_harmed u h.before.path h.after.path ≡ false) → OwedSince start s later
     calm_on o none =
-        let now = open_before o in
-        owed.later turns turn refl o (open_on now) (λ u. subst (λ (z : PathState Carried). is_harmed u z h.after.path ≡ false) (path_is (reached values start turns) h.before.path now.path h.before.here now.here) (none u))
+        let now = open_then start s turns o in
+        owed.later later turns turn refl o (open_on now) (λ u. subst (λ (z : PathState Carried). is_harmed u z h.after.path ≡ false) (path_is (reached values start turns) h.before.path now.path h.before.here now.here) (none u))
 
   -- ---- what is held
 
@@ -163,7 +163,7 @@ pub windows_hold_so : (Also : Start → PathPlan → Type 0) → WindowsHoldSo A
 windows_hold_so Also tells = record {
   stays = λ start plan s count one also counts turns turn h. held_on start plan s one count counts turns turn h;
   meets = λ start plan s one also. record {
-    owed = λ turns h due. kept.since (owed.now h due);
+    owed = λ turns h due. kept.since (owed.now turns h due);
     fits = λ turns h enough. kept.fits enough;
     there = λ turns h all. kept.there all;
   };

@@ -30,12 +30,13 @@ use Rattle.path_core.specs.Duties.{answered, ask_for}
 use Rattle.path_core.specs.Emission.{answered_data, answered_grant, data_ask, first_unsent, grant_ask, grant_in, payload_size}
 use Rattle.path_core.specs.End.{PathEnd}
 use Rattle.path_core.specs.Events.{next_event}
+use Rattle.path_core.specs.Start.{waiting_path}
 use Rattle.path_core.specs.State.{PathState, end_at, path_of, with_agenda}
 use Rattle.path_core.specs.Steps.{asks_first, asks_of, next_round, takes}
 use Rattle.path_core.specs.Values.{Carried, values}
 use Rattle.world_laws.specs.declared.member.Member.TheVariants.{Path}
 use Rattle.world_laws.specs.Actors.{Actor, ActorCrew}
-use Rattle.world_laws.specs.Openings.{PathPlan, Start, opened_world, path_begins, waiting_path}
+use Rattle.world_laws.specs.Openings.{PathPlan, Start, opened_world, path_begins}
 use Rattle.world_laws.specs.Promises.{written_by}
 use Rattle.world_laws.specs.RoundDone.{reached}
 use Rattle.world_laws.specs.RoundNumbers.{taken_len}

@@ -22,9 +22,9 @@ use Rattle.whole_paths.specs.WindowsHeld.{WindowsHold}
 
 module _ (start : Start) (s : Side) where
   -- At some moment the peer owed an answer, and by each turn since then path 0 is open, and no segment of it is harmed.
-  pub data OwedSince (turns : List Turn) : Type 0 where
-    now : (h : IsOpenAfter start turns) → (end_at (peer s) h.path).tcp.due.ack ≡ true → OwedSince turns
-    later : (before : List Turn) (turn : Turn) → turns ≡ before ++ turn ∷ [] → OwedSince before → (h : IsOpenTurn start before turn)
+  pub data OwedSince : List Turn → Type 0 where
+    now : (turns : List Turn) (h : IsOpenAfter start turns) → (end_at (peer s) h.path).tcp.due.ack ≡ true → OwedSince turns
+    later : (turns before : List Turn) (turn : Turn) → turns ≡ before ++ turn ∷ [] → OwedSince before → (h : IsOpenTurn start before turn)
         → ((u : Side) → is_harmed u h.before.path h.after.path ≡ false) → OwedSince turns
 
   -- so it is, or the side may send all of its file, or all of its stream is there
