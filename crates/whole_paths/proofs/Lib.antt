@@ -240,7 +240,7 @@ pub mod PatientPaths
 pub mod WindowKinds
 pub mod WindowsHeld
 pub mod CalmWindows
-pub mod Reads
+pub mod BooksRead
 pub mod QuietOpenings
 pub mod ShortWaits
 pub mod UnderWay
