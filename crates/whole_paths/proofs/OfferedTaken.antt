@@ -133,13 +133,13 @@ knows_modest n s six r e f modest up (knows.asked x) h = (let same = same_offer 
 abbrev pub BooksHold : SixBooks → Type 0
 BooksHold six = (s : Side) → received (reassembly_of s six) ≤ arriving.edge (reassembly_of s six)
 
-record Modest (six after : SixBooks) (s : Side) (e f : PathEnd) : Type 0 where
+pub record Modest (six after : SixBooks) (s : Side) (e f : PathEnd) : Type 0 where
   -- the book's edge never falls, nor what the end knows of it
-  up : arriving.edge (reassembly_of s six) ≤ arriving.edge (reassembly_of s after)
-  keeps : (at : ℕ) → at ≤ arriving.edge (reassembly_of s six) → Offers at e → Offers at f
-  modest : BooksHold six → offer e ≤ suc (arriving.edge (reassembly_of s six)) → offer f ≤ suc (arriving.edge (reassembly_of s after))
+  pub up : arriving.edge (reassembly_of s six) ≤ arriving.edge (reassembly_of s after)
+  pub keeps : (at : ℕ) → at ≤ arriving.edge (reassembly_of s six) → Offers at e → Offers at f
+  pub modest : BooksHold six → offer e ≤ suc (arriving.edge (reassembly_of s six)) → offer f ≤ suc (arriving.edge (reassembly_of s after))
 
-abbrev ModestOn : SixBooks → SixBooks → List Note → PathState Carried → PathState Carried → Type 0
+abbrev pub ModestOn : SixBooks → SixBooks → List Note → PathState Carried → PathState Carried → Type 0
 ModestOn six after steps p q = (s : Side) → Modest six after s (end_at s p) (end_at s q)
 
 abbrev AllSame : PathState Carried → PathState Carried → Type 0
@@ -239,7 +239,7 @@ books_hold start turns s = low (reassembly_of s (books_in (reached values start 
     sound_at = books_by_turns values (λ six. (s : Side) → IsSound (reassembly_of s six)) (λ x six h. sound_asked x six h) turns (opened_world start) (elim [ A ↦ sound-opened start.buffer | B ↦ sound-opened start.buffer ])
 
 module _ (start : Start) (mild : IsMildStart start) where
-  modest_between : EachPathBetween values ModestOn
+  pub modest_between : EachPathBetween values ModestOn
   modest_between = paths_between values ModestOn others_modest takes_modest next_modest
 
   abbrev Tells : SixBooks → PathState Carried → Type 0
