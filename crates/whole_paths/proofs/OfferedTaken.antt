@@ -47,6 +47,7 @@ use Rattle.whole_paths.proofs.Offered.{Knows, Same, answered_knows, edge_up, fai
 use Rattle.whole_paths.proofs.Offered.{Knows as knows}
 use Rattle.whole_paths.proofs.OpenCourses.{IsFirstPath, each_first}
 use Rattle.whole_paths.proofs.Settling.{sides}
+use Rattle.whole_paths.proofs.SoundBooks.{BooksAreSound, BooksHold, sound_asked, sound_first, sound_holds}
 use Rattle.whole_paths.proofs.ToldEdges.{told_low, what_is_told_goes_on}
 use Rattle.world_laws.specs.declared.member.Member.TheVariants.{Path}
 use Rattle.world_laws.specs.Actors.{ActorCrew}
@@ -129,10 +130,6 @@ knows_modest n s six r e f modest up (knows.asked x) h = (let same = same_offer 
 
 -- ---- a path, as it becomes another one
 
--- what is received lies below the book's edge
-abbrev pub BooksHold : SixBooks → Type 0
-BooksHold six = (s : Side) → received (reassembly_of s six) ≤ arriving.edge (reassembly_of s six)
-
 record Modest (six after : SixBooks) (s : Side) (e f : PathEnd) : Type 0 where
   -- the book's edge never falls, nor what the end knows of it
   up : arriving.edge (reassembly_of s six) ≤ arriving.edge (reassembly_of s after)
@@ -213,30 +210,8 @@ next_modest six steps p over s = same_modest six six s (end_at s p) (end_at s (n
 
 -- ---- the world
 
-sound_asked : (x : Ask) (six : SixBooks) → ((s : Side) → IsSound (reassembly_of s six)) → (s : Side) → IsSound (reassembly_of s (after_ask x six))
-sound_asked (Ask.Reassembly A call) six h A = sound-after_call call six.reassembly_a (h A)
-sound_asked (Ask.Reassembly B call) six h B = sound-after_call call six.reassembly_b (h B)
-sound_asked (Ask.Reassembly A call) six h B = h B
-sound_asked (Ask.Reassembly B call) six h A = h A
-sound_asked (Ask.Send A call) six h s = h s
-sound_asked (Ask.Send B call) six h s = h s
-sound_asked (Ask.Control A call) six h s = h s
-sound_asked (Ask.Control B call) six h s = h s
-sound_asked (Ask.Local step) six h s = h s
-
-filled_few : (places : List (Option ℕ)) → length (filled places) ≤ length places
-filled_few [] = omega arith
-filled_few (None ∷ places) = omega arith
-filled_few (Some byte ∷ places) = (let rest = filled_few places in omega (arith, rest))
-
 books_hold : (start : Start) (turns : List Turn) → BooksHold (books_in (reached values start turns).books)
-books_hold start turns s = low (reassembly_of s (books_in (reached values start turns).books)) (sound_at s)
-  where
-    low : (b : Arriving) → IsSound b → received b ≤ arriving.edge b
-    low b sound = (let fits = sound.fits in let few = filled_few b.places in omega (arith, fits, few))
-
-    sound_at : (s : Side) → IsSound (reassembly_of s (books_in (reached values start turns).books))
-    sound_at = books_by_turns values (λ six. (s : Side) → IsSound (reassembly_of s six)) (λ x six h. sound_asked x six h) turns (opened_world start) (elim [ A ↦ sound-opened start.buffer | B ↦ sound-opened start.buffer ])
+books_hold start turns = sound_holds (books_in (reached values start turns).books) (books_by_turns values BooksAreSound sound_asked turns (opened_world start) (sound_first start))
 
 module _ (start : Start) (mild : IsMildStart start) where
   modest_between : EachPathBetween values ModestOn
