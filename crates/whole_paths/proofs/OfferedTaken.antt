@@ -42,7 +42,7 @@ use Rattle.whole_paths.specs.Offered.{Offers}
 use Rattle.whole_paths.specs.OfferedTaken.{TellsWhatIsTaken, WhatIsToldIsTaken}
 use Rattle.whole_paths.specs.ToldEdges.{ToldOn, offer, told}
 use Rattle.whole_paths.specs.ToldEdges.{ToldOn as told_on}
-use Rattle.whole_paths.proofs.ByTurns.{Of, OfBooked, each_booked}
+use Rattle.whole_paths.proofs.ByTurns.{Of, OfBooked, between_at, each_booked}
 use Rattle.whole_paths.proofs.Offered.{Knows, Same, answered_knows, edge_up, fair_so, other_same, own_knows, passed_same, same_offers, same_so}
 use Rattle.whole_paths.proofs.Offered.{Knows as knows}
 use Rattle.whole_paths.proofs.OpenCourses.{IsFirstPath, each_first}
@@ -130,13 +130,13 @@ knows_modest n s six r e f modest up (knows.asked x) h = (let same = same_offer 
 
 -- ---- a path, as it becomes another one
 
-record Modest (six after : SixBooks) (s : Side) (e f : PathEnd) : Type 0 where
+pub record Modest (six after : SixBooks) (s : Side) (e f : PathEnd) : Type 0 where
   -- the book's edge never falls, nor what the end knows of it
-  up : arriving.edge (reassembly_of s six) ≤ arriving.edge (reassembly_of s after)
-  keeps : (at : ℕ) → at ≤ arriving.edge (reassembly_of s six) → Offers at e → Offers at f
-  modest : BooksHold six → offer e ≤ suc (arriving.edge (reassembly_of s six)) → offer f ≤ suc (arriving.edge (reassembly_of s after))
+  pub up : arriving.edge (reassembly_of s six) ≤ arriving.edge (reassembly_of s after)
+  pub keeps : (at : ℕ) → at ≤ arriving.edge (reassembly_of s six) → Offers at e → Offers at f
+  pub modest : BooksHold six → offer e ≤ suc (arriving.edge (reassembly_of s six)) → offer f ≤ suc (arriving.edge (reassembly_of s after))
 
-abbrev ModestOn : SixBooks → SixBooks → List Note → PathState Carried → PathState Carried → Type 0
+abbrev pub ModestOn : SixBooks → SixBooks → List Note → PathState Carried → PathState Carried → Type 0
 ModestOn six after steps p q = (s : Side) → Modest six after s (end_at s p) (end_at s q)
 
 abbrev AllSame : PathState Carried → PathState Carried → Type 0
@@ -213,14 +213,19 @@ next_modest six steps p over s = same_modest six six s (end_at s p) (end_at s (n
 books_hold : (start : Start) (turns : List Turn) → BooksHold (books_in (reached values start turns).books)
 books_hold start turns = sound_holds (books_in (reached values start turns).books) (books_by_turns values BooksAreSound sound_asked turns (opened_world start) (sound_first start))
 
-module _ (start : Start) (mild : IsMildStart start) where
-  modest_between : EachPathBetween values ModestOn
-  modest_between = paths_between values ModestOn others_modest takes_modest next_modest
+modest_between : EachPathBetween values ModestOn
+modest_between = paths_between values ModestOn others_modest takes_modest next_modest
 
+-- as path 0 becomes another one
+pub modest_at : (start : Start) (turns : List Turn) (turn : Turn) (p q : PathState Carried) (here : IsPathAt 0 (reached values start turns) p) (there : IsPathAt 0 (reached values start (turns ++ turn ∷ [])) q)
+    → ModestOn (books_in (reached values start turns).books) (books_in (reached values start (turns ++ turn ∷ [])).books) there.crew.list p q
+modest_at start turns turn p q here there = between_at values start ModestOn modest_between (λ six p. Unit {0}) turns turn p q here there
+
+module _ (start : Start) (mild : IsMildStart start) where
   abbrev Tells : SixBooks → PathState Carried → Type 0
   Tells six p = (s : Side) → TellsWhatIsTaken six s p
 
-  never_reset : (turns : List Turn) (p : PathState Carried) → IsPathAt 0 (reached values start turns) p → (s : Side) → IsToReset s p.agenda → ⊥
+  pub never_reset : (turns : List Turn) (p : PathState Carried) → IsPathAt 0 (reached values start turns) p → (s : Side) → IsToReset s p.agenda → ⊥
   never_reset turns p here s is = never_resets p (subst (Of IsNeverBroken) here.is ((never_breaks start turns mild).each 2 here.crew here.there) first.first) s is
     where
       first : IsFirstPath start p
@@ -269,8 +274,28 @@ module _ (start : Start) (mild : IsMildStart start) where
         by (told_on.dies dead) = absurd (both_ways (is_dead (end_at s q).tcp.state) living dead)
         by (told_on.breaks is) = absurd (⊎_elim (never_reset turns p here s) (never_reset (turns ++ turn ∷ []) q there s) is)
 
+    -- what is known never falls
+    known_now : is_dead (end_at s q).tcp.state ≡ false → told (end_at s q) ≤ suc (offer (end_at s q))
+    known_now living = by (what_is_told_goes_on start turns turn p q here (subst (λ (w : WorldState Carried). IsPathAt 0 w q) (run_append values turns (turn ∷ []) (opened_world start)) there) s).0
+      where
+        was : told (end_at s p) ≤ suc (offer (end_at s p))
+        was = (h s).known (living_before living)
+
+        stays : told (end_at s q) ≡ told (end_at s p) → told (end_at s q) ≤ suc (offer (end_at s q))
+        stays same =
+            let at : ℕ = told (end_at s p) - 1 in
+            let taken = (h s).told_so (living_before living) in let before = was in
+            let kept = (on s).keeps at (omega (arith, taken)) (omega (arith, before)) in omega (arith, same, kept)
+
+        by : ToldOn s p q → told (end_at s q) ≤ suc (offer (end_at s q))
+        by (told_on.keeps next window tells) = (let low = told_low (end_at s p) (end_at s q) tells in let before = was in omega (arith, low, before, next, window))
+        by (told_on.begins others is same) = stays same
+        by (told_on.asks others is same) = stays same
+        by (told_on.dies dead) = absurd (both_ways (is_dead (end_at s q).tcp.state) living dead)
+        by (told_on.breaks is) = absurd (⊎_elim (never_reset turns p here s) (never_reset (turns ++ turn ∷ []) q there s) is)
+
     tells_on : TellsWhatIsTaken later s q
-    tells_on = record { offered = offered_on; told_so = told_now }
+    tells_on = record { offered = offered_on; told_so = told_now; known = known_now }
 
   opened_tells : OfBooked values start ModestOn modest_between Tells (opened_world start)
   opened_tells = record {
@@ -282,8 +307,8 @@ module _ (start : Start) (mild : IsMildStart start) where
         where
           opened : (s : Side) → SameTold (end_at s (waiting_path {C = Carried} (path_begins start number plan) start.lines)) (end_at s (begins_turn (waiting_path {C = Carried} (path_begins start number plan) start.lines)))
               → TellsWhatIsTaken (books_in (opened_world {C = Carried} start).books) s (begins_turn (waiting_path {C = Carried} (path_begins start number plan) start.lines))
-          opened A x = record { offered = (let next = x.next in let window = x.window in omega (arith, next, window)); told_so = λ living. (let told = x.told in omega (arith, told)) }
-          opened B x = record { offered = (let next = x.next in let window = x.window in omega (arith, next, window)); told_so = λ living. (let told = x.told in omega (arith, told)) }
+          opened A x = record { offered = (let next = x.next in let window = x.window in omega (arith, next, window)); told_so = λ living. (let told = x.told in omega (arith, told)); known = λ living. (let told = x.told in omega (arith, told)) }
+          opened B x = record { offered = (let next = x.next in let window = x.window in omega (arith, next, window)); told_so = λ living. (let told = x.told in omega (arith, told)); known = λ living. (let told = x.told in omega (arith, told)) }
 
   tells_at : (turns : List Turn) (p : PathState Carried) → IsPathAt 0 (reached values start turns) p → Tells (books_in (reached values start turns).books) p
   tells_at turns p here = subst (Of (Tells (books_in (reached values start turns).books))) here.is
