@@ -13,6 +13,7 @@ use Rattle.reassembly_book.specs.State.{Arriving, filled, received}
 use Rattle.reassembly_book.specs.Steps.{is_end, next_wanted, after_reading, after_call}
 use Rattle.reassembly_book.specs.declared.call.ReassemblyCall.{ReassemblyCall}
 use Rattle.reassembly_book.specs.declared.call.ReassemblyCall.TheVariants as reassembly_calls
+use Rattle.stamped_book.specs.declared.stamped.Pass.{Pass}
 use Rattle.stream_apps.specs.Apps.{AppState}
 use Rattle.stream_apps.specs.declared.duty.AppDuty.{AppDuty}
 use Rattle.stream_apps.specs.declared.duty.AppDuty.TheVariants as app_duties
@@ -21,7 +22,7 @@ use Rattle.stream_lanes.proofs.Arrivals.{filled_left}
 use Rattle.actor_desk.specs.declared.ask.Ask.{Ask}
 use Rattle.actor_desk.specs.declared.ask.Ask.TheVariants as asks
 use Rattle.actor_desk.specs.declared.ask.Reply.{Reply}
-use Rattle.actor_desk.specs.Books.{books_in}
+use Rattle.actor_desk.specs.Books.{StampedBooks, after_entry, books_in}
 use Rattle.actor_desk.specs.Desk.{SixBooks, reassembly_of, reply_of, after_ask}
 use Rattle.actor_desk.specs.Words.{is_nil, pick}
 use Rattle.path_agenda.specs.Agenda.{start_of_turn, leaves, resets}
@@ -601,8 +602,8 @@ module _ {C : Type 0} (k : Codec C) (start : Start) where
         subst (λ six. WindowSince (reassembly_of s six) window) (sym is) (ask_window x (books_in t.books) leaves s window ((h.known s).window asked alive some));
   }
 
-  left_sound : (t : Cast C) (h : OnlyPath t) (x : Ask) (six : SixBooks) → six ≡ after_ask x (books_in t.books) → BooksAreSound six
-  left_sound t h x six is = subst BooksAreSound (sym is) (sound_asked x (books_in t.books) h.sound)
+  left_sound : (books : StampedBooks) (x : Ask) (pass : Pass) → BooksAreSound (books_in books) → BooksAreSound (books_in (after_entry x pass books))
+  left_sound books x pass sound = subst BooksAreSound (sym (books_after x pass books)) (sound_asked x (books_in books) sound)
 
   path_known : (t : Cast C) (number : ℕ) (x : Walker C) → slice_get t.paths number ≡ Some x → (d : Duty) (ds : List Duty) → x.path.agenda ≡ d ∷ ds → OnlyPath t → OnlyPath (after_path k number x (ask_for k d x.path) t)
   path_known t number x there d ds is h = by number (ap (λ xs. slice_get xs number) (sym h.is) ∙ there) (ap (λ xs. set xs number y) h.is)
@@ -613,14 +614,17 @@ module _ {C : Type 0} (k : Codec C) (start : Start) where
       y : Walker C
       y = walked k ask t.books x
 
+      hold : BooksHold (books_in t.books)
+      hold = sound_holds (books_in t.books) h.sound
+
       moved : h.walker ≡ x → set t.paths number y ≡ y ∷ [] → OnlyPath (after_path k number x ask t)
       moved same put = record {
         walker = y;
         is = put;
         shielded = takes_shielded k (answer_to t.books ask) x.path (subst (λ (z : Walker C). Shielded z.path) same h.shielded);
         known = λ s. subst (λ six. Known six s (end_at s y.path)) (sym (books_after ask x.at.pass t.books))
-            (takes_known k (books_in t.books) (sound_holds (books_in t.books) h.sound) d ds x.path is (subst (λ (z : Walker C). Shielded z.path) same h.shielded) s (subst (λ (z : Walker C). Known (books_in t.books) s (end_at s z.path)) same (h.known s)));
-        sound = left_sound t h ask _ (books_after ask x.at.pass t.books);
+            (takes_known k (books_in t.books) hold d ds x.path is (subst (λ (z : Walker C). Shielded z.path) same h.shielded) s (subst (λ (z : Walker C). Known (books_in t.books) s (end_at s z.path)) same (h.known s)));
+        sound = left_sound t.books ask x.at.pass h.sound;
       }
 
       by : (n : ℕ) → slice_get (h.walker ∷ []) n ≡ Some x → set t.paths number y ≡ set (h.walker ∷ []) n y → OnlyPath (after_path k number x ask t)
@@ -629,8 +633,8 @@ module _ {C : Type 0} (k : Codec C) (start : Start) where
 
   kept : Stepwise k start OnlyPath
   kept = record {
-    a = λ t f d ds is h. record { walker = h.walker; is = h.is; shielded = h.shielded; known = left_known t h (app_ask d t.a) _ (books_after (app_ask d t.a) t.at_a.pass t.books) (app_leaves d t.a); sound = left_sound t h (app_ask d t.a) _ (books_after (app_ask d t.a) t.at_a.pass t.books) };
-    b = λ t f d ds is h. record { walker = h.walker; is = h.is; shielded = h.shielded; known = left_known t h (app_ask d t.b) _ (books_after (app_ask d t.b) t.at_b.pass t.books) (app_leaves d t.b); sound = left_sound t h (app_ask d t.b) _ (books_after (app_ask d t.b) t.at_b.pass t.books) };
+    a = λ t f d ds is h. record { walker = h.walker; is = h.is; shielded = h.shielded; known = left_known t h (app_ask d t.a) _ (books_after (app_ask d t.a) t.at_a.pass t.books) (app_leaves d t.a); sound = left_sound t.books (app_ask d t.a) t.at_a.pass h.sound };
+    b = λ t f d ds is h. record { walker = h.walker; is = h.is; shielded = h.shielded; known = left_known t h (app_ask d t.b) _ (books_after (app_ask d t.b) t.at_b.pass t.books) (app_leaves d t.b); sound = left_sound t.books (app_ask d t.b) t.at_b.pass h.sound };
     path = λ t f number x there d ds is h. path_known t number x there d ds is h;
   }
 

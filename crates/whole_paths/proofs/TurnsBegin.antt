@@ -123,7 +123,7 @@ none_is_its_peer : (t : Side) → t ≡ peer t → ⊥
 none_is_its_peer A is = cc
 none_is_its_peer B is = cc
 
-first_of : Duty → List Duty → Duty
+abbrev first_of : Duty → List Duty → Duty
 first_of d [] = d
 first_of d (e ∷ ds) = e
 
