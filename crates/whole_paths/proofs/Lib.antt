@@ -75,6 +75,7 @@ pub mod Gaps
 pub mod GoesOn
 pub mod GoingOn
 pub mod Halting
+pub mod ShutEnds
 pub mod Harmed
 pub mod Hearing
 pub mod Hears
@@ -160,12 +161,10 @@ pub mod Timing
 pub mod ToldSoon
 pub mod Treating
 pub mod UnaSaid
-pub mod WideWindows
 pub mod BareSegments
 pub mod FinsComing
 pub mod FinsSent
 pub mod FinRounds
-pub mod OneDebt
 pub mod OneDebtAfter
 pub mod PaidEnds
 pub mod WindowsComing
@@ -241,6 +240,8 @@ pub mod UnitRounds
 pub mod PatientPaths
 pub mod WindowKinds
 pub mod WindowsHeld
+pub mod CalmWindows
+pub mod BooksRead
 pub mod QuietOpenings
 pub mod ShortWaits
 pub mod UnderWay

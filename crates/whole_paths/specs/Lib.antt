@@ -108,7 +108,6 @@ pub mod Waits
 pub mod WindowRoom
 pub mod WindowWaits
 pub mod WindowsHeard
-pub mod WideWindows
 pub mod BareSegments
 pub mod FinsComing
 pub mod OneDebt
@@ -151,6 +150,7 @@ pub mod ToldStays
 pub mod PatientPaths
 pub mod WindowKinds
 pub mod WindowsHeld
+pub mod CalmWindows
 pub mod QuietOpenings
 pub mod ShortWaits
 pub mod Rising

@@ -58,7 +58,6 @@ ghost use Rattle.world_laws.specs.Promises.{HoldsAnyway};
 ghost use Rattle.whole_paths.specs.BareSegments.{BareSegmentsAreTaken};
 ghost use Rattle.whole_paths.specs.FinsComing.{DataFinsComeSoon, DataFinsStaySoon, FourRoundsEnd};
 ghost use Rattle.whole_paths.specs.WindowsComing.{FourRoundsOpen, WindowsComeSoon};
-ghost use Rattle.whole_paths.specs.WideWindows.{WideWindowsStay};
 
 /// A law: where no line takes options away, alters payload or lets a side close at once, both sides go by mappings of pieces, always.
 ///
@@ -675,15 +674,6 @@ pub fn what_is_heard_was_said()
 /// long as neither end is dead; or all of the stream is with the peer (RFC 8684, section 3.3.2).
 pub fn heard_lies_below()
     ensures { HeardLiesBelow }
-{}
-
-/// A law: a congestion window of two full segments holds two still, by any turn, unless the end's timer runs out (RFC 5681, section 3.1).
-///
-/// Acknowledgements widen it, or bring it back to its threshold, which is two segments at least; a fast retransmission leaves it above that; and an
-/// expiry alone takes it to one.
-pub fn wide_windows_stay()
-    ensures octets { WideWindowsStay octets }
-    ensures values { WideWindowsStay values }
 {}
 
 /// A law: between open ends a segment without an octet is taken as it arrives, unless its end takes one before that goes past it (RFC 9293, section
