@@ -174,6 +174,7 @@ pub mod AnswersAssure
 pub mod AsksOwed
 pub mod OfferedTaken
 pub mod SoundBooks
+pub mod ToldSince
 pub mod TurnsBegin
 pub mod ToldEdges
 pub mod WindowRounds
