@@ -209,21 +209,3 @@ module _ {C : Type 0} (k : Codec C) (start : Start) (R : SixBooks → SixBooks �
 
     pub each_booked : (turns : List Turn) → OfBooked (reached k start turns)
     each_booked turns = booked_steps [] turns opened
-
-  -- between path 0 before a turn and after it
-  module _ (turns : List Turn) (turn : Turn) (p q : PathState C) (here : IsPathAt 0 (reached k start turns) p) (there : IsPathAt 0 (reached k start (turns ++ turn ∷ [])) q) where
-    abbrev was : WorldState C
-    was = reached k start turns
-
-    abbrev then : WorldState C
-    then = after_turn k turn was
-
-    pub between_at : R (books_in was.books) (books_in (reached k start (turns ++ turn ∷ [])).books) there.crew.list p q
-    between_at =
-        let same = same_world k start turns turn in
-        let found = between was turn 2 here.crew here.there in
-        let same_crew : found.0 ≡ there.crew = same_Some found.0 there.crew (sym found.1 ∙ subst (λ (u : WorldState C). slice_get u.crew 2 ≡ Some there.crew) same there.there) in
-        let now : PathsBetween R was.books then.books there.crew.list here.crew.member there.crew.member
-        = subst (λ (e : ActorCrew C). PathsBetween R was.books then.books e.list here.crew.member e.member) same_crew found.2 in
-        subst (λ (u : WorldState C). R (books_in was.books) (books_in u.books) there.crew.list p q) (sym same)
-        (subst (λ m. PathsBetween R was.books then.books there.crew.list (Path p) m) there.is (subst (λ m. PathsBetween R was.books then.books there.crew.list m there.crew.member) here.is now))

@@ -17,11 +17,12 @@ use Rattle.whole_paths.specs.CalmWindows.{OwedSince as owed, WindowIsKept as kep
 use Rattle.whole_paths.specs.Counts.{CountsAsMuch, with_events}
 use Rattle.whole_paths.specs.Delivery.{IsAllThere}
 use Rattle.whole_paths.specs.Finish.{is_harmed}
-use Rattle.whole_paths.specs.Mending.{IsBegunTurn, IsOpenTurn}
+use Rattle.whole_paths.specs.Mending.{IsBegunTurn}
 use Rattle.whole_paths.specs.News.{one_if}
 use Rattle.whole_paths.specs.OnePathScripts.{BeginsWithOnePath}
 use Rattle.whole_paths.specs.OpenCourses.{IsOpenAfter}
 use Rattle.whole_paths.specs.SegmentRounds.{IsRound, Rounds, read_after}
+use Rattle.whole_paths.specs.Straying.{IsOpen}
 use Rattle.whole_paths.specs.UnitRounds.{WellRounds}
 use Rattle.whole_paths.specs.WindowKinds.{WindowsStand}
 use Rattle.whole_paths.specs.WindowsHeld.{StallsOf}
@@ -52,18 +53,8 @@ module _ (start : Start) (plan : PathPlan) (s : Side) (one : BeginsWithOnePath s
     later = turns ++ turn ∷ []
 
     -- the ends stay open
-    open_on : IsOpenAfter start turns → IsOpenTurn start turns turn
-    open_on now = record {
-      mild = h.mild;
-      before = now;
-      after = record {
-        path = h.after.path;
-        here = h.after.here;
-        is_open = record { first = h.after.is_open.first; past = h.after.is_open.past; living = h.after.is_open.living; clear = clear };
-        faithful = h.after.faithful;
-        few = h.after.few;
-      };
-    }
+    open_on : IsOpenAfter start turns → IsOpen h.after.path
+    open_on now = record { first = h.after.is_open.first; past = h.after.is_open.past; living = h.after.is_open.living; clear = clear }
       where
         far_on : IsPathAsFar h.before.path h.after.path
         far_on = with_both start turns turn h IsActorAsFar (let found = (goes_on_so values (reached values start turns) (turn ∷ [])).crew 2 h.before.here.crew h.before.here.there in (found.0, found.1, found.2.member))
@@ -79,7 +70,9 @@ module _ (start : Start) (plan : PathPlan) (s : Side) (one : BeginsWithOnePath s
     calm_on : OwedSince start s turns → ((u : Side) → is_harmed u h.before.path h.after.path ≡ false) → OwedSince start s later
     calm_on o none =
         let now = open_then start s turns o in
-        owed.later later turns turn refl o (open_on now) (λ u. subst (λ (z : PathState Carried). is_harmed u z h.after.path ≡ false) (path_is (reached values start turns) h.before.path now.path h.before.here now.here) (none u))
+        owed.later later turns turn refl o
+        (record { mild = h.mild; before = now; after = record { path = h.after.path; here = h.after.here; is_open = open_on now; faithful = h.after.faithful; few = h.after.few } })
+        (λ u. subst (λ (z : PathState Carried). is_harmed u z h.after.path ≡ false) (path_is (reached values start turns) h.before.path now.path h.before.here now.here) (none u))
 
   -- ---- what is held
 

@@ -243,6 +243,8 @@ pub mod WindowKinds
 pub mod WindowsHeld
 pub mod CalmWindows
 pub mod BooksRead
+pub mod PathTurns
+pub mod ToldRounds
 pub mod QuietOpenings
 pub mod ShortWaits
 pub mod UnderWay

@@ -42,7 +42,7 @@ use Rattle.whole_paths.specs.Offered.{Offers}
 use Rattle.whole_paths.specs.OfferedTaken.{TellsWhatIsTaken, WhatIsToldIsTaken}
 use Rattle.whole_paths.specs.ToldEdges.{ToldOn, offer, told}
 use Rattle.whole_paths.specs.ToldEdges.{ToldOn as told_on}
-use Rattle.whole_paths.proofs.ByTurns.{Of, OfBooked, between_at, each_booked}
+use Rattle.whole_paths.proofs.ByTurns.{Of, OfBooked, each_booked}
 use Rattle.whole_paths.proofs.Offered.{Knows, Same, answered_knows, edge_up, fair_so, other_same, own_knows, passed_same, same_offers, same_so}
 use Rattle.whole_paths.proofs.Offered.{Knows as knows}
 use Rattle.whole_paths.proofs.OpenCourses.{IsFirstPath, each_first}
@@ -213,13 +213,8 @@ next_modest six steps p over s = same_modest six six s (end_at s p) (end_at s (n
 books_hold : (start : Start) (turns : List Turn) → BooksHold (books_in (reached values start turns).books)
 books_hold start turns = sound_holds (books_in (reached values start turns).books) (books_by_turns values BooksAreSound sound_asked turns (opened_world start) (sound_first start))
 
-modest_between : EachPathBetween values ModestOn
+pub modest_between : EachPathBetween values ModestOn
 modest_between = paths_between values ModestOn others_modest takes_modest next_modest
-
--- as path 0 becomes another one
-pub modest_at : (start : Start) (turns : List Turn) (turn : Turn) (p q : PathState Carried) (here : IsPathAt 0 (reached values start turns) p) (there : IsPathAt 0 (reached values start (turns ++ turn ∷ [])) q)
-    → ModestOn (books_in (reached values start turns).books) (books_in (reached values start (turns ++ turn ∷ [])).books) there.crew.list p q
-modest_at start turns turn p q here there = between_at values start ModestOn modest_between (λ six p. Unit {0}) turns turn p q here there
 
 module _ (start : Start) (mild : IsMildStart start) where
   abbrev Tells : SixBooks → PathState Carried → Type 0

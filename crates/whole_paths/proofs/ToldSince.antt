@@ -57,7 +57,7 @@ use Rattle.whole_paths.specs.WindowsHeard.{IsOpenTo as open_to}
 use Rattle.whole_paths.proofs.AnswersAssure.{assured_later, each_answer_assures, no_reset}
 use Rattle.whole_paths.proofs.AsksOwed.{who_asks_owes}
 use Rattle.whole_paths.proofs.BooksRead.{ReadsOn, books_are_read}
-use Rattle.whole_paths.proofs.ByTurns.{Of, OfBooked, between_at, each_booked}
+use Rattle.whole_paths.proofs.ByTurns.{Of, OfBooked, each_booked}
 use Rattle.whole_paths.proofs.DataAcksNow.{each_data_ack_is_up_to_date}
 use Rattle.whole_paths.proofs.Delivery.{what_is_there_stays}
 use Rattle.whole_paths.proofs.Directions.{clock, edge_up, past_is_there}
@@ -68,6 +68,7 @@ use Rattle.whole_paths.proofs.OpenTurns.{begun, with_both}
 use Rattle.whole_paths.proofs.Owing.{copies_are_answered}
 use Rattle.whole_paths.proofs.Paying.{StillOwed, Turned, TurnedTo, sends_on, turned_to}
 use Rattle.whole_paths.proofs.Paying.{StillOwed as owing}
+use Rattle.whole_paths.proofs.PathTurns.{at_turn}
 use Rattle.whole_paths.proofs.PositionCounts.{only_profile}
 use Rattle.whole_paths.proofs.RecordWaits.{last, path_is}
 use Rattle.whole_paths.proofs.RoundSteps.{each_round_reads, open_last, silent}
@@ -292,7 +293,7 @@ module _ (start : Start) (plan : PathPlan) (one : BeginsWithOnePath start plan) 
     told_stays = who_is_told_stays_told start plan turns turn one h s
 
     turns_begin : TurnBeginsOn (six later) far p q
-    turns_begin = between_at values start TurnsBeginOn (each_turn_begins values) (λ six p. Unit {0}) turns turn p q here_p here_q far
+    turns_begin = at_turn start turns turn p q here_p here_q TurnsBeginOn (each_turn_begins values) far
 
     turned : Turned p q
     turned = with_both start turns turn h TurnedTo (turned_to values (at turns) turn 2 here_p.crew here_p.there)

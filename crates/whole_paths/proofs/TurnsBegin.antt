@@ -243,10 +243,14 @@ module _ {C : Type 0} where
       by [] asks = others_turn six x steps (with_agenda [] p)
       by (d ∷ ds) asks = λ t. duty_turn k six x t d ds p (sym (same_Some (ask_for k d (with_agenda (d ∷ ds) p)) x asks))
 
+  -- as a turn begins
+  pub begins_anew : (t : Side) (p : PathState C) → BeginsTurn t (next_round p).agenda
+  begins_anew t p = settled_begins t start_of_turn (with_agenda start_of_turn (record p { clock = p.until; until = p.until + 100 })) (start_begins t)
+
   next_turn : (six : SixBooks) (steps : List Note) (p : PathState C) → is_nil p.agenda ≡ true → TurnsBeginOn six six steps p (next_round p)
   next_turn six steps p over t = record {
     soon = λ h. absurd (empty t p.agenda over h);
-    later = λ h. inr (nothing_left p.agenda over, settled_begins t start_of_turn (with_agenda start_of_turn (record p { clock = p.until; until = p.until + 100 })) (start_begins t));
+    later = λ h. inr (nothing_left p.agenda over, begins_anew t p);
     first = λ ds same h. absurd (empty t p.agenda over h);
   }
 

@@ -151,6 +151,7 @@ pub mod PatientPaths
 pub mod WindowKinds
 pub mod WindowsHeld
 pub mod CalmWindows
+pub mod ToldRounds
 pub mod QuietOpenings
 pub mod ShortWaits
 pub mod Rising
