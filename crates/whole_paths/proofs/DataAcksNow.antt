@@ -617,15 +617,20 @@ module _ {C : Type 0} (k : Codec C) (start : Start) where
       hold : BooksHold (books_in t.books)
       hold = sound_holds (books_in t.books) h.sound
 
+      was_known : h.walker ≡ x → (s : Side) → Known (books_in t.books) s (end_at s x.path)
+      was_known same s = subst (λ (z : Walker C). Known (books_in t.books) s (end_at s z.path)) same (h.known s)
+
+      was_shielded : h.walker ≡ x → Shielded x.path
+      was_shielded same = subst (λ (z : Walker C). Shielded z.path) same h.shielded
+
+      now_known : h.walker ≡ x → (s : Side) → Known (books_in (after_entry ask x.at.pass t.books)) s (end_at s y.path)
+      now_known same s = subst (λ six. Known six s (end_at s y.path)) (sym (books_after ask x.at.pass t.books)) (takes_known k (books_in t.books) hold d ds x.path is (was_shielded same) s (was_known same s))
+
+      now_sound : BooksAreSound (books_in (after_entry ask x.at.pass t.books))
+      now_sound = left_sound t.books ask x.at.pass h.sound
+
       moved : h.walker ≡ x → set t.paths number y ≡ y ∷ [] → OnlyPath (after_path k number x ask t)
-      moved same put = record {
-        walker = y;
-        is = put;
-        shielded = takes_shielded k (answer_to t.books ask) x.path (subst (λ (z : Walker C). Shielded z.path) same h.shielded);
-        known = λ s. subst (λ six. Known six s (end_at s y.path)) (sym (books_after ask x.at.pass t.books))
-            (takes_known k (books_in t.books) hold d ds x.path is (subst (λ (z : Walker C). Shielded z.path) same h.shielded) s (subst (λ (z : Walker C). Known (books_in t.books) s (end_at s z.path)) same (h.known s)));
-        sound = left_sound t.books ask x.at.pass h.sound;
-      }
+      moved same put = record { walker = y; is = put; shielded = takes_shielded k (answer_to t.books ask) x.path (was_shielded same); known = now_known same; sound = now_sound }
 
       by : (n : ℕ) → slice_get (h.walker ∷ []) n ≡ Some x → set t.paths number y ≡ set (h.walker ∷ []) n y → OnlyPath (after_path k number x ask t)
       by zero there put = moved (same_Some h.walker x there) put
