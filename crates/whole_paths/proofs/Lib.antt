@@ -173,6 +173,8 @@ pub mod FilesFit
 pub mod AnswersAssure
 pub mod AsksOwed
 pub mod OfferedTaken
+pub mod SoundBooks
+pub mod ToldSince
 pub mod TurnsBegin
 pub mod ToldEdges
 pub mod WindowRounds

@@ -35,7 +35,7 @@ module _ (start : Start) (plan : PathPlan) (one : BeginsWithOnePath start plan) 
   asks_on turns turn before after h = by h
     where
       modest : Modest (books_in (reached values start turns).books) (books_in (reached values start (turns ++ turn ∷ [])).books) t (end_at t before.path) (end_at t after.path)
-      modest = at_turn start turns turn before.path after.path before.here after.here ModestOn (modest_between start one.mild) t
+      modest = at_turn start turns turn before.path after.path before.here after.here ModestOn modest_between t
 
       begins : TurnBeginsOn (books_in (reached values start (turns ++ turn ∷ [])).books) t before.path after.path
       begins = at_turn start turns turn before.path after.path before.here after.here TurnsBeginOn (each_turn_begins values) t
@@ -68,7 +68,7 @@ module _ (start : Start) (plan : PathPlan) (s : Side) (v w : List Turn) (one : B
 
   first : Asks start plan one t at begun open_begun.path
   first = Asks.soon (at_round start v round.before open_v.path open_begun.path open_v.here open_begun.here (λ (y : PathState Carried). BeginsTurn t y.agenda) (begins_anew t open_v.path))
-      (let modest = at_turn start v Turn.Round open_v.path open_begun.path open_v.here open_begun.here ModestOn (modest_between start one.mild) t in let up = modest.up in let low = taken in omega (arith, low, up))
+      (let modest = at_turn start v Turn.Round open_v.path open_begun.path open_v.here open_begun.here ModestOn modest_between t in let up = modest.up in let low = taken in omega (arith, low, up))
 
   is : begun ++ steps_of round.order ≡ w
   is = append_assoc v (Turn.Round ∷ []) (steps_of round.order) ∙ sym round.is
