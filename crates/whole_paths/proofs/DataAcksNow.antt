@@ -564,6 +564,9 @@ module _ {C : Type 0} where
     sends_so [] asked = tt
     sends_so (d ∷ ds) asked = each_sent (duty_sends d p) (λ s told. silent_resets d p (shield_silent s d (guard_shield s d ds (asked s told))))
 
+  no_second : (n : ℕ) (x : Walker C) → slice_get [] n ≡ Some x → ⊥
+  no_second n x is = cc
+
   takes_so : (k : Codec C) (six : SixBooks) → BooksHold six → (d : Duty) (ds : List Duty) (p : PathState C) → p.agenda ≡ d ∷ ds → Shielded p → (s : Side) → Known six s (end_at s p) → (r : Reply)
       → reply_of six (ask_for k d p) ≡ r → (later : SixBooks) → after_ask (ask_for k d p) six ≡ later → Known later s (end_at s (takes k r p))
   takes_so k six hold d ds p is shield s h r same later after = subst (λ six. Known six s (end_at s (takes k r p))) after
@@ -639,7 +642,7 @@ module _ {C : Type 0} (k : Codec C) (start : Start) where
 
       by : (n : ℕ) → slice_get (h.walker ∷ []) n ≡ Some x → set t.paths number y ≡ set (h.walker ∷ []) n y → OnlyPath (after_path k number x ask t)
       by zero there put = moved (same_Some h.walker x there) put
-      by (suc n) there put = cc
+      by (suc n) there put = absurd (no_second n x there)
 
   kept : Stepwise k start OnlyPath
   kept = record {
