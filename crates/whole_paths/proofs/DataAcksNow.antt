@@ -564,6 +564,14 @@ module _ {C : Type 0} where
     sends_so [] asked = tt
     sends_so (d ∷ ds) asked = each_sent (duty_sends d p) (λ s told. silent_resets d p (shield_silent s d (guard_shield s d ds (asked s told))))
 
+  no_second : (n : ℕ) (x : Walker C) → slice_get [] n ≡ Some x → ⊥
+  no_second n x is = cc
+
+  takes_so : (k : Codec C) (six : SixBooks) → BooksHold six → (d : Duty) (ds : List Duty) (p : PathState C) → p.agenda ≡ d ∷ ds → Shielded p → (s : Side) → Known six s (end_at s p) → (r : Reply)
+      → reply_of six (ask_for k d p) ≡ r → (later : SixBooks) → after_ask (ask_for k d p) six ≡ later → Known later s (end_at s (takes k r p))
+  takes_so k six hold d ds p is shield s h r same later after = subst (λ six. Known six s (end_at s (takes k r p))) after
+      (subst (λ r. Known (after_ask (ask_for k d p) six) s (end_at s (takes k r p))) same (takes_known k six hold d ds p is shield s h))
+
   -- what is to be done first tells or asks the book, where more was told
   now_known : (six : SixBooks) (p : PathState C) → Shielded p → ((s : Side) → Known six s (end_at s p)) → KnowsWhatCame six p
   now_known six p shield known = record {
@@ -624,7 +632,7 @@ module _ {C : Type 0} (k : Codec C) (start : Start) where
       was_shielded same = subst (λ (z : Walker C). Shielded z.path) same h.shielded
 
       now_known : h.walker ≡ x → (s : Side) → Known (books_in (after_entry ask x.at.pass t.books)) s (end_at s y.path)
-      now_known same s = subst (λ six. Known six s (end_at s y.path)) (sym (books_after ask x.at.pass t.books)) (takes_known k (books_in t.books) hold d ds x.path is (was_shielded same) s (was_known same s))
+      now_known same s = takes_so k (books_in t.books) hold d ds x.path is (was_shielded same) s (was_known same s) (answer_to t.books ask) refl (books_in (after_entry ask x.at.pass t.books)) (sym (books_after ask x.at.pass t.books))
 
       now_sound : BooksAreSound (books_in (after_entry ask x.at.pass t.books))
       now_sound = left_sound t.books ask x.at.pass h.sound
@@ -634,7 +642,7 @@ module _ {C : Type 0} (k : Codec C) (start : Start) where
 
       by : (n : ℕ) → slice_get (h.walker ∷ []) n ≡ Some x → set t.paths number y ≡ set (h.walker ∷ []) n y → OnlyPath (after_path k number x ask t)
       by zero there put = moved (same_Some h.walker x there) put
-      by (suc n) there put = cc
+      by (suc n) there put = absurd (no_second n x there)
 
   kept : Stepwise k start OnlyPath
   kept = record {

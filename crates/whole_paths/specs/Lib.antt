@@ -152,6 +152,7 @@ pub mod WindowKinds
 pub mod WindowsHeld
 pub mod CalmWindows
 pub mod ToldRounds
+pub mod ToldSince
 pub mod QuietOpenings
 pub mod ShortWaits
 pub mod Rising
