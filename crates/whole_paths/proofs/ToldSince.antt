@@ -1,6 +1,6 @@
 -- Since an end owed an answer and none of its segments was harmed its window is told: with the answer, and with an Update once its reader has read
 -- enough.
-use Rattle.std.proofs.Common.{◌≡◌, refl, sym, subst, ap, ◌∙◌, ◌⊎◌, inl, inr, ⊎_elim, ℕ, suc, ◌+◌, ◌-◌, ◌*◌, ◌<◌, ◌≤◌, arith, min, nat_le, Bool, true, false, if◌then◌else◌, Option, Some, IfSome, List, [], ◌∷◌, ◌++◌}
+use Rattle.std.proofs.Common.{◌≡◌, refl, sym, subst, ap, ◌∙◌, ◌⊎◌, inl, inr, ⊎_elim, ℕ, suc, ◌+◌, ◌-◌, ◌*◌, ◌<◌, ◌≤◌, arith, min, nat_le, Bool, true, false, if◌then◌else◌, Option, Some, None, IfSome, List, [], ◌∷◌, ◌++◌}
 use Rattle.std.proofs.lemmas.Bool.{both_ways, cases_lt, le-leb}
 use Rattle.sides.specs.declared.side.Side.{Side}
 use Rattle.sides.specs.declared.side.Side.TheVariants.{A, B}
@@ -17,9 +17,8 @@ use Rattle.path_agenda.specs.declared.duty.Duty.{Duty}
 use Rattle.path_agenda.specs.declared.duty.Duty.TheVariants as duties
 use Rattle.path_agenda.specs.declared.duty.AskDuty.TheVariants as ask_duties
 use Rattle.path_agenda.specs.declared.duty.SendDuty.TheVariants as send_duties
-use Rattle.path_core.specs.declared.said.SegmentKind.TheVariants as kinds
 use Rattle.path_core.specs.End.{PathEnd}
-use Rattle.path_core.specs.Looking.{first_sends, segment_sent, to_send}
+use Rattle.path_core.specs.Looking.{first_sends, segment_sent}
 use Rattle.path_core.specs.Profile.{Profile}
 use Rattle.path_core.specs.Standing.{has_grown, tellable_edge}
 use Rattle.path_core.specs.Start.{waiting_path}
@@ -229,6 +228,10 @@ module _ (start : Start) (plan : PathPlan) (one : BeginsWithOnePath start plan) 
         offers : Offers start.buffer (end_at far p)
         offers = subst (λ (o : Option ToSend). IfSome o (λ t. t.from ≡ far → Offers start.buffer (end_at far p))) sends ((what_is_taken_is_offered values).sends (six turns) far start.buffer p (offers_first turns p here)) own
 
+    sends_if : (o : Option ToSend) → first_sends p.agenda p ≡ o → IfSome o (λ x. x.from ≡ far → (segment_sent p x).rst ≡ false → SendsWindow turns p)
+    sends_if None sends = tt
+    sends_if (Some x) sends = sends_window x sends
+
     taken : TellsWhatIsTaken (six turns) far p
     taken = what_is_told_is_taken start turns one.mild p here far
 
@@ -387,22 +390,18 @@ module _ (start : Start) (plan : PathPlan) (one : BeginsWithOnePath start plan) 
             ((of_path start plan one turns p HasAnswered here_p ((copies_are_answered values start turns).each 2 here_p.crew here_p.there)) is far (open_turn.before.is_open.living far)).ack due)
         by (owing.rests same) = owes (subst (λ (y : PathState Carried). (end_at far y).tcp.due.ack ≡ true) (sym same) due)
 
-    abbrev update : ToSend
-    update = record { from = far; kind = kinds.Ack }
-
     updates_next : (others : List Duty) → p.agenda ≡ duties.Send (send_duties.Update far) ∷ others → Told later q
     updates_next others is =
         let d : Duty = duties.Send (send_duties.Update far) in
-        let sends : first_sends p.agenda p ≡ Some update = ap (λ ds. first_sends ds p) is in
-        let goes : SendsWindow turns p = sends_window turns p here_p open_turn.before.is_open update sends refl refl in
-        let bare : IsBareFrom far p (segment_sent p update) = record { position = refl; rst = refl; syn = refl; fin = refl; payload = refl } in
+        let sends : first_sends p.agenda p ≡ first_sends (d ∷ others) p = ap (λ ds. first_sends ds p) is in
+        let goes : SendsWindow turns p = sends_if turns p here_p open_turn.before.is_open (first_sends (d ∷ others) p) sends refl refl in
         ⊎_elim
         (λ same. updates others (subst (λ (y : PathState Carried). y.agenda ≡ d ∷ others) (sym same) is))
         (λ rest. ⊎_elim (λ harmed. absurd (both_ways (is_harmed far p q) none harmed)) (λ assured. window_goes d others is refl goes (assured_on (offer e - 32) assured)) rest)
         (subst (λ (o : Option ToSend). IfSome o (λ x. x.from ≡ far → IsBareFrom far p (segment_sent p x) → (edge : ℕ) → OffersUpTo (six turns) far (edge + 31) p
         → (q ≡ p) ⊎ ((is_harmed far p q ≡ true) ⊎ IsAssured (six later) s edge (p.clock + 400) q))) sends
         ((windows_are_assured start plan turns turn one h s (open_turn.before.is_open.clear far)).sent (each_window_has_room start plan turns one p here_p h.before.is_open s))
-        refl bare (offer e - 32) (offers_less turns p here_p open_turn.before.is_open goes))
+        refl (record { position = refl; rst = refl; syn = refl; fin = refl; payload = refl }) (offer e - 32) (offers_less turns p here_p open_turn.before.is_open goes))
 
     -- ---- the book is asked
 
