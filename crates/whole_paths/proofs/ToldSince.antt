@@ -305,7 +305,7 @@ module _ (start : Start) (plan : PathPlan) (one : BeginsWithOnePath start plan) 
     told_so = (what_is_told_goes_on start turns turn p q here_p there_q far).0
 
     updates_so : UpdatesIfGrown far p q
-    updates_so = (what_is_told_goes_on start turns turn p q here_p there_q far).1.0
+    updates_so = (what_is_told_goes_on start turns turn p q here_p there_q far).1
 
     assured_on : (g : ℕ) → IsAssured (six later) s g (p.clock + 400) q → Assured g later q
     assured_on g is = assured_later (six later) s g (p.clock + 400) (q.clock + 400) q (let up = clock start plan one turns turn h s in omega (arith, up)) is
@@ -324,7 +324,7 @@ module _ (start : Start) (plan : PathPlan) (one : BeginsWithOnePath start plan) 
         (cases_lt e.tcp.recv.edge f.tcp.recv.edge)
 
     read_on : (bound : ℕ) → f.tcp.recv.edge ≡ e.tcp.recv.edge → IsRead turns bound p → (IsRead later bound q → Told later q) → Told later q
-    read_on bound same is then = ⊎_elim (λ all. all_came all) (λ now. then (by now is (books_are_read start turns turn far))) (exact later q here_q open_turn.after.is_open)
+    read_on bound same is goes = ⊎_elim (λ all. all_came all) (λ now. goes (by now is (books_are_read start turns turn far))) (exact later q here_q open_turn.after.is_open)
       where
         by : f.tcp.recv.edge ≡ suc (received (book later)) → IsRead turns bound p → ReadsOn (book turns) (book later) → IsRead later bound q
         by now is (inr (inl all)) = all_read (omega (arith, now, all))
