@@ -1,5 +1,5 @@
 -- As a round begins path 0's ends are to ask their books, and they have asked once it is over.
-use Rattle.std.proofs.Common.{◌≡◌, sym, subst, ap, ◌∙◌, ◌⊎◌, ⊎_elim, ◌+◌, ◌≤◌, ℕ, arith, List, [], ◌∷◌, ◌++◌, append_assoc}
+use Rattle.std.proofs.Common.{◌≡◌, sym, subst, ◌∙◌, ⊎_elim, ◌+◌, ◌≤◌, ℕ, arith, List, [], ◌∷◌, ◌++◌, append_assoc}
 use Rattle.sides.specs.declared.side.Side.{Side}
 use Rattle.sides.specs.Side.{peer}
 use Rattle.reassembly_book.specs.Steps as arriving
@@ -17,7 +17,7 @@ use Rattle.whole_paths.specs.OpenCourses.{IsOpenAfter}
 use Rattle.whole_paths.specs.SegmentRounds.{IsRound, read_after}
 use Rattle.whole_paths.specs.ToldEdges.{offer}
 use Rattle.whole_paths.specs.ToldRounds.{EachRoundAsks}
-use Rattle.whole_paths.specs.TurnsBegin.{AsksNow, BeginsTurn, TurnBeginsOn, TurnsBeginOn}
+use Rattle.whole_paths.specs.TurnsBegin.{BeginsTurn, TurnBeginsOn, TurnsBeginOn}
 use Rattle.whole_paths.proofs.OfferedTaken.{Modest, ModestOn, modest_between}
 use Rattle.whole_paths.proofs.Offered.{what_is_taken_is_offered}
 use Rattle.whole_paths.proofs.PathTurns.{at_round, at_turn}

@@ -1,6 +1,6 @@
 -- Since an end owed an answer and none of its segments was harmed its window is told: with the answer, and with an Update once its reader has read
 -- enough.
-use Rattle.std.proofs.Common.{◌≡◌, refl, sym, subst, ap, ◌∙◌, ◌⊎◌, inl, inr, ⊎_elim, ℕ, suc, ◌+◌, ◌-◌, ◌*◌, ◌<◌, ◌≤◌, arith, min, nat_le, Bool, true, false, if◌then◌else◌, Option, Some, None, IfSome, List, [], ◌∷◌, ◌++◌}
+use Rattle.std.proofs.Common.{◌≡◌, refl, sym, subst, ap, ◌∙◌, ◌⊎◌, inl, inr, ⊎_elim, ℕ, suc, ◌+◌, ◌-◌, ◌*◌, ◌<◌, ◌≤◌, arith, min, true, false, if◌then◌else◌, Option, Some, None, IfSome, List, [], ◌∷◌, ◌++◌}
 use Rattle.std.proofs.lemmas.Bool.{both_ways, cases_lt, le-leb}
 use Rattle.sides.specs.declared.side.Side.{Side}
 use Rattle.sides.specs.declared.side.Side.TheVariants.{A, B}
@@ -28,7 +28,7 @@ use Rattle.world_laws.specs.Actors.{ActorCrew}
 use Rattle.world_laws.specs.Openings.{PathPlan, Start, opened_world, path_begins}
 use Rattle.world_laws.specs.Promises.{arrived_at}
 use Rattle.world_laws.specs.RoundDone.{reached}
-use Rattle.world_laws.specs.Worlds.{Turn, WorldState, after_turn, all_over}
+use Rattle.world_laws.specs.Worlds.{Turn, WorldState, after_turn}
 use Rattle.world_laws.specs.Writes.{side_of}
 use Rattle.world_laws.proofs.Rounds.Lifting.{opened_lifted}
 use Rattle.whole_paths.specs.Answered.{HasAnswered, IsDone}
@@ -38,8 +38,8 @@ use Rattle.whole_paths.specs.CalmWindows.{OwedSince as owed}
 use Rattle.whole_paths.specs.DataAcksNow.{KnowsWhatCame, KnowsWindow, WindowSince}
 use Rattle.whole_paths.specs.Delivery.{IsAllThere}
 use Rattle.whole_paths.specs.Finish.{IsPathAt, is_harmed}
-use Rattle.whole_paths.specs.Mending.{IsBegunTurn, IsOpenTurn, LeavesRoomFor}
-use Rattle.whole_paths.specs.Offered.{AsksFirst, Offers, OffersOn, OffersUpTo}
+use Rattle.whole_paths.specs.Mending.{IsBegunTurn, IsOpenTurn}
+use Rattle.whole_paths.specs.Offered.{Offers, OffersOn, OffersUpTo}
 use Rattle.whole_paths.specs.OfferedTaken.{TellsWhatIsTaken}
 use Rattle.whole_paths.specs.OnePathScripts.{BeginsWithOnePath}
 use Rattle.whole_paths.specs.OpenCourses.{IsNow, IsOpenAfter}
@@ -48,8 +48,8 @@ use Rattle.whole_paths.specs.Straying.{IsOpen, IsOpenFrom}
 use Rattle.whole_paths.specs.ToldEdges.{ToldOn, UpdatesIfGrown, offer, told}
 use Rattle.whole_paths.specs.ToldEdges.{ToldOn as told_on}
 use Rattle.whole_paths.specs.ToldStays.{ToldStays}
-use Rattle.whole_paths.specs.TurnsBegin.{AsksNow, BeginsTurn, HasBegun, TurnBeginsOn, TurnsBeginOn}
-use Rattle.whole_paths.specs.WindowsAssured.{IsAssured, OvertakersSay, SaysWindow}
+use Rattle.whole_paths.specs.TurnsBegin.{AsksNow, HasBegun, TurnBeginsOn, TurnsBeginOn}
+use Rattle.whole_paths.specs.WindowsAssured.{IsAssured, SaysWindow}
 use Rattle.whole_paths.specs.WindowsAssured.IsAssured.{heard, flies}
 use Rattle.whole_paths.specs.WindowsHeard.{IsOpenTo}
 use Rattle.whole_paths.specs.WindowsHeard.{IsOpenTo as open_to}
@@ -305,7 +305,7 @@ module _ (start : Start) (plan : PathPlan) (one : BeginsWithOnePath start plan) 
     told_so = (what_is_told_goes_on start turns turn p q here_p there_q far).0
 
     updates_so : UpdatesIfGrown far p q
-    updates_so = (what_is_told_goes_on start turns turn p q here_p there_q far).1.0
+    updates_so = (what_is_told_goes_on start turns turn p q here_p there_q far).1
 
     assured_on : (g : ℕ) → IsAssured (six later) s g (p.clock + 400) q → Assured g later q
     assured_on g is = assured_later (six later) s g (p.clock + 400) (q.clock + 400) q (let up = clock start plan one turns turn h s in omega (arith, up)) is
@@ -324,7 +324,7 @@ module _ (start : Start) (plan : PathPlan) (one : BeginsWithOnePath start plan) 
         (cases_lt e.tcp.recv.edge f.tcp.recv.edge)
 
     read_on : (bound : ℕ) → f.tcp.recv.edge ≡ e.tcp.recv.edge → IsRead turns bound p → (IsRead later bound q → Told later q) → Told later q
-    read_on bound same is then = ⊎_elim (λ all. all_came all) (λ now. then (by now is (books_are_read start turns turn far))) (exact later q here_q open_turn.after.is_open)
+    read_on bound same is goes = ⊎_elim (λ all. all_came all) (λ now. goes (by now is (books_are_read start turns turn far))) (exact later q here_q open_turn.after.is_open)
       where
         by : f.tcp.recv.edge ≡ suc (received (book later)) → IsRead turns bound p → ReadsOn (book turns) (book later) → IsRead later bound q
         by now is (inr (inl all)) = all_read (omega (arith, now, all))

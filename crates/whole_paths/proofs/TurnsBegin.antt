@@ -119,7 +119,7 @@ pub start_begins : (t : Side) → BeginsTurn t start_of_turn
 start_begins A = (refl, refl, (refl, refl, (refl, refl, inl (refl, (refl, (refl, tt))))))
 start_begins B = (refl, refl, (refl, refl, (refl, refl, inr (refl, (refl, inl (refl, (refl, tt)))))))
 
-none_is_its_peer : (t : Side) → t ≡ peer t → ⊥
+pub none_is_its_peer : (t : Side) → t ≡ peer t → ⊥
 none_is_its_peer A is = cc
 none_is_its_peer B is = cc
 
@@ -129,14 +129,6 @@ first_of d (e ∷ ds) = e
 
 asks_window : (t : Side) (d : Duty) (ds es : List Duty) → d ∷ ds ≡ duties.Ask (ask_duties.Window t) ∷ es → d ≡ duties.Ask (ask_duties.Window t)
 asks_window t d ds es same = ap (first_of d) same
-
--- as the end has begun its turn, or is about to
-not_both : (t : Side) (ds : List Duty) → HasBegun t ds → BeginsTurn t ds → ⊥
-not_both t [] begun h = h
-not_both t (duties.Ask (ask_duties.Window u) ∷ ds) begun (inl own) = none_is_its_peer t (sym own.0 ∙ begun.0)
-not_both t (duties.Ask (ask_duties.Window u) ∷ ds) begun (inr away) = not_both t ds begun.1 away.1
-not_both t (duties.Send (send_duties.Update u) ∷ ds) begun h = not_both t ds begun h.1
-not_both t (d ∷ ds) begun h = not_both t ds begun h.2
 
 empty : (t : Side) (ds : List Duty) → is_nil ds ≡ true → BeginsTurn t ds → ⊥
 empty t [] over h = h
