@@ -212,6 +212,7 @@ pub use window_laws::each_turn_asks_its_window;
 pub use window_laws::fitting_files_are_never_shut;
 pub use window_laws::probes_go_again;
 pub use window_laws::what_comes_opens_the_window;
+pub use window_laws::what_is_owed_is_told;
 pub use window_laws::what_is_told_goes_on;
 pub use window_laws::what_is_told_is_taken;
 pub use window_laws::who_asks_owes;

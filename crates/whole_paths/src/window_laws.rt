@@ -5,6 +5,7 @@ ghost use Rattle.whole_paths.specs.FilesFit.{FittingFilesAreNeverShut};
 ghost use Rattle.whole_paths.specs.OfferedTaken.{WhatIsToldIsTaken};
 ghost use Rattle.whole_paths.specs.ProbeWaits.{ProbesAreAwaitedAlways, ProbesGoAgain};
 ghost use Rattle.whole_paths.specs.ToldEdges.{WhatIsToldGoesOn};
+ghost use Rattle.whole_paths.specs.ToldSince.{WhatIsOwedIsAlwaysTold};
 ghost use Rattle.path_core.specs.Octets.{octets};
 ghost use Rattle.path_core.specs.Values.{values};
 ghost use Rattle.whole_paths.specs.TurnsBegin.{EachTurnBegins};
@@ -84,4 +85,14 @@ pub fn each_turn_asks_its_window()
 pub fn probes_go_again()
     ensures again { ProbesGoAgain }
     ensures awaited { ProbesAreAwaitedAlways }
+{}
+
+/// A law: since an end owed its peer an answer, and no segment of the path was harmed, its window is told: a round later the peer may send a full
+/// segment's payload past what was read before that round, or is told so within 400 ticks; or all of the peer's stream is there (RFC 9293, sections
+/// 3.8.6 and 3.8.6.2.2).
+///
+/// So it is over one path of a mild connection, whatever each side buffers. The answer tells all that the end's reassembly book takes; what an application
+/// reads then at once is told as the next turn begins, or is less than half of the buffer, or two segments.
+pub fn what_is_owed_is_told()
+    ensures { WhatIsOwedIsAlwaysTold }
 {}
