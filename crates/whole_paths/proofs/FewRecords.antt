@@ -1,5 +1,5 @@
 -- Grants are full, and a file that fits is written at once and lies before the edge: so each record but the last holds a full segment's payload.
-use Rattle.std.proofs.Common.{◌≡◌, refl, sym, subst, ap, ◌∙◌, ◌⊎◌, inl, inr, ⊎_elim, ℕ, zero, suc, ◌+◌, ◌-◌, ◌*◌, ◌/◌, ◌%◌, ◌<◌, ◌≤◌, arith, max, min, Bool, true, false, Option, Some, List, [], ◌∷◌, ◌++◌, length, map}
+use Rattle.std.proofs.Common.{◌≡◌, refl, sym, subst, ap, ◌∙◌, ◌⊎◌, inl, inr, ⊎_elim, ℕ, zero, suc, ◌+◌, ◌*◌, ◌<◌, ◌≤◌, arith, Bool, true, false, Some, List, [], ◌∷◌, ◌++◌, length, map}
 use Rattle.std.specs.Int.{div_ceil}
 use Rattle.std.specs.List.{slice_get}
 use Rattle.std.proofs.Math.Nat.{mul-le-mul_right, suc-mul, zero-mul}
@@ -13,34 +13,27 @@ use Rattle.subflow_send.specs.Records.{Record, end_of, occupied, span_of}
 use Rattle.subflow_send.specs.declared.record.RecordKind.{RecordKind}
 use Rattle.subflow_send.specs.declared.record.RecordKind.TheVariants as kinds
 use Rattle.subflow_tcp.specs.States.{may_finish}
-use Rattle.path_agenda.specs.declared.duty.Duty.{Duty}
-use Rattle.path_agenda.specs.declared.duty.Duty.TheVariants as duties
-use Rattle.path_agenda.specs.declared.duty.StepDuty.TheVariants as step_duties
 use Rattle.path_core.specs.Emission.{payload_size}
 use Rattle.path_core.specs.Profile.{Profile}
 use Rattle.path_core.specs.State.{PathState, end_at}
 use Rattle.path_core.specs.Values.{Carried, values}
-use Rattle.world_laws.specs.Actors.{Actor, ActorCrew}
+use Rattle.world_laws.specs.Actors.{ActorCrew}
 use Rattle.world_laws.specs.declared.member.Member.TheVariants.{Path}
-use Rattle.world_laws.specs.Members.{HoldsOfKind}
 use Rattle.world_laws.specs.Openings.{PathPlan, Start, opened_world, path_begins}
 use Rattle.world_laws.specs.Promises.{written_by}
 use Rattle.world_laws.specs.RoundDone.{reached}
-use Rattle.world_laws.specs.Worlds.{Turn, WorldState, after_turn}
+use Rattle.world_laws.specs.Worlds.{Turn, WorldState}
 use Rattle.world_laws.proofs.Rounds.Lifting.{opened_lifted}
 use Rattle.world_laws.proofs.Weaving.WholeRounds.{run_append}
 use Rattle.whole_paths.specs.AsFar.{stage}
-use Rattle.whole_paths.specs.Delivery.{IsAllThere}
 use Rattle.whole_paths.specs.Directions.{OwesAlong}
 use Rattle.whole_paths.specs.Directions.{Owing as owing}
-use Rattle.whole_paths.specs.EarlyRecords.{early}
 use Rattle.whole_paths.specs.FewRecords.{IsFull, OpensOwingSegments, RecordsAreFull}
 use Rattle.whole_paths.specs.FilesFit.{FitsFirstWindow}
 use Rattle.whole_paths.specs.Finish.{IsPathAt, payload_of, segments}
 use Rattle.whole_paths.specs.FullGrants.{HoldsAFullPiece}
 use Rattle.whole_paths.specs.Kept.{IsSameRecord}
 use Rattle.whole_paths.specs.Mending.{IsRecordOf}
-use Rattle.whole_paths.specs.Mild.{IsMildStart}
 use Rattle.whole_paths.specs.OnePathScripts.{BeginsWithOnePath}
 use Rattle.whole_paths.specs.OpenFirst.{HasJustOpened, OpensByClearing}
 use Rattle.whole_paths.specs.OpeningWaits.{IsAlive}
@@ -57,7 +50,7 @@ use Rattle.whole_paths.proofs.Finishing.{MemberFinishes, turn_finishes}
 use Rattle.whole_paths.proofs.FirstLost.{behind, has_some, left}
 use Rattle.whole_paths.proofs.FullGrants.{each_grant_is_full, who_is_granted_asks}
 use Rattle.whole_paths.proofs.Losing.{living_low}
-use Rattle.whole_paths.proofs.OldRecords.{RecordsAreOld, becomes_old}
+use Rattle.whole_paths.proofs.OldRecords.{becomes_old}
 use Rattle.whole_paths.proofs.OpenClears.{becomes_far, paths_open_by_clearing}
 use Rattle.whole_paths.proofs.OpenCourses.{IsFirstPath, each_first}
 use Rattle.whole_paths.proofs.OpenQuiet.{a_owes_records_first}

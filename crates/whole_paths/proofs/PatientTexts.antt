@@ -1,5 +1,5 @@
 -- No more copies count that come early than A's file has full segments; so by the text of a script as many rounds are enough.
-use Rattle.std.proofs.Common.{◌≡◌, sym, ap, ◌∙◌, ℕ, ◌+◌, ◌*◌, ◌≤◌, arith, List, [], ◌∷◌, ◌++◌, length}
+use Rattle.std.proofs.Common.{◌≡◌, ap, ℕ, ◌≤◌, arith, List, ◌∷◌, ◌++◌, length}
 use Rattle.link_script.specs.declared.script.PathLine.{PathLine}
 use Rattle.link_script.specs.declared.script.Script.{Script}
 use Rattle.path_core.specs.Codec.{Codec}

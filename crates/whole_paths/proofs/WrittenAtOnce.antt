@@ -1,14 +1,14 @@
 -- Into an empty book an application writes all of a file that fits it, by one call.
-use Rattle.std.proofs.Common.{◌≡◌, refl, sym, subst, ap, ◌∙◌, inl, inr, ◌⊎◌, ⊎_elim, ℕ, ◌+◌, ◌-◌, ◌^◌, ◌<◌, ◌≤◌, ◌||◌, min, arith, Bool, true, false, if◌then◌else◌, List, [], ◌∷◌, ◌++◌, drop, length, length-append, length-take, take}
+use Rattle.std.proofs.Common.{◌≡◌, refl, sym, subst, ap, ◌∙◌, inl, inr, ◌⊎◌, ⊎_elim, ℕ, ◌-◌, ◌^◌, ◌<◌, ◌≤◌, ◌||◌, arith, Bool, true, false, if◌then◌else◌, List, ◌∷◌, ◌++◌, drop, length, length-append, length-take}
 use Rattle.std.proofs.lemmas.List.{length-drop}
 use Rattle.sides.specs.declared.side.Side.{Side}
 use Rattle.sides.specs.declared.side.Side.TheVariants.{A, B}
-use Rattle.send_book.specs.State.{Sending, acked_len, new_sending}
-use Rattle.send_book.specs.Steps.{after_call, bytes_taken, write_reply}
+use Rattle.send_book.specs.State.{Sending}
+use Rattle.send_book.specs.Steps.{bytes_taken, write_reply}
 use Rattle.send_book.specs.declared.call.SendCall.TheVariants as calls
 use Rattle.send_book.specs.declared.call.SendReply.TheVariants as send_replies
 use Rattle.actor_desk.specs.Books.{books_in}
-use Rattle.actor_desk.specs.Desk.{SixBooks, after_ask, reply_of, send_of}
+use Rattle.actor_desk.specs.Desk.{SixBooks, after_ask, reply_of}
 use Rattle.actor_desk.specs.Words.{pick}
 use Rattle.actor_desk.specs.declared.ask.Reply.{Reply}
 use Rattle.actor_desk.specs.declared.ask.Reply.TheVariants as replies
@@ -26,7 +26,7 @@ use Rattle.world_laws.specs.Worlds.{Turn, WorldState, world_run}
 use Rattle.world_laws.proofs.Lanes.Applying.{settled_app}
 use Rattle.world_laws.proofs.Weaving.Journals.{books_after}
 use Rattle.world_laws.proofs.Worlds.CastLifting.{Has, Stepwise, turns_have}
-use Rattle.world_laws.proofs.Worlds.Casts.{Cast, Fare, first_cast, first_fare, next_cast, opened_is, world_of}
+use Rattle.world_laws.proofs.Worlds.Casts.{Cast, first_cast, first_fare, opened_is}
 use Rattle.whole_paths.specs.WrittenAtOnce.{WhatFitsIsWrittenAtOnce}
 use Rattle.whole_paths.proofs.Writers.{Changes, buffer_after, changed_by, own_a, own_after, own_b, told_a, told_b}
 use Rattle.whole_paths.proofs.Writers.Changes.{by_call, stays_so}

@@ -1,5 +1,5 @@
 -- How many rounds are enough by the text of a script and its files, whatever comes early: each full segment of A's file may count as a harm.
-use Rattle.std.specs.Prelude.{List, ◌+◌, length}
+use Rattle.std.specs.Prelude.{◌+◌, length}
 use Rattle.sides.specs.declared.side.Side.TheVariants.{A}
 use Rattle.path_core.specs.Codec.{Codec}
 use Rattle.world_laws.specs.Openings.{PathPlan, Start}
