@@ -94,7 +94,7 @@ pub record AreAsFar (ms ns : List ByteMark) : Type 0 where
   pub spent_so : (path place : ℕ) → spent path (slice_get ms place) ≡ true → spent path (slice_get ns place) ≡ true
   pub gone : (path place : ℕ) → let_go path (slice_get ms place) ≡ true → let_go path (slice_get ns place) ≡ true
 
-as_far_then : (ms ns os : List ByteMark) → AreAsFar ms ns → AreAsFar ns os → AreAsFar ms os
+pub as_far_then : (ms ns os : List ByteMark) → AreAsFar ms ns → AreAsFar ns os → AreAsFar ms os
 as_far_then ms ns os x y = record {
   there = λ place h. y.there place (x.there place h);
   done = λ place h. y.done place (x.done place h);
@@ -102,7 +102,7 @@ as_far_then ms ns os x y = record {
   gone = λ path place h. y.gone path place (x.gone path place h);
 }
 
-as_far_same : (ms : List ByteMark) → AreAsFar ms ms
+pub as_far_same : (ms : List ByteMark) → AreAsFar ms ms
 as_far_same ms = record { there = λ place h. h; done = λ place h. h; spent_so = λ path place h. h; gone = λ path place h. h }
 
 pub ask_as_far : (s : Side) (x : Ask) (six : SixBooks) → AreAsFar (send_of s six).marks (send_of s (after_ask x six)).marks
@@ -186,7 +186,7 @@ module _ {C : Type 0} (k : Codec C) (start : Start) where
   paths_long number [] = refl
   paths_long number (plan ∷ plans) = ap suc (paths_long (suc number) plans)
 
-  crew_long : (turns : List Turn) → length (reached k start turns).crew ≡ suc (suc (length start.paths))
+  pub crew_long : (turns : List Turn) → length (reached k start turns).crew ≡ suc (suc (length start.paths))
   crew_long turns = run_so k (λ w. length w.crew ≡ suc (suc (length start.paths))) (λ w h actor c x there asking. length-set w.crew actor _ ∙ h) (λ w h over. length-map w.crew _ ∙ h) turns (opened_world start)
       (ap (λ n. suc (suc n)) (paths_long 0 start.paths))
 

@@ -300,3 +300,6 @@ pub mod Holding
 pub mod GivenBack
 pub mod HolderWaits
 pub mod BookNews
+pub mod Refusals
+pub mod ShutKnown
+pub mod Refused

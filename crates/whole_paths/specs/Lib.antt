@@ -179,3 +179,4 @@ pub mod Holders
 pub mod GivenBack
 pub mod HolderWaits
 pub mod BookNews
+pub mod Refusals

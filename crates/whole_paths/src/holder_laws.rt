@@ -7,6 +7,7 @@ ghost use Rattle.whole_paths.specs.BookNews.{BookNewsIsBounded, BookNewsNeverFal
 ghost use Rattle.whole_paths.specs.GivenBack.{EachReturnCounts, GivenBackIsBounded, GivenBackNeverFalls};
 ghost use Rattle.whole_paths.specs.HolderWaits.{HoldersLetGo};
 ghost use Rattle.whole_paths.specs.Holders.{HoldersLive, WhatIsTriedIsAwaited};
+ghost use Rattle.whole_paths.specs.Refusals.{WhoAsksIsRefused};
 
 /// A law: a byte that a path tried and that isn't acknowledged stands in a piece that the path's end waits for, whatever the links do, over any number of
 /// paths (RFC 8684, section 3.3.6).
@@ -57,4 +58,15 @@ pub fn each_byte_counts()
     ensures rises_octets { EachByteCounts octets }
     ensures rises { EachByteCounts values }
     ensures bounded { BookNewsIsBounded }
+{}
+
+/// A law: in each round, in whatever order the actors go, where a path's turn is over, an end that may ask for bytes, with room in its window for a full
+/// segment, was granted what it might have taken as the round began, as far as the window reaches (RFC 8684, sections 3.3.5 and 3.3.8).
+///
+/// Of each byte that was free for the path as the round began: something became of it, or of another byte of the stream (`each_byte_counts`); or the byte
+/// isn't before the edge of the window as the round began, and the end knows that the window is shut; or the path was on standby when it asked last. It is
+/// said of a side that isn't stopped, and whose stream isn't given to one path alone.
+pub fn who_asks_is_refused()
+    ensures octets { WhoAsksIsRefused octets }
+    ensures values { WhoAsksIsRefused values }
 {}
