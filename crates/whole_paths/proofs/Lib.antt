@@ -160,12 +160,10 @@ pub mod Timing
 pub mod ToldSoon
 pub mod Treating
 pub mod UnaSaid
-pub mod WideWindows
 pub mod BareSegments
 pub mod FinsComing
 pub mod FinsSent
 pub mod FinRounds
-pub mod OneDebt
 pub mod OneDebtAfter
 pub mod PaidEnds
 pub mod WindowsComing
@@ -193,6 +191,7 @@ pub mod Waiting
 pub mod WellOctets
 pub mod WindowRoom
 pub mod WindowWaits
+pub mod Wanted
 pub mod WindowsHeard
 pub mod Writers
 pub mod Endings
@@ -290,6 +289,7 @@ pub mod OpenQuietly
 pub mod Opened
 pub mod SignPieces
 pub mod EarlyRecords
+pub mod EarlyCopies
 pub mod ProbeWaits
 pub mod EachLane
 pub mod WindowStalls
@@ -300,6 +300,9 @@ pub mod Holding
 pub mod GivenBack
 pub mod HolderWaits
 pub mod BookNews
-pub mod Refusals
 pub mod ShutKnown
 pub mod Refused
+pub mod PlainQueues
+pub mod QuietTexts
+pub mod FewTexts
+pub mod BriefRuns

@@ -107,8 +107,8 @@ pub mod Unstopped
 pub mod Waits
 pub mod WindowRoom
 pub mod WindowWaits
+pub mod Wanted
 pub mod WindowsHeard
-pub mod WideWindows
 pub mod BareSegments
 pub mod FinsComing
 pub mod OneDebt
@@ -173,6 +173,7 @@ pub mod AnswersSoon
 pub mod Opened
 pub mod SignPieces
 pub mod EarlyRecords
+pub mod EarlyCopies
 pub mod ProbeWaits
 pub mod WindowStalls
 pub mod Holders
@@ -180,3 +181,5 @@ pub mod GivenBack
 pub mod HolderWaits
 pub mod BookNews
 pub mod Refusals
+pub mod QuietTexts
+pub mod FewTexts

@@ -3,7 +3,6 @@ ghost use Rattle.whole_paths.specs.CutRecords.{CheckedRecordsArePassedWhole, Unc
 ghost use Rattle.whole_paths.specs.DirectionWaits.{DirectionsAreMended, NumbersAlwaysAgree, RecordsArePassedWhole};
 ghost use Rattle.whole_paths.specs.FinDebts.{FinsAreHeard, FinsGoAgain, FinsStandOn};
 ghost use Rattle.whole_paths.specs.FinsMended.{FewFinsAreOwed, FinsAreMended, WhatIsAckedLasts, WhoOwesNoFinStands};
-ghost use Rattle.whole_paths.specs.OneDebt.{FinDebtsAreKnown, FinDebtsGoOn};
 ghost use Rattle.whole_paths.specs.OpenFirst.{AOwesRecordsFirst, BOwesNoneFirst, FewAsItOpensAreFew, OpensWithFewSo, PathsOpenByClearing};
 ghost use Rattle.whole_paths.specs.OpenQuietly.{OpensQuietly};
 ghost use Rattle.whole_paths.specs.Directions.{DirectionsGoOn, WhatOwesNoneIsWell, WhoIsToldButStaysSo};
@@ -87,16 +86,6 @@ pub fn few_as_it_opens_are_few()
     ensures b { BOwesNoneFirst }
     ensures a { AOwesRecordsFirst }
     ensures first { OpensWithFewSo }
-{}
-
-/// A law: a DATA_FIN that isn't told within 400 ticks is a debt of one harmed segment at most, over one path of a mild connection (RFC 8684,
-/// section 3.3.3).
-///
-/// Where it isn't owed the DATA_FIN wasn't sent yet, or the peer heard it, or it comes within 400 ticks, or more was sent behind it. There are no more
-/// such debts than harmed segments at any open moment, where none is owed as the path opens (`known`).
-pub fn fin_debts_go_on()
-    ensures goes_on { FinDebtsGoOn }
-    ensures known { FinDebtsAreKnown }
 {}
 
 /// A law: once all bytes before it are acknowledged a DATA_FIN comes, or goes again as a timer runs out, unless it is harmed, over one path of a
