@@ -306,3 +306,5 @@ pub mod PlainQueues
 pub mod QuietTexts
 pub mod FewTexts
 pub mod BriefRuns
+pub mod FirstMissing
+pub mod GrantReasons

@@ -1,155 +1,132 @@
--- A path that may take a byte is refused only on standby, or as the window is shut.
-use Rattle.std.proofs.Common.{◌≡◌, refl, sym, subst, ap, ◌∙◌, ◌⊎◌, inl, inr, ⊎_elim, ℕ, ◌+◌, ◌≤◌, ◌==◌, ◌&&◌, ◌||◌, nat_le, nat_lt, arith, Bool, true, false, true≢false, cond, if◌then◌else◌, Ok, Err, Option, Some, None, length}
-use Rattle.std.specs.List.{position, position_or_len, slice_get}
-use Rattle.std.proofs.lemmas.Bool.{both_ways, cases_lt, eqb-true, leb-true, ltb-false, or_cases, and_parts}
-use Rattle.std.proofs.lemmas.Option.{same_Some}
+-- What a path asks of a send book, and what its end is told where it is granted nothing: whether the peer's window is shut, and where the
+-- stream ends.
+use Rattle.std.proofs.Common.{◌≡◌, refl, subst, ap, ◌∙◌, ℕ, ◌+◌, Bool, false, Option, Some, None, List, ◌∷◌, length}
 use Rattle.sides.specs.declared.side.Side.{Side}
 use Rattle.sides.specs.declared.side.Side.TheVariants.{A, B}
-use Rattle.send_book.specs.declared.call.SendCall.{SendCall}
 use Rattle.send_book.specs.declared.call.SendCall.TheVariants as calls
+use Rattle.send_book.specs.declared.call.SendReply.TheVariants as send_replies
 use Rattle.send_book.specs.declared.call.Span.{Span}
 use Rattle.send_book.specs.declared.call.Why.{Why}
-use Rattle.send_book.specs.declared.call.Why.TheVariants.{Backup, Ended, WindowShut}
-use Rattle.send_book.specs.declared.mark.ByteMark.{ByteMark}
-use Rattle.send_book.specs.declared.mark.ByteMark.TheVariants.{Acked, Held, Free}
-use Rattle.send_book.specs.Marks.{is_acked, is_free_for, is_held_rightly}
-use Rattle.send_book.specs.State.{Sending, acked_len}
-use Rattle.send_book.specs.Steps.{after_call, decision, first_free, given_by, is_for, is_future, is_gathered, run_len, span_at}
-use Rattle.send_book.specs.Tried.{contains}
-use Rattle.actor_desk.specs.Desk.{SixBooks, after_ask, send_of}
 use Rattle.actor_desk.specs.declared.ask.Ask.{Ask}
 use Rattle.actor_desk.specs.declared.ask.Ask.TheVariants as asks
+use Rattle.actor_desk.specs.declared.ask.Reply.{Reply}
+use Rattle.actor_desk.specs.declared.ask.Reply.TheVariants as replies
+use Rattle.path_agenda.specs.declared.duty.Duty.{Duty}
+use Rattle.path_agenda.specs.declared.duty.Duty.TheVariants as duties
+use Rattle.path_agenda.specs.declared.duty.AskDuty.TheVariants as ask_duties
+use Rattle.path_agenda.specs.declared.duty.SendDuty.TheVariants as send_duties
+use Rattle.path_agenda.specs.declared.duty.SilentDuty.TheVariants as silent_duties
+use Rattle.path_agenda.specs.declared.duty.StepDuty.TheVariants as step_duties
+use Rattle.subflow_send.specs.Records.{Record}
+use Rattle.path_core.specs.Choices.{told_last}
+use Rattle.path_core.specs.Codec.{Codec}
 use Rattle.path_core.specs.DataFin.{is_shut}
-use Rattle.world_laws.proofs.Asks.SendBooks.{IsOrdinary, IsTried, ones_after}
-use Rattle.whole_paths.specs.BookNews.{is_free}
-use Rattle.whole_paths.proofs.GivenBack.{rightly}
-use Rattle.whole_paths.proofs.OnlyBooks.{all_pass, before_first, none_free}
+use Rattle.path_core.specs.Duties.{answered, ask_for, passed}
+use Rattle.path_core.specs.Emission.{Grant, answered_data, answered_grant, data_ask, first_unsent, grant_in, payload_size}
+use Rattle.path_core.specs.End.{PathEnd}
+use Rattle.path_core.specs.State.{PathState, end_at, path_of, with_agenda}
+use Rattle.path_core.specs.Steps.{answers, takes}
+use Rattle.world_laws.specs.RoundEnd.{asks_grant}
+use Rattle.world_laws.specs.Writes.{EndView, EndWrites, Only, OnlyAt, Writes, side_of, writes}
+use Rattle.world_laws.proofs.Rounds.GrantAtOneDuty.{MayNotAsk, ask_isn't, asks_none}
+use Rattle.world_laws.proofs.Writes.Paths.{passes_no_more, writes_no_more}
+use Rattle.world_laws.proofs.Writes.Steps.{Lasts, both_ends, settled_lasts, unwritten}
 
--- ---- a book
+-- ---- an end
 
--- nothing is stopped before what isn't stopped, and no stream given to one path before one that isn't
-pub call_open : (b : Sending) (call : SendCall) → (after_call b call).aborted ≡ false → (after_call b call).owner ≡ None → (b.aborted ≡ false) × (b.owner ≡ None)
-call_open b (calls.Write bytes) = (elim (b.closed || b.aborted) as (λ c. (d : Sending) → d.aborted ≡ b.aborted → d.owner ≡ b.owner → (if c then b else d).aborted ≡ false → (if c then b else d).owner ≡ None → (b.aborted ≡ false) × (b.owner ≡ None))
-    [ true ↦ λ d x y a o. (a, o) | false ↦ λ d x y a o. (sym x ∙ a, sym y ∙ o) ]) _ refl refl
-call_open b calls.Close = (elim b.aborted as (λ c. (d : Sending) → d.aborted ≡ b.aborted → d.owner ≡ b.owner → (if c then b else d).aborted ≡ false → (if c then b else d).owner ≡ None → (b.aborted ≡ false) × (b.owner ≡ None))
-    [ true ↦ λ d x y a o. (a, o) | false ↦ λ d x y a o. (sym x ∙ a, sym y ∙ o) ]) _ refl refl
-call_open b (calls.Grant path max standby) =
-    elim (decision path max standby b) as (λ r. (given_by path r b).aborted ≡ false → (given_by path r b).owner ≡ None → (b.aborted ≡ false) × (b.owner ≡ None)) [ Err why ↦ λ a o. (a, o) | Ok span ↦ λ a o. (a, o) ]
-call_open b (calls.AckIn next window) = (elim (is_future next b) as (λ c. (d : Sending) → d.aborted ≡ b.aborted → d.owner ≡ b.owner → (if c then b else d).aborted ≡ false → (if c then b else d).owner ≡ None → (b.aborted ≡ false) × (b.owner ≡ None))
-    [ true ↦ λ d x y a o. (a, o) | false ↦ λ d x y a o. (sym x ∙ a, sym y ∙ o) ]) _ refl refl
-call_open b (calls.Return path) = λ a o. (a, o)
-call_open b calls.GoIdentity = λ a o. cc
-call_open b (calls.GoInfinite path) = elim (is_gathered path b) as (λ c. let d = if c then record b { owner = Some path } else b in d.aborted ≡ false → d.owner ≡ None → (b.aborted ≡ false) × (b.owner ≡ None))
-    [ true ↦ λ a o. cc | false ↦ λ a o. (a, o) ]
-call_open b calls.Abort = λ a o. absurd (true≢false a)
+-- the end is told nothing of the window or of the stream's end
+pub record TellsNothing (e f : PathEnd) : Type 0 where
+  pub shut : f.sending.shut ≡ e.sending.shut
+  pub known : f.sending.known_end ≡ e.sending.known_end
 
-pub ask_open : (s : Side) (x : Ask) (six : SixBooks) → (send_of s (after_ask x six)).aborted ≡ false → (send_of s (after_ask x six)).owner ≡ None → ((send_of s six).aborted ≡ false) × ((send_of s six).owner ≡ None)
-ask_open A (asks.Send A call) six a o = call_open six.send_a call a o
-ask_open B (asks.Send B call) six a o = call_open six.send_b call a o
-ask_open A (asks.Send B call) six a o = (a, o)
-ask_open B (asks.Send A call) six a o = (a, o)
-ask_open A (asks.Reassembly A call) six a o = (a, o)
-ask_open A (asks.Reassembly B call) six a o = (a, o)
-ask_open B (asks.Reassembly A call) six a o = (a, o)
-ask_open B (asks.Reassembly B call) six a o = (a, o)
-ask_open A (asks.Control A call) six a o = (a, o)
-ask_open A (asks.Control B call) six a o = (a, o)
-ask_open B (asks.Control A call) six a o = (a, o)
-ask_open B (asks.Control B call) six a o = (a, o)
-ask_open A (asks.Local step) six a o = (a, o)
-ask_open B (asks.Local step) six a o = (a, o)
+-- the end is told why nothing is granted, and perhaps where the stream ends
+pub record TellsWhy (why : Why) (told : Option ℕ) (e f : PathEnd) : Type 0 where
+  pub shut : f.sending.shut ≡ is_shut why
+  pub known : f.sending.known_end ≡ told_last told e.sending.known_end
 
--- there are as many marks as bytes
-abbrev pub IsWhole : Sending → Type 0
-IsWhole b = length b.marks ≡ length b.written
+told_then : (e f g : PathEnd) → TellsNothing e f → TellsNothing f g → TellsNothing e g
+told_then e f g x y = record { shut = y.shut ∙ x.shut; known = y.known ∙ x.known }
 
-abbrev pub AreRight : Sending → Type 0
-AreRight b = (place : ℕ) → rightly (slice_get b.marks place) ≡ true
+abbrev Untold : EndWrites → Type 0
+Untold v = (v.shut ≡ false) × (v.known_end ≡ false)
 
-call_whole : (b : Sending) (call : SendCall) → AreRight b → IsWhole b → IsWhole (after_call b call)
-call_whole b call right whole = (ones_after (asker_of call) 0 b (record { tried = record { each = λ i m there. by (asker_of call) m (sym (ap rightly there) ∙ right i) }; whole = whole; grown = omega arith }) call (own call)).whole
-  where
-    asker_of : SendCall → ℕ
-    asker_of (calls.Grant path max standby) = path
-    asker_of _ = 0
+only_told : (v : EndWrites) (e f : PathEnd) → Untold v → Only v e f → TellsNothing e f
+only_told v e f none x = record {
+  shut = unwritten v.shut e.sending.shut f.sending.shut none.0 (ap (λ (z : EndView). z.shut) x.same);
+  known = unwritten v.known_end e.sending.known_end f.sending.known_end none.1 (ap (λ (z : EndView). z.known_end) x.same);
+}
 
-    own : (call : SendCall) → IsOrdinary (asker_of call) call
-    own (calls.Grant path max standby) = refl
-    own _ = tt
+-- ---- a path
 
-    by : (path : ℕ) (m : ByteMark) → is_held_rightly m ≡ true → IsTried path m
-    by path Acked right = tt
-    by path (Held holder among) right = λ same. subst (λ (x : ℕ). contains x among ≡ true) same right
-    by path (Free among) right = tt
+module _ {C : Type 0} where
+  abbrev pub NothingTold : PathState C → PathState C → Type 0
+  NothingTold p q = (s : Side) → TellsNothing (end_at s p) (end_at s q)
 
-pub ask_whole : (s : Side) (x : Ask) (six : SixBooks) → AreRight (send_of s six) → IsWhole (send_of s six) → IsWhole (send_of s (after_ask x six))
-ask_whole A (asks.Send A call) six right whole = call_whole six.send_a call right whole
-ask_whole B (asks.Send B call) six right whole = call_whole six.send_b call right whole
-ask_whole A (asks.Send B call) six right whole = whole
-ask_whole B (asks.Send A call) six right whole = whole
-ask_whole A (asks.Reassembly A call) six right whole = whole
-ask_whole A (asks.Reassembly B call) six right whole = whole
-ask_whole B (asks.Reassembly A call) six right whole = whole
-ask_whole B (asks.Reassembly B call) six right whole = whole
-ask_whole A (asks.Control A call) six right whole = whole
-ask_whole A (asks.Control B call) six right whole = whole
-ask_whole B (asks.Control A call) six right whole = whole
-ask_whole B (asks.Control B call) six right whole = whole
-ask_whole A (asks.Local step) six right whole = whole
-ask_whole B (asks.Local step) six right whole = whole
+  told_both : (s : Side) (w : Writes) (p q : PathState C) → Untold w.own → Untold w.other → OnlyAt s w p q → TellsNothing p.a q.a × TellsNothing p.b q.b
+  told_both s w p q own theirs x = both_ends TellsNothing s w p q (λ e f y. only_told w.own e f own y) (λ e f y. only_told w.other e f theirs y) x
 
--- ---- why a grant is refused
+  pub told_by : (s : Side) (w : Writes) (p q : PathState C) → Untold w.own → Untold w.other → OnlyAt s w p q → NothingTold p q
+  told_by s w p q own theirs x A = (told_both s w p q own theirs x).0
+  told_by s w p q own theirs x B = (told_both s w p q own theirs x).1
 
-free_mark : (path : ℕ) (o : Option ByteMark) → is_free path o ≡ true → (m : ByteMark) × (o ≡ Some m) × (is_free_for path m ≡ true)
-free_mark path None free = absurd (true≢false (sym free))
-free_mark path (Some m) free = (m, refl, free)
+  passed_told : (d : Duty) (p : PathState C) → NothingTold p (passed d p)
+  passed_told (duties.Step (step_duties.Data t)) p s = record { shut = refl; known = refl }
+  passed_told (duties.Ask ask_duties.JoinAgain) p s = record { shut = refl; known = refl }
+  passed_told (duties.Send (send_duties.Update t)) p s = record { shut = refl; known = refl }
+  passed_told (duties.Silent (silent_duties.Timer t)) p s =
+      told_by t (writes (duties.Silent (silent_duties.Timer t))) p _ (refl, refl) (refl, refl) (passes_no_more (duties.Silent (silent_duties.Timer t)) p) s
+  passed_told d p s = told_by (side_of d) (writes d) p (passed d p) (refl, refl) (refl, refl) (passes_no_more d p) s
 
-unacked : (path : ℕ) (m : ByteMark) → is_free_for path m ≡ true → is_acked m ≡ false
-unacked path Acked free = absurd (true≢false (sym free))
-unacked path (Held holder among) free = refl
-unacked path (Free among) free = refl
+  pub told_last_of_all : Lasts (λ (p q : PathState C). NothingTold p q)
+  told_last_of_all = record {
+    agenda = λ ds p s. by_side s ds p;
+    chains = λ p q r x y s. told_then (end_at s p) (end_at s q) (end_at s r) (x s) (y s);
+    passes = λ d p. passed_told d p;
+  }
+    where
+      by_side : (s : Side) (ds : List Duty) (p : PathState C) → TellsNothing (end_at s p) (end_at s (with_agenda ds p))
+      by_side = elim [ A ↦ λ ds p. record { shut = refl; known = refl } | B ↦ λ ds p. record { shut = refl; known = refl } ]
 
-module _ (path max place : ℕ) (stands : Bool) (b : Sending) (whole : IsWhole b) (goes : b.aborted ≡ false) (owner : b.owner ≡ None) (free : is_free path (slice_get b.marks place) ≡ true) where
-  mark : (m : ByteMark) × (slice_get b.marks place ≡ Some m) × (is_free_for path m ≡ true)
-  mark = free_mark path (slice_get b.marks place) free
+  -- An ask of no bytes of the side tells it nothing. A grant that is refused says why, and where the stream ends; by one that isn't SND.NXT rises.
+  pub data AtGrant (s : Side) (p : PathState C) (x : Ask) (after : Reply → PathState C) : Type 0 where
+    asks_none_of_it : asks_grant s x ≡ false → ((r : Reply) → TellsNothing (end_at s p) (end_at s (after r))) → AtGrant s p x after
+    asks_bytes : (max : ℕ) (stands : Bool) → x ≡ asks.Send s (calls.Grant (path_of p) max stands)
+        → ((why : Why) (known : Option ℕ) → TellsWhy why known (end_at s p) (end_at s (after (replies.Send (send_replies.NoGrant why known)))))
+        → max ≡ payload_size p.profile
+        → ((span : Span) (piece : List ℕ) → (end_at s (after (replies.Send (send_replies.Granted span piece)))).tcp.send.nxt ≡ (end_at s p).tcp.send.nxt + length piece) → AtGrant s p x after
 
-  abbrev Refused : Why → Type 0
-  Refused why = (stands ≡ true) ⊎ ((is_shut why ≡ true) × (b.edge ≤ place))
+  other_b : (o : Option Grant) (r : Reply) (p : PathState C) → TellsNothing p.b (end_at B (answered_grant A o r p))
+  other_b None r p = record { shut = refl; known = refl }
+  other_b (Some given) r p = record { shut = refl; known = refl }
 
-  first_at : (c : Bool) (from : ℕ) → nat_lt (position_or_len (is_free_for path) b.marks) (length b.marks) ≡ c → cond c (Some (position_or_len (is_free_for path) b.marks)) None ≡ Some from → from ≤ place
-  first_at true from is found = ⊎_elim
-      (λ low. absurd (both_ways (is_free_for path mark.0) (before_first (is_free_for path) b.marks place mark.0 low mark.1) mark.2))
-      (λ high. let same = same_Some _ from found in omega (arith, same, high))
-      (cases_lt place (position_or_len (is_free_for path) b.marks))
-  first_at false from is found = cc
+  other_a : (o : Option Grant) (r : Reply) (p : PathState C) → TellsNothing p.a (end_at A (answered_grant B o r p))
+  other_a None r p = record { shut = refl; known = refl }
+  other_a (Some given) r p = record { shut = refl; known = refl }
 
-  found_none : (c : Bool) → nat_lt (position_or_len (is_free_for path) b.marks) (length b.marks) ≡ c → cond c (Some (position_or_len (is_free_for path) b.marks)) None ≡ None → ⊥
-  found_none true is none = cc
-  found_none false is none =
-      both_ways (is_free_for path mark.0) (none_free (is_free_for path) b.marks (ltb-false (position_or_len (is_free_for path) b.marks) (length b.marks) is) place mark.0 mark.1) mark.2
+  data_grant : (k : Codec C) (p : PathState C) (t s : Side) (o : Option Record) → AtGrant s p (data_ask k t o p) (λ r. answered_data k t o r p)
+  data_grant k p A A (Some unsent) = asks_none_of_it refl (λ r. record { shut = refl; known = refl })
+  data_grant k p A B (Some unsent) = asks_none_of_it refl (λ r. record { shut = refl; known = refl })
+  data_grant k p B A (Some unsent) = asks_none_of_it refl (λ r. record { shut = refl; known = refl })
+  data_grant k p B B (Some unsent) = asks_none_of_it refl (λ r. record { shut = refl; known = refl })
+  data_grant k p A A None = asks_bytes _ _ refl (λ why known. record { shut = refl; known = refl }) refl (λ span piece. refl)
+  data_grant k p B B None = asks_bytes _ _ refl (λ why known. record { shut = refl; known = refl }) refl (λ span piece. refl)
+  data_grant k p A B None = asks_none_of_it refl (λ r. other_b (grant_in r) r p)
+  data_grant k p B A None = asks_none_of_it refl (λ r. other_a (grant_in r) r p)
 
-  first_is : first_free path b ≡ position (is_free_for path) b.marks
-  first_is = ap (λ (o : Option ℕ). if is_for path o then position (is_free_for path) b.marks else None) owner
+  module _ (k : Codec C) (p : PathState C) where
+    quiet_grant : (d : Duty) → MayNotAsk d → Untold (writes d).own → Untold (writes d).other → (s : Side) → AtGrant s p (ask_for k d p) (λ r. answered k d r p)
+    quiet_grant d other own theirs s = asks_none_of_it (ask_isn't s (ask_for k d p) (asks_none k p d other)) (λ r. told_by (side_of d) (writes d) p (answered k d r p) own theirs (writes_no_more k d r p) s)
 
-  shut_at : (from : ℕ) (span : Span) (why : Why) (c : Bool) → from ≤ place → nat_le b.edge from ≡ c → (if c then Err WindowShut else Ok span) ≡ Err why → Refused why
-  shut_at from span why true low past is = inr ((let same : WindowShut ≡ why = cc in subst (λ (x : Why). is_shut x ≡ true) same refl), (let edge = leb-true b.edge from past in omega (arith, edge, low)))
-  shut_at from span why false low past is = cc
+    pub at_grant : (d : Duty) (s : Side) → AtGrant s p (ask_for k d p) (λ r. answered k d r p)
+    at_grant (duties.Step (step_duties.Data t)) s = data_grant k p t s (first_unsent (end_at t p))
+    at_grant (duties.Ask ask_duties.JoinAgain) s = quiet_grant (duties.Ask ask_duties.JoinAgain) tt (refl, refl) (refl, refl) s
+    at_grant (duties.Send (send_duties.Update t)) s = quiet_grant (duties.Send (send_duties.Update t)) tt (refl, refl) (refl, refl) s
+    at_grant (duties.Silent (silent_duties.Timer t)) s = quiet_grant (duties.Silent (silent_duties.Timer t)) tt (refl, refl) (refl, refl) s
+    at_grant d s = quiet_grant d tt (refl, refl) (refl, refl) s
 
-  at : (why : Why) (o : Option ℕ) → first_free path b ≡ o → span_at path max b o ≡ Err why → Refused why
-  at why None none is = absurd (found_none _ refl (sym first_is ∙ none))
-  at why (Some from) found is = shut_at from (record { from = from; to = from + run_len path max b from }) why (nat_le b.edge from) (first_at _ from refl (sym first_is ∙ found)) refl is
-
-  by_standby : (why : Why) (c : Bool) → stands ≡ c → (if c then Err Backup else span_at path max b (first_free path b)) ≡ Err why → Refused why
-  by_standby why true stood is = inl stood
-  by_standby why false stood is = at why (first_free path b) refl is
-
-  by_end : (why : Why) (c : Bool) → (b.aborted || (b.closed && (acked_len b.marks == length b.written))) ≡ c → (if c then Err Ended else (if stands then Err Backup else span_at path max b (first_free path b))) ≡ Err why → Refused why
-  by_end why true ends is = absurd (⊎_elim
-      (λ aborted. both_ways b.aborted goes aborted)
-      (λ all. let same = eqb-true (acked_len b.marks) (length b.written) (and_parts b.closed (acked_len b.marks == length b.written) all).1 in
-      both_ways (is_acked mark.0) (unacked path mark.0 mark.2) (all_pass is_acked b.marks (omega (arith, same, whole)) place mark.0 mark.1))
-      (or_cases b.aborted (b.closed && (acked_len b.marks == length b.written)) ends))
-  by_end why false goes_on is = by_standby why stands refl is
-
-  pub why_refused : (why : Why) → decision path max stands b ≡ Err why → Refused why
-  why_refused why is = by_end why (b.aborted || (b.closed && (acked_len b.marks == length b.written))) refl is
+    -- what a path takes is what its first duty makes of it, and what is passed then
+    pub takes_told : (r : Reply) (d : Duty) (ds : List Duty) → p.agenda ≡ d ∷ ds → (s : Side) → TellsNothing (end_at s (answered k d r p)) (end_at s (takes k r p))
+    takes_told r d ds is s =
+        let q : PathState C = answers k p.agenda r p in
+        subst (λ (x : PathState C). TellsNothing (end_at s x) (end_at s (takes k r p))) (ap (λ ds. answers k ds r p) is)
+        (settled_lasts (λ p q. NothingTold p q) told_last_of_all q.agenda q s)

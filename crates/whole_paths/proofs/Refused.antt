@@ -47,7 +47,7 @@ use Rattle.whole_paths.specs.Refusals.{IsLeft as left_by}
 use Rattle.whole_paths.proofs.BookNews.{AreAsFar, as_far_same, as_far_then, ask_as_far, crew_long, free_counts, news_up, number_low}
 use Rattle.whole_paths.proofs.GivenBack.{AreRightly, ask_rightly, marks_are_right}
 use Rattle.whole_paths.proofs.Holding.{IsNamed, Known, always_known, known_asked}
-use Rattle.whole_paths.proofs.Refusals.{IsWhole, ask_open, ask_whole, why_refused}
+use Rattle.whole_paths.proofs.GrantReasons.{IsWhole, ask_open, ask_whole, why_refused}
 use Rattle.whole_paths.proofs.Turns.{books_by_turns}
 use Rattle.world_laws.proofs.Weaving.WholeRounds.{run_append}
 use Rattle.whole_paths.proofs.ShutKnown.{AsksNow, asks_now, shut_stays}

@@ -183,3 +183,4 @@ pub mod BookNews
 pub mod Refusals
 pub mod QuietTexts
 pub mod FewTexts
+pub mod FirstMissing

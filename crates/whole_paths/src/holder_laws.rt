@@ -3,7 +3,8 @@ ghost use Rattle.path_core.specs.Octets.{octets};
 ghost use Rattle.path_core.specs.Values.{values};
 ghost use Rattle.world_laws.specs.Laws.{Always};
 ghost use Rattle.world_laws.specs.Promises.{HoldsAnyway, HoldsAnywayOfOctets};
-ghost use Rattle.whole_paths.specs.BookNews.{BookNewsIsBounded, BookNewsNeverFalls, EachByteCounts};
+ghost use Rattle.whole_paths.specs.BookNews.{BookNewsIsBounded, BookNewsNeverFalls, EachByteCounts, WhatIsGivenBackCounts};
+ghost use Rattle.whole_paths.specs.FirstMissing.{EachMissingByteIsHeld};
 ghost use Rattle.whole_paths.specs.GivenBack.{EachReturnCounts, GivenBackIsBounded, GivenBackNeverFalls};
 ghost use Rattle.whole_paths.specs.HolderWaits.{HoldersLetGo};
 ghost use Rattle.whole_paths.specs.Holders.{HoldersLive, WhatIsTriedIsAwaited};
@@ -51,12 +52,14 @@ pub fn holders_let_go()
 /// A law: how far the bytes of a side's stream are, as one number, never falls by any turns, and is bounded by the side's file and the number of paths.
 ///
 /// Each byte counts as it is acknowledged, and for each path as that tries it, and as it lets it go. So the number rises where a byte that a path might
-/// have taken is acknowledged, or granted to it or to another path (`rises`).
+/// have taken is acknowledged, or granted to it or to another path (`rises`), and where a path gives back a byte (`returns`).
 pub fn each_byte_counts()
     ensures octets { BookNewsNeverFalls octets }
     ensures values { BookNewsNeverFalls values }
     ensures rises_octets { EachByteCounts octets }
     ensures rises { EachByteCounts values }
+    ensures returns_octets { WhatIsGivenBackCounts octets }
+    ensures returns { WhatIsGivenBackCounts values }
     ensures bounded { BookNewsIsBounded }
 {}
 
@@ -69,4 +72,12 @@ pub fn each_byte_counts()
 pub fn who_asks_is_refused()
     ensures octets { WhoAsksIsRefused octets }
     ensures values { WhoAsksIsRefused values }
+{}
+
+/// A law: where all turns of a round are over, a byte that isn't acknowledged is held, or may be taken, whichever path is asked (RFC 8684, section 3.3.6).
+///
+/// The path tried the byte, so that a piece that its end waits for has it; or another path holds it, and gives it back within a minute
+/// (`holders_let_go`); or the path may take it. So it is over any number of paths, whatever the links do.
+pub fn each_missing_byte_is_held()
+    ensures { EachMissingByteIsHeld }
 {}
