@@ -75,6 +75,7 @@ pub mod Gaps
 pub mod GoesOn
 pub mod GoingOn
 pub mod Halting
+pub mod ShutEnds
 pub mod Harmed
 pub mod Hearing
 pub mod Hears
@@ -172,6 +173,8 @@ pub mod FilesFit
 pub mod AnswersAssure
 pub mod AsksOwed
 pub mod OfferedTaken
+pub mod SoundBooks
+pub mod ToldSince
 pub mod TurnsBegin
 pub mod ToldEdges
 pub mod WindowRounds
@@ -239,6 +242,10 @@ pub mod UnitRounds
 pub mod PatientPaths
 pub mod WindowKinds
 pub mod WindowsHeld
+pub mod CalmWindows
+pub mod BooksRead
+pub mod PathTurns
+pub mod ToldRounds
 pub mod QuietOpenings
 pub mod ShortWaits
 pub mod UnderWay

@@ -1,8 +1,9 @@
 -- Where no line moves a segment of A's the first one that acknowledges B's SYN comes to B before any with octets, and shows it both keys.
 use Rattle.std.proofs.Common.{◌≡◌, refl, sym, subst, ap, ◌∙◌, ◌⊎◌, inl, inr, ⊎_elim, ℕ, zero, suc, ◌+◌, ◌-◌, ◌^◌, ◌<◌, ◌≤◌, le_refl, arith, nat_lt, nat_le, ◌&&◌, ◌||◌, ◌==◌, Bool, true, false, true≢false, cond, if◌then◌else◌, Option, Some, None, IfSome, List, [], ◌∷◌, ◌++◌, length}
-use Rattle.std.specs.Prelude.{is_some, not, option_map}
+use Rattle.std.specs.Prelude.{is_some, min, not, option_map}
 use Rattle.std.specs.List.{AllByRecursion, list_all, list_any, slice_get}
-use Rattle.std.proofs.lemmas.Bool.{and_from, and_parts, both_ways, cases_lt, eq-eqb, le-leb, le-ltb, not-true, or_from}
+use Rattle.std.proofs.Math.Nat.{zero-min}
+use Rattle.std.proofs.lemmas.Bool.{and_from, and_parts, both_ways, cases_lt, eq-eqb, le-leb, le-ltb, not-true}
 use Rattle.std.proofs.lemmas.List.{append_assoc, length-append}
 use Rattle.std.proofs.lemmas.Option.{same_Some}
 use Rattle.mptcp_options.specs.declared.capable.CapableKeys.TheVariants.{Both}
@@ -92,7 +93,7 @@ use Rattle.whole_paths.specs.Owed.{AnswerComesSo, AnswerGoesOn, Covers, IsAnswer
 use Rattle.whole_paths.specs.Owed.{AnswerGoesOn as answer}
 use Rattle.whole_paths.specs.Owed.{IsToRefuse as refuse}
 use Rattle.whole_paths.specs.Owed.IsAnswered.{owes, flies}
-use Rattle.whole_paths.specs.QuietOpenings.{brings_octets, comes_early, early_at, has_octets, octets_next, some_early}
+use Rattle.whole_paths.specs.EarlyCopies.{brings_octets, came_from, comes_early, counted_by, early_at, expiries_at, has_octets, may_send_at, octets_next}
 use Rattle.whole_paths.specs.QuietTexts.{MovesNoneOfA, NothingComesEarlyByText}
 use Rattle.whole_paths.specs.Rising.{OpensBy}
 use Rattle.whole_paths.specs.Rising.{OpensBy as opens_by}
@@ -765,8 +766,8 @@ module _ (start : Start) (plan : PathPlan) (one : BeginsWithOnePath start plan) 
           by_agenda (duties.Step step_duties.Events ∷ ds) = by_event (next_event p) refl
           by_agenda (d ∷ ds) = refl
 
-      quiet : IsAlive p → IsFew p → comes_early p ≡ false
-      quiet alive few = by p.b.modes.clear refl
+      quiet : IsAlive p → IsFew p → p.b.modes.clear ≡ false → comes_early p ≡ false
+      quiet alive few unsure_now = by_keys unsure_now ((keys_at turns p here).keys_first alive few)
         where
           by_keys : p.b.modes.clear ≡ false → KeysFirst p → octets_next p.agenda p ≡ false
           by_keys unsure (confirmed (sure.clear is)) = absurd (both_ways p.b.modes.clear unsure is)
@@ -781,30 +782,32 @@ module _ (start : Start) (plan : PathPlan) (one : BeginsWithOnePath start plan) 
               first_bare f fs (inl third) = third.third.bare
               first_bare f fs (inr more) = more.0
 
-          by : (b : Bool) → p.b.modes.clear ≡ b → (if b then false else octets_next p.agenda p) ≡ false
-          by true is = refl
-          by false is = by_keys is ((keys_at turns p here).keys_first alive few)
-
-    early_none : (turns : List Turn) → length turns < 2 ^ 64 - 1 → ((p : PathState Carried) → IsPathAt 0 (reached values start turns) p → IsAlive p) → early_at (slice_get (reached values start turns).crew 2) ≡ false
+    early_none : (turns : List Turn) → length turns < 2 ^ 64 - 1 → ((p : PathState Carried) → IsPathAt 0 (reached values start turns) p → IsAlive p)
+        → may_send_at (slice_get (reached values start turns).crew 2) ≡ false → early_at (slice_get (reached values start turns).crew 2) ≡ false
     early_none turns few alive = by_crew (slice_get (reached values start turns).crew 2) refl
       where
-        by_member : (c : ActorCrew Carried) → slice_get (reached values start turns).crew 2 ≡ Some c → (m : Actor Carried) → c.member ≡ m → of_kind (λ app. false) comes_early m ≡ false
-        by_member c there (App a) is = refl
-        by_member c there (Path p) is =
+        by_member : (c : ActorCrew Carried) → slice_get (reached values start turns).crew 2 ≡ Some c → (m : Actor Carried) → c.member ≡ m
+            → of_kind (λ app. false) (λ p. p.b.modes.clear) m ≡ false → of_kind (λ app. false) comes_early m ≡ false
+        by_member c there (App a) is unsure = refl
+        by_member c there (Path p) is unsure =
             let here : IsPathAt 0 (reached values start turns) p = record { crew = c; there = there; is = is } in
             quiet turns p here (alive p here)
-            (λ s. let sent = subst (SentAtMost (length turns)) is (each_turn_sends_one_at_most values start turns 2 c there) s in omega (arith, sent, few))
+            (λ s. let sent = subst (SentAtMost (length turns)) is (each_turn_sends_one_at_most values start turns 2 c there) s in omega (arith, sent, few)) unsure
 
-        by_crew : (o : Option (ActorCrew Carried)) → slice_get (reached values start turns).crew 2 ≡ o → early_at o ≡ false
-        by_crew None there = refl
-        by_crew (Some c) there = by_member c there c.member refl
+        by_crew : (o : Option (ActorCrew Carried)) → slice_get (reached values start turns).crew 2 ≡ o → may_send_at o ≡ false → early_at o ≡ false
+        by_crew None there unsure = refl
+        by_crew (Some c) there unsure = by_member c there c.member refl unsure
 
-    some_none : (before more : List Turn) → length (before ++ more) < 2 ^ 64 - 1 → (AnEndDied 0 (reached values start (before ++ more)) → ⊥) → some_early more (reached values start before) ≡ false
-    some_none before [] few living = refl
-    some_none before (turn ∷ more) few living = or_from (early_at (slice_get (reached values start before).crew 2)) (some_early more (after_turn values turn (reached values start before)))
-        (early_none before (let sum = length-append before (turn ∷ more) in omega (arith, sum, few)) alive)
-        (subst (λ (u : WorldState Carried). some_early more u ≡ false) (run_append values before (turn ∷ []) (opened_world start))
-        (some_none (before ++ turn ∷ []) more (subst (λ ts. length ts < 2 ^ 64 - 1) (sym (append_assoc before (turn ∷ []) more)) few)
+    none_came : (before more : List Turn) → length (before ++ more) < 2 ^ 64 - 1 → (AnEndDied 0 (reached values start (before ++ more)) → ⊥)
+        → came_from 0 more (reached values start before) ≡ 0
+    none_came before [] few living = if_none (may_send_at (slice_get (reached values start before).crew 2))
+      where
+        if_none : (m : Bool) → ◌≡◌ {A = ℕ} (if m then 0 else 0) 0
+        if_none true = refl
+        if_none false = refl
+    none_came before (turn ∷ more) few living = if_unsure (may_send_at (slice_get (reached values start before).crew 2)) refl
+        (subst (λ (u : WorldState Carried). came_from 0 more u ≡ 0) (run_append values before (turn ∷ []) (opened_world start))
+        (none_came (before ++ turn ∷ []) more (subst (λ ts. length ts < 2 ^ 64 - 1) (sym (append_assoc before (turn ∷ []) more)) few)
         (subst (λ ts. AnEndDied 0 (reached values start ts) → ⊥) (sym (append_assoc before (turn ∷ []) more)) living)))
       where
         alive : (p : PathState Carried) → IsPathAt 0 (reached values start before) p → IsAlive p
@@ -815,6 +818,24 @@ module _ (start : Start) (plan : PathPlan) (one : BeginsWithOnePath start plan) 
             by s true is = absurd (living (subst (λ (u : WorldState Carried). AnEndDied 0 u) (sym (run_append values before (turn ∷ more) (opened_world start)))
                 (died_stays (reached values start before) (turn ∷ more) (record { path = p; here = here; side = s; dead = is }))))
 
+        next : WorldState Carried
+        next = after_turn values turn (reached values start before)
+
+        counts : (m b : Bool) → m ≡ false → (if b then min (0 + one_if m) 1 else 0 + one_if m) ≡ 0
+        counts true b is = absurd (true≢false is)
+        counts false true is = refl
+        counts false false is = refl
+
+        none_counts : may_send_at (slice_get (reached values start before).crew 2) ≡ false → counted_by 0 (reached values start before) next ≡ 0
+        none_counts unsure = counts (early_at (slice_get (reached values start before).crew 2))
+            (nat_lt (expiries_at (slice_get (reached values start before).crew 2)) (expiries_at (slice_get next.crew 2)))
+            (early_none before (let sum = length-append before (turn ∷ more) in omega (arith, sum, few)) alive unsure)
+
+        if_unsure : (m : Bool) → may_send_at (slice_get (reached values start before).crew 2) ≡ m → came_from 0 more next ≡ 0
+            → (if m then 0 else came_from (counted_by 0 (reached values start before) next) more next) ≡ 0
+        if_unsure true is later = refl
+        if_unsure false is later = ap (λ n. came_from n more next) (none_counts is) ∙ later
+
 pub nothing_comes_early_by_text : NothingComesEarlyByText
 nothing_comes_early_by_text start plan turns one short none few living =
-    ap (λ b. if b then early values start turns else 0) (some_none start plan one short none [] turns few living)
+    ap (λ n. min n (early values start turns)) (none_came start plan one short none [] turns few living) ∙ zero-min (early values start turns)

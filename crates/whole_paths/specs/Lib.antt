@@ -151,6 +151,9 @@ pub mod ToldStays
 pub mod PatientPaths
 pub mod WindowKinds
 pub mod WindowsHeld
+pub mod CalmWindows
+pub mod ToldRounds
+pub mod ToldSince
 pub mod QuietOpenings
 pub mod ShortWaits
 pub mod Rising

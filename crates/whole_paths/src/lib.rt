@@ -104,6 +104,6 @@ pub use patience_laws::{
 };
 pub use window_laws::{
     each_turn_asks_its_window, fitting_files_are_never_shut, probes_go_again,
-    what_comes_opens_the_window, what_is_told_goes_on, what_is_told_is_taken, who_asks_owes,
-    windows_are_assured,
+    what_comes_opens_the_window, what_is_owed_is_told, what_is_told_goes_on, what_is_told_is_taken,
+    who_asks_owes, windows_are_assured,
 };
