@@ -307,7 +307,11 @@ pub mod Holding
 pub mod GivenBack
 pub mod HolderWaits
 pub mod BookNews
+pub mod ShutKnown
+pub mod Refused
 pub mod PlainQueues
 pub mod QuietTexts
 pub mod FewTexts
 pub mod BriefRuns
+pub mod FirstMissing
+pub mod GrantReasons

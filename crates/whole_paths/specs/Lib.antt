@@ -183,5 +183,7 @@ pub mod Holders
 pub mod GivenBack
 pub mod HolderWaits
 pub mod BookNews
+pub mod Refusals
 pub mod QuietTexts
 pub mod FewTexts
+pub mod FirstMissing
