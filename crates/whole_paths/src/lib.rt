@@ -210,6 +210,7 @@ pub use opening_laws::each_syn_ack_is_answered_soon;
 pub use opening_laws::each_syn_comes_soon;
 pub use opening_laws::paths_open_owing_records;
 pub use patience_laws::patient_paths_deliver;
+pub use many_laws::shut_ends_stay_shut;
 pub use many_laws::what_is_wanted_is_told;
 pub use window_laws::each_turn_asks_its_window;
 pub use window_laws::fitting_files_are_never_shut;
