@@ -65,8 +65,8 @@ pub use expiry_laws::{
     mild_ends_die_of_expiries,
 };
 pub use holder_laws::{
-    each_byte_counts, each_missing_byte_is_held, holders_let_go, holders_live, what_is_given_back_counts,
-    what_is_tried_is_awaited, who_asks_is_refused,
+    each_byte_counts, each_missing_byte_is_held, holders_let_go, holders_live,
+    what_is_given_back_counts, what_is_tried_is_awaited, who_asks_is_refused,
 };
 pub use laws::{
     a_copy_leaves_by_arriving, clear_ends_are_past, copies_arrive_as_sent,
@@ -92,7 +92,7 @@ pub use laws::{
     who_waits_has_a_timer, writers_go_on,
 };
 pub use many_laws::{
-    what_is_wanted_is_told,
+    shut_ends_stay_shut, what_is_wanted_is_told,
 };
 pub use opening_laws::{
     a_has_the_key_first, each_first_piece_comes_soon, each_sign_piece_comes,
