@@ -194,6 +194,7 @@ pub mod Waiting
 pub mod WellOctets
 pub mod WindowRoom
 pub mod WindowWaits
+pub mod Wanted
 pub mod WindowsHeard
 pub mod Writers
 pub mod Endings
@@ -295,6 +296,18 @@ pub mod OpenQuietly
 pub mod Opened
 pub mod SignPieces
 pub mod EarlyRecords
+pub mod EarlyCopies
 pub mod ProbeWaits
 pub mod EachLane
 pub mod WindowStalls
+pub mod MarkSteps
+pub mod TriedBytes
+pub mod Leaving
+pub mod Holding
+pub mod GivenBack
+pub mod HolderWaits
+pub mod BookNews
+pub mod PlainQueues
+pub mod QuietTexts
+pub mod FewTexts
+pub mod BriefRuns

@@ -107,6 +107,7 @@ pub mod Unstopped
 pub mod Waits
 pub mod WindowRoom
 pub mod WindowWaits
+pub mod Wanted
 pub mod WindowsHeard
 pub mod BareSegments
 pub mod FinsComing
@@ -175,5 +176,12 @@ pub mod AnswersSoon
 pub mod Opened
 pub mod SignPieces
 pub mod EarlyRecords
+pub mod EarlyCopies
 pub mod ProbeWaits
 pub mod WindowStalls
+pub mod Holders
+pub mod GivenBack
+pub mod HolderWaits
+pub mod BookNews
+pub mod QuietTexts
+pub mod FewTexts

@@ -13,8 +13,8 @@ use Rattle.whole_paths.specs.QuietOpenings.{lost_early}
 abbrev pub FitFirstWindows : Start → PathPlan → Type 0
 FitFirstWindows start plan = (s : Side) → FitsFirstWindow start s
 
--- What is paid for: each segment that is harmed; and each record of A's that its end has as B's end may send a DSS first, where a copy with octets
--- came to that before.
+-- What is paid for: each segment that is harmed; and each copy with octets that comes to B's end before that may send a DSS, but no more of them than
+-- A's end has records as it may first.
 abbrev pub harms_and_early : {C : Type 0} → Codec C → Count
 harms_and_early k start turns = lost_early start turns + harms_alone k start turns
 
