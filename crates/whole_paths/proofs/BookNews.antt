@@ -29,8 +29,9 @@ use Rattle.world_laws.specs.Worlds.{Turn, WorldState, world_run}
 use Rattle.world_laws.proofs.Weaving.WholeRounds.{run_append}
 use Rattle.world_laws.proofs.Worlds.CastLifting.{writes_the_files}
 use Rattle.world_laws.proofs.Worlds.Turns.{run_so}
-use Rattle.whole_paths.specs.BookNews.{BookNewsIsBounded, BookNewsNeverFalls, EachByteCounts, byte_news, is_free}
+use Rattle.whole_paths.specs.BookNews.{BookNewsIsBounded, BookNewsNeverFalls, EachByteCounts, WhatIsGivenBackCounts, byte_news, is_free}
 use Rattle.whole_paths.specs.Finish.{IsPathAt}
+use Rattle.whole_paths.specs.GivenBack.{given_back}
 use Rattle.whole_paths.specs.Holders.{holds, let_go}
 use Rattle.whole_paths.proofs.GivenBack.{ask_lets_go, ask_marks, count_rises, count_up, marks_are_right, rightly}
 use Rattle.whole_paths.proofs.Holding.{holders_live}

@@ -1,5 +1,5 @@
 -- A byte that isn't acknowledged was tried by the path, is held by another one, or may be taken.
-use Rattle.std.proofs.Common.{◌≡◌, refl, sym, subst, ap, ◌∙◌, ℕ, ◌+◌, ◌==◌, arith, Bool, true, false, true≢false, not, Some, List, []}
+use Rattle.std.proofs.Common.{◌≡◌, refl, sym, subst, ap, ◌∙◌, ℕ, ◌+◌, Bool, true, false, true≢false, not, Some, List, []}
 use Rattle.std.specs.List.{slice_get}
 use Rattle.std.proofs.lemmas.Bool.{both_ways, eq-eqb}
 use Rattle.sides.specs.declared.side.Side.{Side}
@@ -8,7 +8,7 @@ use Rattle.send_book.specs.declared.mark.ByteMark.TheVariants.{Acked, Held, Free
 use Rattle.send_book.specs.Marks.{is_acked}
 use Rattle.send_book.specs.Tried.{contains}
 use Rattle.stream_lanes.specs.Marks.{tried}
-use Rattle.path_core.specs.State.{PathState, end_at, path_of}
+use Rattle.path_core.specs.State.{PathState}
 use Rattle.path_core.specs.Values.{Carried, values}
 use Rattle.world_laws.specs.Actors.{is_over}
 use Rattle.world_laws.specs.Openings.{Start}
@@ -20,7 +20,7 @@ use Rattle.whole_paths.specs.BookNews.{is_free}
 use Rattle.whole_paths.specs.Finish.{IsPathAt}
 use Rattle.whole_paths.specs.FirstMissing.{EachMissingByteIsHeld, HasAHolder}
 use Rattle.whole_paths.specs.FirstMissing.{HasAHolder as has}
-use Rattle.whole_paths.specs.Holders.{IsAwaitedAt, TriedIsAwaited, holds}
+use Rattle.whole_paths.specs.Holders.{TriedIsAwaited, holds}
 use Rattle.whole_paths.proofs.GivenBack.{marks_are_right, rightly}
 use Rattle.whole_paths.proofs.HolderWaits.{holders_let_go, numbered, of_path}
 use Rattle.whole_paths.proofs.Holding.{holders_live}
