@@ -37,7 +37,7 @@ use Rattle.whole_paths.specs.Acknowledged.{AllIsAcknowledged, GrantedIsAcknowled
 
 -- ---- a book
 
-acked_untried : (path n place : ℕ) (ms : List ByteMark) → AreAcked n ms → place < n → tried path (slice_get ms place) ≡ false
+pub acked_untried : (path n place : ℕ) (ms : List ByteMark) → AreAcked n ms → place < n → tried path (slice_get ms place) ≡ false
 acked_untried path n place [] all less = refl
 acked_untried path zero place (m ∷ ms) all less = absurd (omega (arith, less))
 acked_untried path (suc n) zero (Acked ∷ ms) all less = refl
@@ -45,13 +45,13 @@ acked_untried path (suc n) zero (Held holder among ∷ ms) all less = absurd (tr
 acked_untried path (suc n) zero (Free among ∷ ms) all less = absurd (true≢false (sym all.0))
 acked_untried path (suc n) (suc place) (m ∷ ms) all less = acked_untried path n place ms all.1 (omega (arith, less))
 
-tried_within : (path place : ℕ) (ms : List ByteMark) → tried path (slice_get ms place) ≡ true → place < length ms
+pub tried_within : (path place : ℕ) (ms : List ByteMark) → tried path (slice_get ms place) ≡ true → place < length ms
 tried_within path place [] is = absurd (true≢false (sym is))
 tried_within path zero (m ∷ ms) is = omega arith
 tried_within path (suc place) (m ∷ ms) is = let rest = tried_within path place ms is in omega (arith, rest)
 
 -- a byte below what is confirmed is acknowledged
-below_acked : (closed : Bool) (written acked place : ℕ) → place < written → place < acked + (if closed && written == acked then 1 else 0) → place < acked
+pub below_acked : (closed : Bool) (written acked place : ℕ) → place < written → place < acked + (if closed && written == acked then 1 else 0) → place < acked
 below_acked closed written acked place within low = by (closed && written == acked) refl
   where
     by : (b : Bool) → (closed && written == acked) ≡ b → place < acked

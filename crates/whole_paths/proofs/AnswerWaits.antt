@@ -30,10 +30,17 @@ use Rattle.whole_paths.specs.Timers.{TimersAreNear}
 use Rattle.whole_paths.proofs.AskStages.{open_asks_are_answered}
 use Rattle.whole_paths.proofs.Counted.{what_holds_up_counts}
 use Rattle.whole_paths.proofs.InTime.{nil_so}
-use Rattle.whole_paths.proofs.OpenAsksGoOn.{open_asks_are_in_time}
+use Rattle.whole_paths.proofs.OpenAsksGoOn.{open_asks_are_in_time, past_the_end}
 use Rattle.whole_paths.proofs.RecordWaits.{counts_so, edge_up, here, path_is}
 use Rattle.whole_paths.proofs.RoundBegins.{no_round_counts}
 use Rattle.whole_paths.proofs.Timing.{timers_run_out}
+use Rattle.whole_paths.specs.Closing.{IsFinHeard}
+use Rattle.whole_paths.specs.ClosingKnown.{HeardIsWanted}
+use Rattle.whole_paths.specs.DataAcksNow.{KnowsWhatCame}
+use Rattle.whole_paths.specs.DataAcksOwed.{KnowsWhereItSends}
+use Rattle.whole_paths.proofs.ClosingKnown.{what_is_heard_is_wanted}
+use Rattle.whole_paths.proofs.DataAcksNow.{each_data_ack_is_up_to_date}
+use Rattle.whole_paths.proofs.DataAcksOwed.{wants_known}
 
 module _ (start : Start) (plan : PathPlan) (one : start.paths ≡ plan ∷ []) (mild : IsMildStart start) where
   -- ---- a turn
@@ -79,6 +86,13 @@ module _ (start : Start) (plan : PathPlan) (one : start.paths ≡ plan ∷ []) (
       waits : IsAnswerAwaited six s h.place h.fin h.by p
       waits = subst (IsAnswerAwaited six s h.place h.fin h.by) same h.waits
 
+      -- over one path the peer's end knows what its book wants, and the book knows of the DATA_FIN that was heard
+      knows : (h.fin ≡ true → IsFinHeard (peer s) p) → KnowsWhereItSends (peer s) h.place p
+      knows came = wants_known six (peer s) h.place p
+          (subst (HoldsOfKind (λ app. Unit {0}) (KnowsWhatCame six)) before.here.is ((each_data_ack_is_up_to_date values start turns plan one).each 2 before.here.crew before.here.there))
+          (subst (HoldsOfKind (λ app. Unit {0}) (HeardIsWanted w.books)) before.here.is (what_is_heard_is_wanted start turns mild.plain.size 2 before.here.crew before.here.there)
+          s h.place h.fin (past_the_end h.place h.fin _ _ waits.unanswered) waits.has came)
+
       abbrev Next : Type 0
       Next = Rises ⊎ AwaitsAnAnswer start x more
 
@@ -119,8 +133,8 @@ module _ (start : Start) (plan : PathPlan) (one : start.paths ≡ plan ∷ []) (
 
       goes_on : Next
       goes_on = by_answer (here start mild turns turn before after (AnswerIsAwaitedBy six later)
-          (open_asks_are_answered.goes_on start turns turn plan one mild 2 before.here.crew after.here.crew before.here.there after.here.there)
-          before.is_open after.is_open before.few s h.place h.fin h.by waits)
+          (open_asks_are_answered.goes_on start turns turn mild 2 before.here.crew after.here.crew before.here.there after.here.there)
+          before.is_open after.is_open before.few s h.place h.fin h.by knows waits)
 
     turn_on : (x : ℕ) → IsOpenAfter start turns → IsOpenAfter start more → AwaitsAnAnswer start x turns → Rises ⊎ AwaitsAnAnswer start x more
     turn_on x before after h = goes_on x before (subst IsOpenNow last after) h

@@ -31,6 +31,7 @@ use Rattle.subflow_tcp.specs.declared.handshake.State.{State as EndPhase}
 use Rattle.subflow_tcp.specs.declared.handshake.State.TheVariants as phase
 use Rattle.subflow_tcp.specs.declared.verdicts.Meaning.{Meaning}
 use Rattle.subflow_tcp.specs.declared.verdicts.Meaning.TheVariants as means
+use Rattle.path_agenda.specs.declared.heard.Heard.{Heard}
 use Rattle.path_agenda.specs.declared.heard.Heard.TheVariants as says
 use Rattle.path_core.specs.Arrival.{copy_of, heard_in, acknowledged_in}
 use Rattle.path_core.specs.Choices.{is_side_a}
@@ -38,7 +39,7 @@ use Rattle.path_core.specs.DssIn.{HeardOption, ack_items, checksum_heard, held_i
 use Rattle.path_core.specs.DssOut.{checksum_told, first_piece_options, is_first_piece, infinite_or, mapped_options, place_numbered, plain_options}
 use Rattle.path_core.specs.End.{PathEnd}
 use Rattle.path_core.specs.Judged.{judged_of}
-use Rattle.path_core.specs.MpJoin.{is_joined}
+use Rattle.path_core.specs.MpJoin.{is_joined, is_third_right, third_in}
 use Rattle.path_core.specs.OptionsIn.{items_in, items_of, options_heard}
 use Rattle.path_core.specs.OptionsOut.{record_options}
 use Rattle.path_core.specs.Profile.{Profile}
@@ -46,7 +47,7 @@ use Rattle.path_core.specs.State.{PathState, end_at}
 use Rattle.path_core.specs.Values.{carried_by, Carried, as_arrived, values}
 use Rattle.path_core.specs.declared.judged.Judged.TheVariants as judged
 use Rattle.whole_paths.specs.AsFar.{stage}
-use Rattle.whole_paths.specs.Arrivals.{Arrival, CameBefore, ComesAgain, ComesInOrder, EachCopyArrives, EachMappedRecordIsAPiece, EachPieceComesInOrder, HasItsMapping, IsFirstPiece, IsMappedPiece, IsPiece, Takes}
+use Rattle.whole_paths.specs.Arrivals.{Arrival, CameBefore, ComesAgain, ComesInOrder, EachCopyArrives, EachMappedRecordIsAPiece, EachPieceComesInOrder, HasItsMapping, HasJoined, IsFirstPiece, IsMappedPiece, IsPiece, Takes}
 use Rattle.whole_paths.specs.Arrivals.{IsMappedPiece as mapped_by}
 use Rattle.whole_paths.specs.Brought.{Comes, IsTo}
 use Rattle.whole_paths.specs.Expiries.{IsSaidAt, IsSegmentOf}
@@ -92,9 +93,9 @@ module _ (c : Profile) (s : Side) (r : Record) (e : PathEnd) (x : PlainSegment) 
     short = subst (λ n. n + length x.payload < 2 ^ 64 - 1) (sym of_it.position) (subst (λ (octets : List ℕ). r.pos + length octets < 2 ^ 64 - 1) (sym of_it.payload) m.short);
   }
 
-  by_keys : is_first_piece s r e ≡ true → (o : Option ℕ) → e.modes.peer_key ≡ o → is_some o ≡ true → IsMappedPiece s x
-  by_keys is None key known = absurd (true≢false (sym known))
-  by_keys is (Some other) key known = mapped_by.first (is_a s parts.0) (record {
+  by_keys : is_joined c ≡ false → is_first_piece s r e ≡ true → (o : Option ℕ) → e.modes.peer_key ≡ o → is_some o ≡ true → IsMappedPiece c s x
+  by_keys opens is None key known = absurd (true≢false (sym known))
+  by_keys opens is (Some other) key known = mapped_by.first opens (is_a s parts.0) (record {
     position = of_it.position ∙ eqb-true r.pos 1 (and_parts (not e.modes.clear) (r.pos == 1) parts.1).1;
     some = some_of;
     few = subst (λ (octets : List ℕ). length octets ≤ 65475) (sym of_it.payload) m.few;
@@ -111,12 +112,12 @@ module _ (c : Profile) (s : Side) (r : Record) (e : PathEnd) (x : PlainSegment) 
       parts : (is_side_a s ≡ true) × ((not e.modes.clear && r.pos == 1) ≡ true)
       parts = and_parts (is_side_a s) (not e.modes.clear && r.pos == 1) is
 
-  mapped_piece : IsMappedPiece s x
+  mapped_piece : IsMappedPiece c s x
   mapped_piece = by (is_first_piece s r e) refl
     where
-      by : (b : Bool) → is_first_piece s r e ≡ b → IsMappedPiece s x
+      by : (b : Bool) → is_first_piece s r e ≡ b → IsMappedPiece c s x
       by false later = mapped_by.piece (by_dss later)
-      by true is = ⊎_elim (λ later. absurd (both_ways (is_first_piece s r e) later is)) (λ known. by_keys is e.modes.peer_key refl known) m.told
+      by true is = ⊎_elim (λ later. absurd (both_ways (is_first_piece s r e) later is)) (λ known. by_keys known.0 is e.modes.peer_key refl known.1) m.told
 
 pub each_mapped_record_is_a_piece : EachMappedRecordIsAPiece
 each_mapped_record_is_a_piece c s r e x m of_it says = mapped_piece c s r e x m of_it says
@@ -128,7 +129,7 @@ sender_of A = refl
 sender_of B = refl
 
 pub each_copy_arrives : EachCopyArrives
-each_copy_arrives s r p f copy whole same there few arrive others first next path =
+each_copy_arrives s r p f copy whole same there few arrive others first next =
     let comes = arrive f there few in record {
       others = others;
       first = first;
@@ -140,7 +141,6 @@ each_copy_arrives s r p f copy whole same there few arrive others first next pat
           ∙ ap (λ b. changed (values.strips p.profile.spelling s) (values.alters p.profile.spelling s) b copy.altered (carried_by p.profile.spelling s copy.segment)) whole
           ∙ ap (λ b. changed (values.strips p.profile.spelling s) (values.alters p.profile.spelling s) false b (carried_by p.profile.spelling s copy.segment)) same
           ∙ ap (λ t. carried_by p.profile.spelling t copy.segment) (sym (ap peer copy.to ∙ sender_of s));
-      joined = path;
     }
 
 -- ---- what it means
@@ -221,8 +221,8 @@ module _ (c : Profile) (t : Side) (next place pos len : ℕ) (checksum : Option 
   pub held_one : flat_map (held_in c t) (option ∷ []) ≡ kept_of c t place pos len false (checksum_heard checksum) ∷ []
   held_one = ap (λ b. (if b then kept_of c t place pos len false (checksum_heard checksum) ∷ [] else []) ++ []) fits
 
-  pub says_one : (window : ℕ) → list_any says_mapping (flat_map (items_in false t window) (option ∷ [])) ≡ true
-  says_one window =
+  pub says_one : (joined : Bool) (window : ℕ) → list_any says_mapping (flat_map (items_in joined t window) (option ∷ [])) ≡ true
+  says_one joined window =
       ap (λ b. list_any says_mapping ((ack_items (Some (Some next)) window ++ (if b then says.Mapping false ∷ [] else [])) ++ [])) fits
       ∙ list_any-append says_mapping (ack_items (Some (Some next)) window ++ (says.Mapping false ∷ [])) []
       ∙ ap (λ b. b || false) (list_any-append says_mapping (ack_items (Some (Some next)) window) (says.Mapping false ∷ []) ∙ or_true (list_any says_mapping (ack_items (Some (Some next)) window)))
@@ -241,35 +241,35 @@ pub record HasBytes (x : PlainSegment) : Type 0 where
   pub some : 0 < length x.payload
   pub short : x.position + length x.payload < 2 ^ 64 - 1
 
-pub has_bytes : (s : Side) (x : PlainSegment) → IsMappedPiece s x → HasBytes x
-has_bytes s x (mapped_by.piece h) = record { syn = h.syn; fin = h.fin; rst = h.rst; some = h.some; short = h.short }
-has_bytes s x (mapped_by.first is h syn fin rst) = record { syn = syn; fin = fin; rst = rst; some = h.some; short = (let at = h.position in let few = h.few in omega (arith, at, few)) }
+pub has_bytes : (c : Profile) (s : Side) (x : PlainSegment) → IsMappedPiece c s x → HasBytes x
+has_bytes c s x (mapped_by.piece h) = record { syn = h.syn; fin = h.fin; rst = h.rst; some = h.some; short = h.short }
+has_bytes c s x (mapped_by.first opens is h syn fin rst) = record { syn = syn; fin = fin; rst = rst; some = h.some; short = (let at = h.position in let few = h.few in omega (arith, at, few)) }
 
 -- its options say to the end of this side that all of them are mapped
 pub record SaysMapping (c : Profile) (to : Side) (x : PlainSegment) : Type 0 where
   pub mapping : KeptMapping
   pub held : flat_map (held_in c to) (map meant_option x.options) ≡ mapping ∷ []
-  pub says : (window : ℕ) → list_any says_mapping (flat_map (items_in false to window) (map meant_option x.options)) ≡ true
+  pub says : (window : ℕ) → list_any says_mapping (flat_map (items_in (is_joined c) to window) (map meant_option x.options)) ≡ true
   pub names : (pos : ℕ) → x.position ≤ pos → pos < x.position + length x.payload → covers pos (run_of mapping) ≡ true
 
 run_names : (n pos len : ℕ) → pos ≤ n → n < pos + len → pos + len < 2 ^ 64 - 1 → (nat_le pos n && nat_lt n (min (pos + len) (2 ^ 64 - 1))) ≡ true
 run_names n pos len from below short =
     ap (λ b. b && nat_lt n (min (pos + len) (2 ^ 64 - 1))) (le-leb pos n from) ∙ lt-ltb n (min (pos + len) (2 ^ 64 - 1)) (omega (arith, below, short))
 
-module _ (c : Profile) (joined : is_joined c ≡ false) (x : PlainSegment) where
+module _ (c : Profile) (x : PlainSegment) where
   piece_says : (to : Side) → IsPiece x → SaysMapping c to x
   piece_says to h = record {
     mapping = kept_of c to h.place x.position (length x.payload) false (checksum_heard h.checksum);
     held = ap (λ (os : List HeardOption). flat_map (held_in c to) os) said ∙ held_one c to h.next h.place x.position (length x.payload) h.checksum h.behind_syn h.low;
-    says = λ window. ap (λ (os : List HeardOption). list_any says_mapping (flat_map (items_in false to window) os)) said
-        ∙ says_one c to h.next h.place x.position (length x.payload) h.checksum h.behind_syn h.low window;
+    says = λ window. ap (λ (os : List HeardOption). list_any says_mapping (flat_map (items_in (is_joined c) to window) os)) said
+        ∙ says_one c to h.next h.place x.position (length x.payload) h.checksum h.behind_syn h.low (is_joined c) window;
     names = λ pos from below. run_names pos x.position (length x.payload) from below h.short;
   }
     where
       said : map meant_option x.options ≡ Dss (Some (Some h.next)) (Some (Bytes (Some h.place) (Some x.position) (length x.payload) false h.checksum)) ∷ []
       said = ap (λ os. map meant_option os) h.options
 
-  module _ (h : IsFirstPiece x) where
+  module _ (joined : is_joined c ≡ false) (h : IsFirstPiece x) where
     abbrev len : ℕ
     len = length x.payload
 
@@ -289,25 +289,45 @@ module _ (c : Profile) (joined : is_joined c ≡ false) (x : PlainSegment) where
           ∙ ap (λ b. (if b then [] else (if nat_lt 0 len then held_if c B 0 1 len false h.checksum else [])) ++ []) joined
           ∙ ap (λ b. (if b then held_if c B 0 1 len false h.checksum else []) ++ []) some_so
           ∙ ap (λ b. (if b then kept_of c B 0 1 len false (checksum_heard h.checksum) ∷ [] else []) ++ []) fit;
-      says = λ window. ap (λ (os : List HeardOption). list_any says_mapping (flat_map (items_in false B window) os)) said_keys
+      says = λ window. ap (λ j. list_any says_mapping (flat_map (items_in j B window) (map meant_option x.options))) joined
+          ∙ ap (λ (os : List HeardOption). list_any says_mapping (flat_map (items_in false B window) os)) said_keys
           ∙ ap (λ b. list_any says_mapping ((says.Keys h.other h.own ∷ (if b then (if is_mapping 0 1 len then says.Mapping false ∷ [] else []) else [])) ++ [])) some_so
           ∙ ap (λ b. list_any says_mapping ((says.Keys h.other h.own ∷ (if b then says.Mapping false ∷ [] else [])) ++ [])) fit;
       names = λ pos from below. run_names pos 1 len (subst (λ k. k ≤ pos) h.position from) (subst (λ k. pos < k + len) h.position below) (let few = h.few in omega (arith, few));
     }
 
-  pub says_its_mapping : (to : Side) → IsMappedPiece (peer to) x → SaysMapping c to x
+  pub says_its_mapping : (to : Side) → IsMappedPiece c (peer to) x → SaysMapping c to x
   says_its_mapping to (mapped_by.piece h) = piece_says to h
-  says_its_mapping A (mapped_by.first is h syn fin rst) = (let apart : B ≡ A = is in cc)
-  says_its_mapping B (mapped_by.first is h syn fin rst) = first_says h
+  says_its_mapping A (mapped_by.first opens is h syn fin rst) = (let apart : B ≡ A = is in cc)
+  says_its_mapping B (mapped_by.first opens is h syn fin rst) = first_says opens h
 
 -- ---- a copy
 
-module _ (x : PlainSegment) (p : PathState Carried) (a : Arrival x p) (is_mapped : IsMappedPiece (peer a.due.to) x) where
+pub not_half : (state : EndPhase) → 3 ≤ stage state → is_half_open state ≡ false
+not_half phase.SynReceived high = absurd (omega (arith, high))
+not_half _ high = refl
+
+-- the path opens the connection
+pub first_joins : (s : Side) (p : PathState Carried) → is_joined p.profile ≡ false → HasJoined s p
+first_joins s p first joins = absurd (both_ways (is_joined p.profile) first joins)
+
+-- what a copy means that is taken, or lies outside the window
+pub judged_taken : (joined rst : Bool) (items : List Heard) (pos n : ℕ) (e : PathEnd) → (joined ≡ true → 3 ≤ stage e.tcp.state) → judged_of joined rst items (means.Taken pos n) e ≡ judged.As (means.Taken pos n)
+judged_taken false rst items pos n e past = refl
+judged_taken true rst items pos n e past =
+    ap (λ b. if b && (not rst && is_none (third_in items)) then judged.As means.Ignored else (if b && not (is_third_right items e.modes) then judged.Forged else judged.As (means.Taken pos n))) (not_half e.tcp.state (past refl))
+
+pub judged_outside : (joined rst : Bool) (items : List Heard) (e : PathEnd) → (joined ≡ true → 3 ≤ stage e.tcp.state) → judged_of joined rst items means.Outside e ≡ judged.As means.Outside
+judged_outside false rst items e past = refl
+judged_outside true rst items e past =
+    ap (λ b. if b && (not rst && is_none (third_in items)) then judged.As means.Ignored else judged.As means.Outside) (not_half e.tcp.state (past refl))
+
+module _ (x : PlainSegment) (p : PathState Carried) (a : Arrival x p) (joins : HasJoined a.due.to p) (is_mapped : IsMappedPiece p.profile (peer a.due.to) x) where
   pub piece : HasBytes x
-  piece = has_bytes (peer a.due.to) x is_mapped
+  piece = has_bytes p.profile (peer a.due.to) x is_mapped
 
   pub maps : SaysMapping p.profile a.due.to x
-  maps = says_its_mapping p.profile a.joined x a.due.to is_mapped
+  maps = says_its_mapping p.profile x a.due.to is_mapped
 
   abbrev pub to : Side
   to = a.due.to
@@ -331,8 +351,13 @@ module _ (x : PlainSegment) (p : PathState Carried) (a : Arrival x p) (is_mapped
     heard = ap (λ (o : Option (Flight Carried)). heard_in values to o p) a.there ∙ ap (λ (c : Carried). Some (meant (as_arrived c))) a.carried;
   }
 
-  pub is_to : (m : Meaning) → meaning_of (copy_of said) e.tcp ≡ m → IsTo values p copy (judged.As m)
-  is_to m is = ap (λ j. judged_of j said.rst (items_of j to said) (meaning_of (copy_of said) e.tcp) e) a.joined ∙ ap (λ m. judged.As m) is
+  pub is_taken : (pos n : ℕ) → meaning_of (copy_of said) e.tcp ≡ means.Taken pos n → IsTo values p copy (judged.As (means.Taken pos n))
+  is_taken pos n is = ap (λ m. judged_of (is_joined p.profile) said.rst (items_of (is_joined p.profile) to said) m e) is
+      ∙ judged_taken (is_joined p.profile) said.rst (items_of (is_joined p.profile) to said) pos n e joins
+
+  is_outside : meaning_of (copy_of said) e.tcp ≡ means.Outside → IsTo values p copy (judged.As means.Outside)
+  is_outside is = ap (λ m. judged_of (is_joined p.profile) said.rst (items_of (is_joined p.profile) to said) m e) is
+      ∙ judged_outside (is_joined p.profile) said.rst (items_of (is_joined p.profile) to said) e joins
 
   in_order : Takes x e → ComesInOrder x p
   in_order takes = record {
@@ -340,7 +365,7 @@ module _ (x : PlainSegment) (p : PathState Carried) (a : Arrival x p) (is_mapped
       copy = copy;
       position = x.position;
       acknowledged = takes.acknowledged;
-      taken = is_to (means.Taken x.position takes.acknowledged) (taken_so (copy_of said) e.tcp x.position takes.acknowledged takes.opened takes.living takes.below_limit piece.syn piece.rst refl
+      taken = is_taken x.position takes.acknowledged (taken_so (copy_of said) e.tcp x.position takes.acknowledged takes.opened takes.living takes.below_limit piece.syn piece.rst refl
           (ap (λ (o : Option ℕ). acknowledged_in (option_map (λ n. At n) o)) takes.acknowledges) accepted takes.answered takes.sent);
     };
     payload = refl;
@@ -352,8 +377,7 @@ module _ (x : PlainSegment) (p : PathState Carried) (a : Arrival x p) (is_mapped
       mapping = maps.mapping;
       others = [];
       held = ap (λ (os : List HeardOption). flat_map (held_in p.profile to) os) options ∙ maps.held;
-      says = ap (λ j. list_any says_mapping (items_of j to said)) a.joined
-          ∙ ap (λ (os : List HeardOption). list_any says_mapping (flat_map (items_in false to said.window) os)) options
+      says = ap (λ (os : List HeardOption). list_any says_mapping (flat_map (items_in (is_joined p.profile) to said.window) os)) options
           ∙ maps.says said.window;
       names = λ pos from below. maps.names pos (let start = takes.starts in omega (arith, start, from)) below;
     };
@@ -371,10 +395,10 @@ module _ (x : PlainSegment) (p : PathState Carried) (a : Arrival x p) (is_mapped
   again : CameBefore x e → ComesAgain p
   again before = record {
     copy = copy;
-    outside = is_to means.Outside (again_so (copy_of said) e.tcp x.position 0 before.opened before.living before.below_limit piece.syn piece.rst refl
+    outside = is_outside (again_so (copy_of said) e.tcp x.position 0 before.opened before.living before.below_limit piece.syn piece.rst refl
         (outside_so e.tcp.recv.edge x.position (occupied (copy_of said)) (length x.payload)
         (subst (λ n. 0 < n) (sym len_so) piece.some) piece.some (subst (λ n. x.position + n ≤ e.tcp.recv.edge) (sym len_so) before.passed)));
   }
 
 pub each_piece_comes_in_order : EachPieceComesInOrder
-each_piece_comes_in_order x p a is_mapped = (in_order x p a is_mapped, again x p a is_mapped)
+each_piece_comes_in_order x p a joins is_mapped = (in_order x p a joins is_mapped, again x p a joins is_mapped)

@@ -12,7 +12,6 @@ use Rattle.link_model.specs.Fate.{is_altered, is_stripped}
 use Rattle.link_model.specs.Steps.{due_of, next_number, segments_sent}
 use Rattle.stream_lanes.specs.Words.{Every}
 use Rattle.reassembly_book.specs.State.{received}
-use Rattle.reassembly_book.specs.Steps.{next_wanted}
 use Rattle.subflow_send.specs.Records.{Record}
 use Rattle.path_segments.specs.Spelled.{PlainSegment}
 use Rattle.actor_desk.specs.Books.{StampedBooks, books_in}
@@ -32,7 +31,7 @@ use Rattle.path_core.specs.Values.{Carried, values}
 use Rattle.path_core.specs.declared.events.Event.TheVariants as happenings
 use Rattle.world_laws.specs.declared.member.Member.TheVariants.{App, Path}
 use Rattle.world_laws.specs.Actors.{Actor, ActorCrew}
-use Rattle.world_laws.specs.Openings.{PathPlan, Start, opened_world}
+use Rattle.world_laws.specs.Openings.{Start, opened_world}
 use Rattle.world_laws.specs.Worlds.{WorldState, Turn, after_turn, world_run}
 use Rattle.world_laws.proofs.Weaving.WholeRounds.{run_append}
 use Rattle.whole_paths.specs.AgendaSteps.{event_side}
@@ -43,7 +42,6 @@ use Rattle.whole_paths.specs.Came.{AcksWhatCame, HasCome}
 use Rattle.whole_paths.specs.Closing.{FinGoesOn, HearsDataFins, IsFinHeard, PathsHearFins}
 use Rattle.whole_paths.specs.Closing.{FinGoesOn as fins}
 use Rattle.whole_paths.specs.ClosingAsked.{EndComes, OwesItsEnd, TakesFrom}
-use Rattle.whole_paths.specs.ClosingKnown.{HeardIsWanted}
 use Rattle.whole_paths.specs.Copies.{IsUnderWay}
 use Rattle.whole_paths.specs.DataAcksAsked.{AskComesSo, AskingGoesOn, IsAskedAgain, IsAskedSo, IsAsking}
 use Rattle.whole_paths.specs.DataAcksAsked.{AskingGoesOn as asking}
@@ -52,9 +50,9 @@ use Rattle.whole_paths.specs.DataAcksCome.{AskArrives}
 use Rattle.whole_paths.specs.DataAcksExchanged.{InquiriesGoOn, InquiryGoesOn, IsAskedPlainly, IsInquired}
 use Rattle.whole_paths.specs.DataAcksExchanged.{InquiryGoesOn as goes}
 use Rattle.whole_paths.specs.DataAcksExchanged.IsInquired.{asks, answered, heard}
-use Rattle.whole_paths.specs.DataAcksOwed.{WantsWhereItSends}
+use Rattle.whole_paths.specs.DataAcksOwed.{KnowsWhereItSends}
 use Rattle.whole_paths.specs.Due.{CopiesArriveSo}
-use Rattle.whole_paths.specs.Exchanges.{IsFaithful}
+use Rattle.whole_paths.specs.Exchanges.{LetsThrough}
 use Rattle.whole_paths.specs.Exchanges.{IsHeldUp as held}
 use Rattle.whole_paths.specs.Flights.{IsFirst}
 use Rattle.whole_paths.specs.InTime.{ComesFrom}
@@ -68,13 +66,12 @@ use Rattle.whole_paths.specs.Straying.{IsOpen}
 use Rattle.whole_paths.specs.Waits.{IsNews}
 use Rattle.whole_paths.specs.Waits.{IsNews as news}
 use Rattle.whole_paths.proofs.Acking.{same_actor}
-use Rattle.whole_paths.proofs.Arrivals.{sender_of}
+use Rattle.whole_paths.proofs.Arrivals.{sender_of, first_joins}
 use Rattle.whole_paths.proofs.Breaking.{never_breaks}
 use Rattle.whole_paths.proofs.Came.{what_is_acknowledged_came}
 use Rattle.whole_paths.proofs.Clearing.{Clears, MemberClears, each_clears, never_treats}
 use Rattle.whole_paths.proofs.Closing.{each_data_fin_counts}
 use Rattle.whole_paths.proofs.ClosingAsked.{asks_so, each_data_fin_comes}
-use Rattle.whole_paths.proofs.ClosingKnown.{what_is_heard_is_wanted}
 use Rattle.whole_paths.proofs.DataAcksAsked.{AskedAtTheEnd, AsksComeSo, asked_at_the_end, asks_come_so}
 use Rattle.whole_paths.proofs.DataAcksCome.{each_ask_arrives}
 use Rattle.whole_paths.proofs.DataAcksExchanged.{each_ask_is_answered}
@@ -94,6 +91,7 @@ use Rattle.whole_paths.proofs.Reached.{EndsAreReached, each_is_reached, none_lef
 use Rattle.whole_paths.proofs.Sent.{what_came_was_sent}
 use Rattle.whole_paths.proofs.Straying.{never_resets}
 use Rattle.whole_paths.proofs.SentSoon.{what_is_sent_comes_soon}
+use Rattle.subflow_tcp.specs.States.{is_dead}
 
 -- ---- what held of a sender
 
@@ -132,7 +130,7 @@ record IsTurn (books : StampedBooks) (later : SixBooks) (steps : List Note) (p q
   known : Known p
   open_p : IsOpen p
   open_q : IsOpen q
-  faithful : IsFaithful p
+  faithful : LetsThrough p
   few : (t : Side) → segments_sent t p.link < 2 ^ 64 - 1
   frames : Frames p q
   far : IsPathAsFar p q
@@ -150,7 +148,6 @@ record IsTurn (books : StampedBooks) (later : SixBooks) (steps : List Note) (p q
   reached_q : EndsAreReached q
   shown_q : Shown q
   hears : HearsDataFins values p q
-  wanted : HeardIsWanted books p
   go : InquiriesGoOn books steps (Path p) (Path q)
   hardly : HardlyGoesAwry steps (Path p) (Path q)
 
@@ -161,7 +158,8 @@ end_far p q h B = h.b
 same_first : (r : Record) (others : List Record) (e : PathEnd) → e.tcp.send.records ≡ r ∷ others → IsFirst r e
 same_first r others e is = record { first = r; others = others; records = is; same = record { pos = refl; kind = refl; piece = refl; mapping = refl } }
 
-module _ (books : StampedBooks) (later : SixBooks) (steps : List Note) (p q : PathState Carried) (t : IsTurn books later steps p q) (s : Side) (place : ℕ) (fin : Bool) (by : ℕ) (h : IsAnswerAwaited (books_in books) s place fin by p) where
+module _ (books : StampedBooks) (later : SixBooks) (steps : List Note) (p q : PathState Carried) (t : IsTurn books later steps p q) (s : Side) (place : ℕ) (fin : Bool) (by : ℕ)
+    (knows : (fin ≡ true → IsFinHeard (peer s) p) → KnowsWhereItSends (peer s) place p) (h : IsAnswerAwaited (books_in books) s place fin by p) where
   abbrev Goes : Type 0
   Goes = AnswerIsAwaitedOn later s place fin by p q
 
@@ -212,15 +210,15 @@ module _ (books : StampedBooks) (later : SixBooks) (steps : List Note) (p q : Pa
   inquiry_goes came (goes.held_up is) = ask.held_up is
   inquiry_goes came (goes.awry is) = ask.awry (t.hardly t.open_p t.open_q s is)
 
-  by_inquiry : (fin ≡ true → IsFinHeard (peer s) q) → WantsWhereItSends (books_in books) (peer s) place p → Goes
+  by_inquiry : (fin ≡ true → IsFinHeard (peer s) q) → KnowsWhereItSends (peer s) place p → Goes
   by_inquiry came wants = inquiry_goes came (t.go t.faithful s place fin by t.few (past_the_end place fin _ _ h.unanswered) wants h.inquiry)
 
   -- the peer heard it before
   heard_goes : (fin ≡ true → IsFinHeard (peer s) p) → Goes
   heard_goes came = by_fin fin refl
     where
-      wants : WantsWhereItSends (books_in books) (peer s) place p
-      wants = t.wanted s place fin (past_the_end place fin _ _ h.unanswered) h.has came
+      wants : KnowsWhereItSends (peer s) place p
+      wants = knows came
 
       by_fin : (b : Bool) → fin ≡ b → Goes
       by_fin false is = by_inquiry (λ so. absurd (both_ways fin is so)) wants
@@ -238,8 +236,8 @@ module _ (books : StampedBooks) (later : SixBooks) (steps : List Note) (p q : Pa
       waits_there next = waits_on next.0 next.1
 
   -- no segment goes as a copy arrives
-  wants_none : (others : List Duty) → p.agenda ≡ duties.Step step_duties.Events ∷ others → WantsWhereItSends (books_in books) (peer s) place p
-  wants_none others first = subst (λ ds. IfSome (first_sends ds p) (λ t. t.from ≡ peer s → (segment_sent p t).rst ≡ false → place ≤ next_wanted (reassembly_of (peer s) (books_in books)))) (sym first) tt
+  wants_none : (others : List Duty) → p.agenda ≡ duties.Step step_duties.Events ∷ others → KnowsWhereItSends (peer s) place p
+  wants_none others first = subst (λ ds. IfSome (first_sends ds p) (λ t. t.from ≡ peer s → is_dead (end_at (peer s) p).tcp.state ≡ false → (segment_sent p t).rst ≡ false → place ≤ (end_at (peer s) p).receiving.next)) (sym first) tt
 
   numbered : (f : Flight Carried) → IsUnderWay f p → f.number < 2 ^ 64 - 1
   numbered f there = let low = under_way (λ g. g.number ≤ segments_sent (peer g.to) p.link) f p there t.known.link.low in let most = t.few (peer f.to) in omega (arith, low, most)
@@ -264,7 +262,7 @@ module _ (books : StampedBooks) (later : SixBooks) (steps : List Note) (p q : Pa
     taken_from : (told : ℕ) → OwesItsEnd told a.sender → TakesFrom a.sender taker
     taken_from told owes_it =
         let header : SameHeader x f.carried.segment = changed_said p.profile.spelling s x a.stripped a.altered f.carried a.carried in
-        let arrives : AskArrives s p f a.sender = each_ask_arrives s p f a so.0.unstripped so.0.unaltered there (numbered f there) t.known.alike others first next t.faithful.joined in
+        let arrives : AskArrives s p f a.sender = each_ask_arrives s p f a so.0.unstripped so.0.unaltered there (numbered f there) t.known.alike others first next in
         let sent : taker.tcp.recv.edge ≤ (end_at s p).tcp.send.nxt = subst (λ u. taker.tcp.recv.edge ≤ (end_at u p).tcp.send.nxt) (sender_of s) (t.known.was_sent (peer s)) in
         let all = none_left (end_at s p).tcp (t.known.reached s) h.none in
         let at = so.0.nxt in
@@ -280,7 +278,7 @@ module _ (books : StampedBooks) (later : SixBooks) (steps : List Note) (p q : Pa
 
     end_comes : (told : ℕ) → OwesItsEnd told a.sender → Goes
     end_comes told owes_it =
-        let e : EndComes told p = each_data_fin_comes s p f a so.0.unstripped so.0.unaltered there (numbered f there) t.known.alike others first next t.faithful.joined told owes_it (taken_from told owes_it) in
+        let e : EndComes told p = each_data_fin_comes s p f a so.0.unstripped so.0.unaltered there (numbered f there) t.known.alike others first next (t.faithful.joined (peer s)) told owes_it (taken_from told owes_it) in
         let to : e.brings.copy.due.to ≡ peer s = sym (ap event_side e.brings.copy.next) ∙ ap event_side next ∙ a.to in
         ⊎_elim
         (λ same. same_goes same)
@@ -396,17 +394,16 @@ record IsTurnOf (w : WorldState Carried) (later : SixBooks) (lines : List Script
   reached_q : OfPaths EndsAreReached n
   shown_q : OfPaths Shown n
   hears : PathsHearFins values m n
-  wanted : OfPaths (HeardIsWanted w.books) m
   go : InquiriesGoOn w.books steps m n
   hardly : HardlyGoesAwry steps m n
   come : (Was : PathEnd → Bool → Bool → Type 0) → AsksComeSo Was values m n
 
 member_goes : (w : WorldState Carried) (later : SixBooks) (lines : List ScriptLine) (steps : List Note) (m n : Actor Carried) → IsTurnOf w later lines steps m n → AnswerIsAwaitedBy (books_in w.books) later m n
-member_goes w later lines steps (Path p) (Path q) x = λ open_p open_q few s place fin by h. awaited_goes w.books later steps p q (record {
+member_goes w later lines steps (Path p) (Path q) x = λ open_p open_q few s place fin by knows h. awaited_goes w.books later steps p q (record {
   known = record { tells = x.shown.tells; behind = x.shown.behind; edge = x.shown.edge; reached = x.reached; came = x.came; was_sent = x.was_sent; link = x.link_is; alike = x.alike; past = x.past };
   open_p = open_p;
   open_q = open_q;
-  faithful = record { joined = open_p.first; whole = x.link.strips; plain = x.link.alters };
+  faithful = record { joined = λ s. first_joins s p open_p.first; whole = x.link.strips; plain = x.link.alters };
   few = few;
   frames = x.frames;
   far = x.far;
@@ -424,10 +421,9 @@ member_goes w later lines steps (Path p) (Path q) x = λ open_p open_q few s pla
   reached_q = x.reached_q;
   shown_q = x.shown_q;
   hears = x.hears;
-  wanted = x.wanted;
   go = x.go;
   hardly = x.hardly;
-}) s place fin by h (x.come (Asks (end_at s p).tcp.send.una))
+}) s place fin by knows h (x.come (Asks (end_at s p).tcp.send.una))
 member_goes w later lines steps (Path p) (App b) x = tt
 member_goes w later lines steps (App a) n x = tt
 
@@ -454,9 +450,9 @@ Each P w = (actor : ℕ) (c : ActorCrew Carried) → slice_get w.crew actor ≡ 
 side_far : (turn : Turn) (w : WorldState Carried) (s : Side) → received (reassembly_of s (books_in w.books)) ≤ received (reassembly_of s (books_in (after_turn values turn w).books))
 side_far turn w s = ((goes_on_so values w (turn ∷ [])).sides s).arrival.received
 
-turn_of : (start : Start) (turns : List Turn) (turn : Turn) (plan : PathPlan) → start.paths ≡ plan ∷ [] → IsMildStart start → let w = world_run values turns (opened_world start) in let v = after_turn values turn w in
+turn_of : (start : Start) (turns : List Turn) (turn : Turn) → IsMildStart start → let w = world_run values turns (opened_world start) in let v = after_turn values turn w in
     (actor : ℕ) (c d : ActorCrew Carried) → slice_get w.crew actor ≡ Some c → slice_get v.crew actor ≡ Some d → IsTurnOf w (books_in v.books) start.lines d.list c.member d.member
-turn_of start turns turn plan one mild actor c d was now =
+turn_of start turns turn mild actor c d was now =
     let w : WorldState Carried = world_run values turns (opened_world start) in
     let v : WorldState Carried = after_turn values turn w in
     let more : List Turn = turns ++ turn ∷ [] in
@@ -494,8 +490,7 @@ turn_of start turns turn plan one mild actor c d was now =
       reached_q = reached actor d now;
       shown_q = shown actor d now;
       hears = same_actor (λ x. PathsHearFins values c.member x.member) v actor d now (each_data_fin_counts values w turn actor c was);
-      wanted = what_is_heard_is_wanted start turns size actor c was;
-      go = same_actor (λ x. InquiriesGoOn w.books x.list c.member x.member) v actor d now (each_ask_is_answered.goes_on start turns plan one size mild.fit turn actor c was);
+      go = same_actor (λ x. InquiriesGoOn w.books x.list c.member x.member) v actor d now (each_ask_is_answered.goes_on start turns size mild.fit turn actor c was);
       hardly = open_ends_hardly_go_awry start turns turn mild actor c d was now;
       come = λ Was. same_actor (λ x. AsksComeSo Was values c.member x.member) v actor d now (asks_come_so Was values w late ((what_is_sent_comes_soon values).numbered start turns) turn actor c was);
     }
@@ -504,6 +499,6 @@ pub open_asks_are_answered : OpenAsksAreAnswered
 open_asks_are_answered = record {
   begin = λ start turns mild actor c there. let w : WorldState Carried = world_run values turns (opened_world start) in
       begins_so (books_in w.books) c.member ((mapping_is_kept start turns mild).each actor c there) (λ Was. asked_at_the_end Was values start turns actor c there);
-  goes_on = λ start turns turn plan one mild actor c d was now. let w : WorldState Carried = world_run values turns (opened_world start) in
-      member_goes w (books_in (after_turn values turn w).books) start.lines d.list c.member d.member (turn_of start turns turn plan one mild actor c d was now);
+  goes_on = λ start turns turn mild actor c d was now. let w : WorldState Carried = world_run values turns (opened_world start) in
+      member_goes w (books_in (after_turn values turn w).books) start.lines d.list c.member d.member (turn_of start turns turn mild actor c d was now);
 }

@@ -17,7 +17,7 @@ use Rattle.world_laws.specs.Promises.{HasRoom, NumbersFit}
 use Rattle.world_laws.specs.Worlds.{Turn, after_turn, world_run}
 use Rattle.whole_paths.specs.Awaited.{AwaitedGoesOn, AwaitingBegins, AwaitingIsDue, EachWindowComes, IsAwaited}
 use Rattle.whole_paths.specs.Between.{PathsBetween}
-use Rattle.whole_paths.specs.Exchanges.{IsFaithful}
+use Rattle.whole_paths.specs.Exchanges.{LetsThrough}
 use Rattle.whole_paths.specs.Offered.{AsksFirst, OffersOn}
 use Rattle.whole_paths.specs.Probes.{AskTurns, IsProbed, ProbesAreDue, ProbesBegin, ProbesGoOn}
 use Rattle.whole_paths.specs.Probes.{AskTurns as goes}
@@ -42,7 +42,7 @@ module _ (six after : SixBooks) (steps : List Note) (p q : PathState Carried) (p
   awaited_on h (goes.held_up is) = goes.held_up is
   awaited_on h (goes.awry is) = goes.awry is
 
-  awaited_goes : IsFaithful p → ((t : Side) → segments_sent t p.link < 2 ^ 64 - 1) → IsAwaited six s at until p → AskTurns Still s until steps p q
+  awaited_goes : LetsThrough p → ((t : Side) → segments_sent t p.link < 2 ^ 64 - 1) → IsAwaited six s at until p → AskTurns Still s until steps p q
   awaited_goes faithful few h = awaited_on h (probes faithful s at until few (sends_offers six (peer s) (at + 31) p h.offered) h.probed)
 
 -- ---- the world

@@ -278,7 +278,7 @@ none_noted start turns mild s = by (slice_get crew (pick s 0 1)) refl
 
 -- ---- the law
 
-stops_speak : (s : Side) → speaks (Voice.Aborts s) (stops s) ≡ true
+pub stops_speak : (s : Side) → speaks (Voice.Aborts s) (stops s) ≡ true
 stops_speak A = refl
 stops_speak B = refl
 

@@ -21,7 +21,7 @@ use Rattle.path_core.specs.State.{PathState, end_at}
 use Rattle.path_core.specs.Values.{Carried}
 use Rattle.path_core.specs.declared.events.Event.{Event}
 use Rattle.path_core.specs.declared.events.Event.TheVariants as happenings
-use Rattle.whole_paths.specs.Arrivals.{Arrival}
+use Rattle.whole_paths.specs.Arrivals.{Arrival, HasJoined}
 use Rattle.whole_paths.specs.ClosingAsked.{OwesItsEnd, TakesFrom, EndComes, EachDataFinComes}
 use Rattle.whole_paths.specs.DataAcksCome.{ComesTaken, IsBare, IsInWindow, IsOpen}
 use Rattle.whole_paths.proofs.Closing.{each_data_fin_is_said}
@@ -67,10 +67,10 @@ side_in (Some (happenings.Arrives due)) = due.to
 side_in _ = A
 
 -- the acknowledgement with the DATA_FIN comes
-end_so : (x : PlainSegment) (p : PathState Carried) (place next : ℕ) (checksum : Option ℕ) (sender : PathEnd) (t : Side) (a : Arrival x p) → a.due.to ≡ t → IsBare x
+end_so : (x : PlainSegment) (p : PathState Carried) (place next : ℕ) (checksum : Option ℕ) (sender : PathEnd) (t : Side) (a : Arrival x p) → a.due.to ≡ t → HasJoined t p → IsBare x
     → x.position ≡ sender.tcp.send.nxt → x.acknowledged ≡ Some sender.tcp.recv.edge → x.options ≡ Dss (Some next) (Some (End place checksum)) ∷ [] → next < 2 ^ 62 → place ≤ 2 ^ 62
     → TakesFrom sender (end_at t p) → EndComes place p
-end_so x p place next checksum sender t a to bare position acks options low fair takes = said_so x p next place checksum t taken (ap side_in (sym taken.brings.copy.next ∙ a.next) ∙ to) options low fair takes.mapped
+end_so x p place next checksum sender t a to joins bare position acks options low fair takes = said_so x p next place checksum t taken (ap side_in (sym taken.brings.copy.next ∙ a.next) ∙ to) options low fair takes.mapped
   where
     opened : IsOpen (end_at a.due.to p).tcp
     opened = subst (λ u. IsOpen (end_at u p).tcp) (sym to) takes.opened
@@ -86,12 +86,12 @@ end_so x p place next checksum sender t a to bare position acks options low fair
     })
 
     taken : ComesTaken x p
-    taken = (each_ack_comes x p a bare opened).taken window
+    taken = (each_ack_comes x p a (subst (λ u. HasJoined u p) (sym to) joins) bare opened).taken window
 
 pub each_data_fin_comes : EachDataFinComes
-each_data_fin_comes s p f h whole same there few arrive others first next path place owes takes =
-    let a = each_ask_arrives s p f h whole same there few arrive others first next path in
+each_data_fin_comes s p f h whole same there few arrive others first next joins place owes takes =
+    let a = each_ask_arrives s p f h whole same there few arrive others first next in
     let is = asks_so p.profile s h.sender place owes in
-    end_so (ack_resent p.profile s h.sender) p place h.sender.receiving.next _ h.sender (peer s) a.arrival (ap (λ (due : Due). due.to) a.due_is ∙ h.to) a.bare
+    end_so (ack_resent p.profile s h.sender) p place h.sender.receiving.next _ h.sender (peer s) a.arrival (ap (λ (due : Due). due.to) a.due_is ∙ h.to) joins a.bare
     (ap (λ (x : PlainSegment). x.position) is) (ap (λ (x : PlainSegment). x.acknowledged) is)
     (ap (λ (x : PlainSegment). x.options) is ∙ options_so p.profile s h.sender place owes) owes.low owes.fair takes

@@ -36,7 +36,7 @@ use Rattle.whole_paths.specs.Exchanges.{IsSentWhole}
 use Rattle.whole_paths.specs.Expiries.{IsSaidAt}
 use Rattle.whole_paths.specs.Mending.{ComesBy, IsOpenTurn}
 use Rattle.whole_paths.specs.OpenCourses.{IsOpenNow}
-use Rattle.whole_paths.proofs.Arrivals.{each_copy_arrives, each_mapped_record_is_a_piece, each_piece_comes_in_order, sender_of}
+use Rattle.whole_paths.proofs.Arrivals.{each_copy_arrives, each_mapped_record_is_a_piece, each_piece_comes_in_order, sender_of, first_joins}
 use Rattle.whole_paths.proofs.ComingCopies.{each_copy_that_comes_counts}
 use Rattle.whole_paths.proofs.Copies.{copies_leave}
 use Rattle.whole_paths.proofs.Exchanges.{Known, below_limit}
@@ -104,16 +104,16 @@ module _ (start : Start) (turns : List Turn) (turn : Turn) (h : IsOpenTurn start
     x = c.of_it.segment
 
     comes_now : Arrival x p
-    comes_now = each_copy_arrives s r p c.copy c.of_it c.whole.unstripped c.whole.unaltered c.there (numbered start h.mild turns turn h.before after c.copy c.there) facts.alike others first next h.before.is_open.first
+    comes_now = each_copy_arrives s r p c.copy c.of_it c.whole.unstripped c.whole.unaltered c.there (numbered start h.mild turns turn h.before after c.copy c.there) facts.alike others first next
 
     due_to : comes_now.due.to ≡ t
     due_to = sym (ap event_side comes_now.next) ∙ ap event_side next ∙ c.of_it.to
 
-    piece : IsMappedPiece (peer comes_now.due.to) x
-    piece = subst (λ y. IsMappedPiece y x) (sym (ap peer due_to ∙ sender_of s)) (each_mapped_record_is_a_piece p.profile s r c.of_it.sender x c.whole.mapped c.of_it.of_it c.of_it.says)
+    piece : IsMappedPiece p.profile (peer comes_now.due.to) x
+    piece = subst (λ y. IsMappedPiece p.profile y x) (sym (ap peer due_to ∙ sender_of s)) (each_mapped_record_is_a_piece p.profile s r c.of_it.sender x c.whole.mapped c.of_it.of_it c.of_it.says)
 
     again : ComesAgain p
-    again = (each_piece_comes_in_order x p comes_now piece).1 (record {
+    again = (each_piece_comes_in_order x p comes_now (first_joins comes_now.due.to p h.before.is_open.first) piece).1 (record {
       opened = subst (λ u. 2 ≤ stage (end_at u p).tcp.state) (sym due_to) (let past = h.before.is_open.past t in omega (arith, past));
       living = subst (λ u. is_dead (end_at u p).tcp.state ≡ false) (sym due_to) (h.before.is_open.living t);
       below_limit = below_limit p facts comes_now.due.to;

@@ -30,10 +30,12 @@ use Rattle.path_core.specs.Profile.{Profile}
 use Rattle.path_core.specs.State.{PathState, end_at}
 use Rattle.path_core.specs.Values.{Carried, carried_by, as_arrived, values}
 use Rattle.path_core.specs.declared.judged.Judged.TheVariants as judged
-use Rattle.whole_paths.specs.Arrivals.{Arrival}
+use Rattle.whole_paths.specs.Arrivals.{Arrival, HasJoined}
 use Rattle.whole_paths.specs.AsFar.{stage}
 use Rattle.whole_paths.specs.Brought.{Comes, IsTo}
 use Rattle.whole_paths.specs.DataAcksCome.{IsBare, IsOpen, AckComes, EachAckComes, EachAskArrives}
+use Rattle.path_core.specs.MpJoin.{is_joined}
+use Rattle.whole_paths.proofs.Arrivals.{judged_outside, judged_taken}
 
 and_false : (b : Bool) → (b && false) ≡ false
 and_false true = refl
@@ -100,7 +102,7 @@ module _ (c : Copy) (s : EndState) (pos : ℕ) (syn : c.syn ≡ false) (fin : c.
       ∙ ap (λ b. if b then meaning_within pos c s else meaning_outside c) (outside_so s.recv.edge (length c.payload) low)
       ∙ ap (λ b. if b then means.Ignored else means.Outside) rst
 
-module _ (x : PlainSegment) (p : PathState Carried) (a : Arrival x p) (bare : IsBare x) (opened : IsOpen (end_at a.due.to p).tcp) where
+module _ (x : PlainSegment) (p : PathState Carried) (a : Arrival x p) (joins : HasJoined a.due.to p) (bare : IsBare x) (opened : IsOpen (end_at a.due.to p).tcp) where
   abbrev to : Side
   to = a.due.to
 
@@ -120,8 +122,13 @@ module _ (x : PlainSegment) (p : PathState Carried) (a : Arrival x p) (bare : Is
     heard = ap (λ (o : Option (Flight Carried)). heard_in values to o p) a.there ∙ ap (λ (c : Carried). Some (meant (as_arrived c))) a.carried;
   }
 
-  is_to : (m : Meaning) → meaning_of (copy_of said) e.tcp ≡ m → IsTo values p copy (judged.As m)
-  is_to m is = ap (λ j. judged_of j said.rst (items_of j to said) (meaning_of (copy_of said) e.tcp) e) a.joined ∙ ap (λ m. judged.As m) is
+  is_taken : (pos n : ℕ) → meaning_of (copy_of said) e.tcp ≡ means.Taken pos n → IsTo values p copy (judged.As (means.Taken pos n))
+  is_taken pos n is = ap (λ m. judged_of (is_joined p.profile) said.rst (items_of (is_joined p.profile) to said) m e) is
+      ∙ judged_taken (is_joined p.profile) said.rst (items_of (is_joined p.profile) to said) pos n e joins
+
+  is_outside : meaning_of (copy_of said) e.tcp ≡ means.Outside → IsTo values p copy (judged.As means.Outside)
+  is_outside is = ap (λ m. judged_of (is_joined p.profile) said.rst (items_of (is_joined p.profile) to said) m e) is
+      ∙ judged_outside (is_joined p.profile) said.rst (items_of (is_joined p.profile) to said) e joins
 
   ack_comes : AckComes x p e.tcp
   ack_comes = record {
@@ -130,16 +137,16 @@ module _ (x : PlainSegment) (p : PathState Carried) (a : Arrival x p) (bare : Is
         copy = copy;
         position = x.position;
         acknowledged = h.acknowledged;
-        taken = is_to (means.Taken x.position h.acknowledged) (taken_so (copy_of said) e.tcp x.position bare.syn bare.fin bare.rst bare.empty refl opened h.acknowledged h.from h.within
+        taken = is_taken x.position h.acknowledged (taken_so (copy_of said) e.tcp x.position bare.syn bare.fin bare.rst bare.empty refl opened h.acknowledged h.from h.within
             (ap (λ (o : Option ℕ). acknowledged_in (option_map (λ n. At n) o)) h.acknowledges) h.answered h.sent);
       };
       segment = refl;
     };
-    again = λ low. record { copy = copy; outside = is_to means.Outside (again_so (copy_of said) e.tcp x.position bare.syn bare.fin bare.rst bare.empty refl opened low) };
+    again = λ low. record { copy = copy; outside = is_outside (again_so (copy_of said) e.tcp x.position bare.syn bare.fin bare.rst bare.empty refl opened low) };
   }
 
 pub each_ack_comes : EachAckComes
-each_ack_comes x p a bare opened = ack_comes x p a bare opened
+each_ack_comes x p a joins bare opened = ack_comes x p a joins bare opened
 
 -- ---- what an end without a record asks again
 
@@ -175,7 +182,7 @@ probe_at c s e third close owed =
     ∙ ap (λ b. (if b then ack_said c s e.tcp.send.nxt e.sending.known_end e else ack_said c s (e.tcp.send.una - 1) None e).position) owed
 
 pub each_ask_arrives : EachAskArrives
-each_ask_arrives s p f h whole same there few arrive others first next path =
+each_ask_arrives s p f h whole same there few arrive others first next =
     let comes = arrive f there few in record {
       arrival = record {
         others = others;
@@ -188,7 +195,6 @@ each_ask_arrives s p f h whole same there few arrive others first next path =
             ∙ ap (λ b. changed (values.strips p.profile.spelling s) (values.alters p.profile.spelling s) b h.altered (carried_by p.profile.spelling s (ack_resent p.profile s h.sender))) whole
             ∙ ap (λ b. changed (values.strips p.profile.spelling s) (values.alters p.profile.spelling s) false b (carried_by p.profile.spelling s (ack_resent p.profile s h.sender))) same
             ∙ ap (λ t. carried_by p.profile.spelling t (ack_resent p.profile s h.sender)) (sym (ap peer h.to ∙ sender_of s));
-        joined = path;
       };
       due_is = refl;
       bare = resent_bare p.profile s h.sender h.sender.modes.owes_third h.sender.notices.fast_closed (is_data_fin_owed h.sender);

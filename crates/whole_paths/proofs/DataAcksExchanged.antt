@@ -37,7 +37,7 @@ use Rattle.path_core.specs.Values.{Carried, carried_by, values}
 use Rattle.path_core.specs.declared.events.Event.TheVariants as happenings
 use Rattle.world_laws.specs.declared.member.Member.TheVariants.{App, Path}
 use Rattle.world_laws.specs.Actors.{Actor, ActorCrew}
-use Rattle.world_laws.specs.Openings.{PathPlan, Start, opened_world}
+use Rattle.world_laws.specs.Openings.{Start, opened_world}
 use Rattle.world_laws.specs.Promises.{HasRoom, NumbersFit}
 use Rattle.world_laws.specs.Worlds.{Turn, after_turn, world_run}
 use Rattle.whole_paths.specs.AgendaSteps.{event_side}
@@ -60,11 +60,10 @@ use Rattle.whole_paths.specs.DataAcksExchanged.{IsInquired as inquired}
 use Rattle.whole_paths.specs.DataAcksExchanged.{InquiryGoesOn as turns}
 use Rattle.whole_paths.specs.DataAcksHeard.{HearsDataAcks, IsPastTheEnd, PathsHear, StaysHeard}
 use Rattle.whole_paths.specs.DataAcksHeard.{StaysHeard as stay}
-use Rattle.whole_paths.specs.DataAcksNow.{KnowsWhatCame}
-use Rattle.whole_paths.specs.DataAcksOwed.{IsDataAckFrom, WantsWhereItSends}
+use Rattle.whole_paths.specs.DataAcksOwed.{IsDataAckFrom, KnowsWhereItSends}
 use Rattle.whole_paths.specs.Due.{CopiesArriveSo}
 use Rattle.whole_paths.specs.Expiries.{IsToSendAgain}
-use Rattle.whole_paths.specs.Exchanges.{IsFaithful}
+use Rattle.whole_paths.specs.Exchanges.{LetsThrough}
 use Rattle.whole_paths.specs.Exchanges.{IsHeldUp as held}
 use Rattle.whole_paths.specs.InTime.{ComesFrom}
 use Rattle.whole_paths.specs.Kept.{KeepsWhatWaits, EndsKeepWhatWaits}
@@ -85,7 +84,6 @@ use Rattle.whole_paths.proofs.ClosingOwed.{what_wants_an_answer_is_owed_one}
 use Rattle.whole_paths.proofs.DataAcksAsked.{AskedAtTheEnd, AsksComeSo, asked_at_the_end, asks_come_so}
 use Rattle.whole_paths.proofs.DataAcksCome.{each_ack_comes, each_ask_arrives}
 use Rattle.whole_paths.proofs.DataAcksHeard.{each_data_ack_counts, each_data_ack_is_said}
-use Rattle.whole_paths.proofs.DataAcksNow.{each_data_ack_is_up_to_date}
 use Rattle.whole_paths.proofs.DataAcksOwed.{data_ack_goes}
 use Rattle.whole_paths.proofs.Due.{LinkMember, copies_arrive_as_sent, each_link}
 use Rattle.whole_paths.proofs.Exchanges.{Known, OfPaths, SameHeader, Shown, all_at, answer_later, below_limit, changed_said, each_shown, under_way}
@@ -153,7 +151,7 @@ less_place edge last more place x low h = record {
 }
 
 -- whatever is asked for: an answer with a Data ACK, of which this is said, and what the end hears of it after the turn
-module _ (steps : List Note) (p q : PathState Carried) (known : Known p) (faithful : IsFaithful p) (few : (t : Side) → segments_sent t p.link < 2 ^ 64 - 1) (turn : IsTurn p q)
+module _ (steps : List Note) (p q : PathState Carried) (known : Known p) (faithful : LetsThrough p) (few : (t : Side) → segments_sent t p.link < 2 ^ 64 - 1) (turn : IsTurn p q)
     (s : Side) (until : ℕ) (Says : ℕ → ℕ → PlainSegment → Type 0) (After : PathState Carried → Type 0) (says_so : SaysDataAck Says) where
   abbrev Ack : PlainSegment → Type 0
   Ack = Says (end_at s p).tcp.recv.edge (end_at (peer s) p).tcp.send.nxt
@@ -245,7 +243,6 @@ module _ (steps : List Note) (p q : PathState Carried) (known : Known p) (faithf
           ∙ ap (λ b. changed (values.strips p.profile.spelling (peer s)) (values.alters p.profile.spelling (peer s)) b h.altered (carried_by p.profile.spelling (peer s) h.segment)) (h.whole faithful.whole)
           ∙ ap (λ b. changed (values.strips p.profile.spelling (peer s)) (values.alters p.profile.spelling (peer s)) false b (carried_by p.profile.spelling (peer s) h.segment)) (h.plain faithful.plain)
           ∙ ap (λ t. carried_by p.profile.spelling t h.segment) (sym (ap peer h.to ∙ sender_of (peer s)));
-      joined = faithful.joined;
     }
 
     answer_header : SameHeader h.segment f.carried.segment
@@ -272,7 +269,7 @@ module _ (steps : List Note) (p q : PathState Carried) (known : Known p) (faithf
     answer_comes : TakesAnswer → 2 ≤ stage (end_at s p).tcp.state → Stage p → Goes
     answer_comes takes high still = if_living s (λ living. if_mapped s (λ mapped. ⊎_elim
         (λ past. goes.awry (awry.past_window (let up_to = (says_so.so (end_at s p).tcp.recv.edge (end_at (peer s) p).tcp.send.nxt h.segment so).up_to in omega (arith, past, up_to))))
-        (λ within. ack_taken takes mapped still ((each_ack_comes h.segment p answer_arrives answer_bare (subst (λ t. IsOpen (end_at t p).tcp) (sym answer_to) (opened_so s high living))).taken
+        (λ within. ack_taken takes mapped still ((each_ack_comes h.segment p answer_arrives (faithful.joined answer_arrives.due.to) answer_bare (subst (λ t. IsOpen (end_at t p).tcp) (sym answer_to) (opened_so s high living))).taken
         (subst (λ t. IsInWindow h.segment (end_at t p).tcp) (sym answer_to) (in_window within))))
         (cases_lt ((end_at s p).tcp.recv.edge + 1048576) h.segment.position)))
 
@@ -317,7 +314,7 @@ module _ (steps : List Note) (p q : PathState Carried) (known : Known p) (faithf
     taker = end_at (peer s) p
 
     ask_arrives : AskArrives s p f h.sender
-    ask_arrives = each_ask_arrives s p f h so.unstripped so.unaltered there (numbered f there) known.alike others first next faithful.joined
+    ask_arrives = each_ask_arrives s p f h so.unstripped so.unaltered there (numbered f there) known.alike others first next
 
     arrives_to : ask_arrives.arrival.due.to ≡ peer s
     arrives_to = ap (λ (due : Due). due.to) ask_arrives.due_is ∙ h.to
@@ -334,7 +331,7 @@ module _ (steps : List Note) (p q : PathState Carried) (known : Known p) (faithf
     -- before RCV.NXT it is answered
     comes_before : 2 ≤ stage (end_at s p).tcp.state → 3 ≤ stage taker.tcp.state → is_dead taker.tcp.state ≡ false → x.position < taker.tcp.recv.edge → Goes
     comes_before high opened living low =
-        let again : ComesAgain p = (each_ack_comes x p ask_arrives.arrival ask_arrives.bare
+        let again : ComesAgain p = (each_ack_comes x p ask_arrives.arrival (faithful.joined ask_arrives.arrival.due.to) ask_arrives.bare
         (subst (λ t. IsOpen (end_at t p).tcp) (sym arrives_to) (opened_so (peer s) (omega (arith, opened)) living))).again
         (subst (λ t. x.position < (end_at t p).tcp.recv.edge) (sym arrives_to) low) in
         let to : again.copy.due.to ≡ peer s = side_is again.copy in
@@ -347,7 +344,7 @@ module _ (steps : List Note) (p q : PathState Carried) (known : Known p) (faithf
     -- the DATA_FIN is taken in the window
     fin_comes : 2 ≤ stage (end_at s p).tcp.state → 3 ≤ stage taker.tcp.state → (told : ℕ) → OwesItsEnd told h.sender → TakesFrom h.sender taker → Goes
     fin_comes high opened told owes_it takes =
-        let e : EndComes told p = each_data_fin_comes s p f h so.unstripped so.unaltered there (numbered f there) known.alike others first next faithful.joined told owes_it takes in
+        let e : EndComes told p = each_data_fin_comes s p f h so.unstripped so.unaltered there (numbered f there) known.alike others first next (faithful.joined (peer s)) told owes_it takes in
         let to : e.brings.copy.due.to ≡ peer s = side_is e.brings.copy in
         ⊎_elim
         (λ same. same_goes same still)
@@ -467,8 +464,8 @@ asked_so s place fin until p (inquired.asks arrival soon h so) = asks arrival so
 asked_so s place fin until p (inquired.answered high h so) = answered high h so
 asked_so s place fin until p (inquired.heard next enough h) = heard (record { next = next; enough = enough; hears = h })
 
-module _ (books : StampedBooks) (steps : List Note) (p q : PathState Carried) (known : Known p) (faithful : IsFaithful p) (few : (t : Side) → segments_sent t p.link < 2 ^ 64 - 1) (turn : IsTurn p q)
-    (hears : HearsDataAcks values books steps p q) (knows : KnowsWhatCame (books_in books) p) (s : Side) (place : ℕ) (fin : Bool) (until : ℕ) where
+module _ (books : StampedBooks) (steps : List Note) (p q : PathState Carried) (known : Known p) (faithful : LetsThrough p) (few : (t : Side) → segments_sent t p.link < 2 ^ 64 - 1) (turn : IsTurn p q)
+    (hears : HearsDataAcks values books steps p q) (s : Side) (place : ℕ) (fin : Bool) (until : ℕ) where
   abbrev SaysPlace : ℕ → ℕ → PlainSegment → Type 0
   SaysPlace edge last = IsDataAckFrom edge last place
 
@@ -511,12 +508,12 @@ module _ (books : StampedBooks) (steps : List Note) (p q : PathState Carried) (k
       (λ stays. inr (stays_goes so.next so.enough (subst (λ t. StaysHeard t so.next fin steps q) to stays)))
       (hears.tells taken.brings 1 so.next (meant x).window fin (data_ack_says p x so.next so.mapping so.others so.options so.low taken s to mapped))
 
-  peer_says : WantsWhereItSends (books_in books) (peer s) place p → PeerSays steps p q known faithful few turn s until SaysPlace IsHeardThen from_place
-  peer_says wants living clear mapped = data_ack_goes (books_in books) (peer s) (end_at s p).tcp.recv.edge (end_at (peer s) p).tcp.send.nxt place p turn.first knows living clear mapped (known.was_sent s) (le_refl (end_at (peer s) p).tcp.send.nxt)
+  peer_says : KnowsWhereItSends (peer s) place p → PeerSays steps p q known faithful few turn s until SaysPlace IsHeardThen from_place
+  peer_says wants living clear mapped = data_ack_goes (peer s) (end_at s p).tcp.recv.edge (end_at (peer s) p).tcp.send.nxt place p turn.first living clear mapped (known.was_sent s) (le_refl (end_at (peer s) p).tcp.send.nxt)
       (let low : (end_at (peer s) p).receiving.next < 2 ^ 31 = (known.tells (peer s)).window.next in omega (arith, low)) wants
 
   inquiry_goes : AsksComeSo (IsAskedPlainly (end_at s p).tcp.send.una) values (Path p) (Path q) → AnswersComeSo (SaysPlace (end_at s p).tcp.recv.edge (end_at (peer s) p).tcp.send.nxt) values (Path p) (Path q)
-      → HandsComeSo (SaysPlace (end_at s p).tcp.recv.edge (end_at (peer s) p).tcp.send.nxt) values (Path p) (Path q) → IsPastTheEnd books s place fin → WantsWhereItSends (books_in books) (peer s) place p → IsInquired s place fin until p → AskGoes
+      → HandsComeSo (SaysPlace (end_at s p).tcp.recv.edge (end_at (peer s) p).tcp.send.nxt) values (Path p) (Path q) → IsPastTheEnd books s place fin → KnowsWhereItSends (peer s) place p → IsInquired s place fin until p → AskGoes
   inquiry_goes come answers hands past wants (inquired.asks arrival soon h so) = asks_on steps p q known faithful few turn s until SaysPlace IsHeardThen from_place come hands takes_place arrival soon h so
   inquiry_goes come answers hands past wants (inquired.answered high h so) =
       answered_on steps p q known faithful few turn s until SaysPlace IsHeardThen from_place answers (peer_says wants) takes_place high h so
@@ -599,25 +596,25 @@ turn_of p q x = record {
   first = x.first;
 }
 
-inquiries_go : (books : StampedBooks) (steps : List Note) (m n : Actor Carried) → TurnFacts m n → PathsHear values books steps m n → OfPaths (KnowsWhatCame (books_in books)) m → InquiriesGoOn books steps m n
-inquiries_go books steps (App a) (App b) facts hears knows = tt
-inquiries_go books steps (Path p) (Path q) facts hears knows = λ faithful s place fin until few at_end wants h.
+inquiries_go : (books : StampedBooks) (steps : List Note) (m n : Actor Carried) → TurnFacts m n → PathsHear values books steps m n → InquiriesGoOn books steps m n
+inquiries_go books steps (App a) (App b) facts hears = tt
+inquiries_go books steps (Path p) (Path q) facts hears = λ faithful s place fin until few at_end wants h.
     let known = known_of p (Path q) facts in
     let turn = turn_of p q facts in
-    goes_so books steps p q known faithful few turn hears knows s place fin until
-    (inquiry_goes books steps p q known faithful few turn hears knows s place fin until
+    goes_so books steps p q known faithful few turn hears s place fin until
+    (inquiry_goes books steps p q known faithful few turn hears s place fin until
     (facts.come (IsAskedPlainly (end_at s p).tcp.send.una)) (facts.answers (IsDataAckFrom (end_at s p).tcp.recv.edge (end_at (peer s) p).tcp.send.nxt place)) (facts.hands (IsDataAckFrom (end_at s p).tcp.recv.edge (end_at (peer s) p).tcp.send.nxt place)) at_end wants h)
-inquiries_go books steps (App a) (Path q) facts hears knows = absurd hears
-inquiries_go books steps (Path p) (App b) facts hears knows = absurd hears
+inquiries_go books steps (App a) (Path q) facts hears = absurd hears
+inquiries_go books steps (Path p) (App b) facts hears = absurd hears
 
-inquiries_by_turns : (start : Start) (turns : List Turn) (plan : PathPlan) → start.paths ≡ plan ∷ [] → HasRoom start → NumbersFit start → let w = world_run values turns (opened_world start) in
+inquiries_by_turns : (start : Start) (turns : List Turn) → HasRoom start → NumbersFit start → let w = world_run values turns (opened_world start) in
     (turn : Turn) (actor : ℕ) (c : ActorCrew Carried) → slice_get w.crew actor ≡ Some c
     → (d : ActorCrew Carried) × (slice_get (after_turn values turn w).crew actor ≡ Some d) × InquiriesGoOn w.books d.list c.member d.member
-inquiries_by_turns start turns plan one size fit turn actor c at =
+inquiries_by_turns start turns size fit turn actor c at =
     let w = world_run values turns (opened_world start) in
     let hears = each_data_ack_counts values w turn actor c at in
     let d : ActorCrew Carried = hears.0 in
-    (d, hears.1, inquiries_go w.books d.list c.member d.member (turn_facts start turns size fit turn actor c d at hears.1) hears.2 ((each_data_ack_is_up_to_date values start turns plan one).each actor c at))
+    (d, hears.1, inquiries_go w.books d.list c.member d.member (turn_facts start turns size fit turn actor c d at hears.1) hears.2)
 
 -- ---- how they begin and end
 

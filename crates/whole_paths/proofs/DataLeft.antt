@@ -31,7 +31,7 @@ use Rattle.path_core.specs.Start.{first_state, waiting_path}
 use Rattle.path_core.specs.State.{PathState, end_at}
 use Rattle.path_core.specs.Values.{Carried, values}
 use Rattle.world_laws.specs.declared.member.Member.TheVariants.{App, Path}
-use Rattle.world_laws.specs.Actors.{Actor, member_next, member_takes}
+use Rattle.world_laws.specs.Actors.{Actor, member_next, member_takes, ActorCrew}
 use Rattle.world_laws.specs.Members.{HoldsOfKind}
 use Rattle.world_laws.specs.Openings.{PathPlan, Start, opened_world, path_begins}
 use Rattle.world_laws.specs.RoundDone.{reached}
@@ -53,11 +53,12 @@ use Rattle.whole_paths.specs.EndSteps.SubflowSteps.{none, more}
 use Rattle.whole_paths.proofs.Came.{heard_send}
 use Rattle.whole_paths.proofs.Duties.{answered_steps, passed_steps}
 use Rattle.whole_paths.proofs.Exchanges.{Shown, each_shown}
-use Rattle.whole_paths.proofs.OpenCourses.{IsFirstPath, each_first}
+use Rattle.whole_paths.proofs.OpenCourses.{IsOfLanes, each_of_lanes}
 use Rattle.whole_paths.proofs.Reached.{EndsAreReached, each_is_reached, first_left, first_reached, Joined, Line}
 use Rattle.whole_paths.proofs.Subflows.{steps_up}
 use Rattle.whole_paths.specs.LastFin.{FinIsLast}
 use Rattle.whole_paths.proofs.LastFin.{fins_are_last}
+use Rattle.world_laws.specs.Promises.{HasRoom, NumbersFit}
 
 -- ---- the SYN stands at position 0
 
@@ -260,7 +261,7 @@ pub joined_up : (rs : List Record) (from nxt : ℕ) → Joined from nxt (map spa
 joined_up [] from nxt h = omega (arith, h)
 joined_up (r ∷ rs) from nxt h = let at = h.0 in let rest = joined_up rs (end_of r) nxt h.1 in omega (arith, at, rest)
 
-data_left : (start : Start) (p : PathState Carried) → Shown p → EndsAreReached p → EndsAreBegun p → IsFirstPath start p → FinIsLast p → HasDataLeft p
+data_left : (start : Start) (p : PathState Carried) → Shown p → EndsAreReached p → EndsAreBegun p → IsOfLanes start p → FinIsLast p → HasDataLeft p
 data_left start p shown reached begun first last s past living behind r others is = by r.kind refl
   where
     there : slice_get (end_at s p).tcp.send.records 0 ≡ Some r
@@ -291,10 +292,15 @@ data_left start p shown reached begun first last s past living behind r others i
         behind)
 
 member_left : (start : Start) (m : Actor Carried) → HoldsOfKind (λ app. Unit {0}) Shown m → HoldsOfKind (λ app. Unit {0}) EndsAreReached m → HoldsOfKind (λ app. Unit {0}) EndsAreBegun m
-    → HoldsOfKind (λ app. Unit {0}) (IsFirstPath start) m → HoldsOfKind (λ app. Unit {0}) FinIsLast m → HoldsOfKind (λ app. Unit {0}) HasDataLeft m
+    → HoldsOfKind (λ app. Unit {0}) (IsOfLanes start) m → HoldsOfKind (λ app. Unit {0}) FinIsLast m → HoldsOfKind (λ app. Unit {0}) HasDataLeft m
 member_left start (App a) shown reached begun first last = tt
 member_left start (Path p) shown reached begun first last = data_left start p shown reached begun first last
 
-pub what_is_left_is_data : WhatIsLeftIsData
-what_is_left_is_data start turns size fit c there =
-    member_left start c.member (each_shown start turns size fit 2 c there) ((each_is_reached values start turns).each 2 c there) ((each_is_begun values start turns).each 2 c there) (each_first start turns size c there) ((fins_are_last start turns size).each 2 c there)
+pub each_path_has_data_left : WhatIsLeftIsData
+each_path_has_data_left start turns size fit actor c there =
+    member_left start c.member (each_shown start turns size fit actor c there) ((each_is_reached values start turns).each actor c there) ((each_is_begun values start turns).each actor c there)
+    (each_of_lanes start turns size actor c there) ((fins_are_last start turns size).each actor c there)
+
+-- of path 0
+pub what_is_left_is_data : (start : Start) (turns : List Turn) → HasRoom start → NumbersFit start → (c : ActorCrew Carried) → slice_get (reached values start turns).crew 2 ≡ Some c → HoldsOfKind (λ app. Unit {0}) HasDataLeft c.member
+what_is_left_is_data start turns size fit c there = each_path_has_data_left start turns size fit 2 c there

@@ -82,7 +82,7 @@ fin_passed phase.FinWait1 = refl
 fin_passed phase.FinWait2 = refl
 fin_passed _ = refl
 
-finished : (state : State) → is_dead (after_finish state) ≡ is_dead state
+pub finished : (state : State) → is_dead (after_finish state) ≡ is_dead state
 finished phase.Established = refl
 finished phase.CloseWait = refl
 finished _ = refl
@@ -110,7 +110,7 @@ heard_ack_lives pos hint now c s = elim (is_duplicate (ack_kind pos s.send) (tol
     acked : EndState
     acked = after_acknowledgement pos now s
 
-abbrev is_kill : Meaning → Bool
+abbrev pub is_kill : Meaning → Bool
 is_kill means.Kills = true
 is_kill _ = false
 
@@ -136,22 +136,22 @@ owing_lives true s t h = h
 
 -- ---- an end
 
-record Spared (e f : PathEnd) : Type 0 where
-  living : is_dead e.tcp.state ≡ false → is_dead f.tcp.state ≡ false
+pub record Spared (e f : PathEnd) : Type 0 where
+  pub living : is_dead e.tcp.state ≡ false → is_dead f.tcp.state ≡ false
 
-spared : (e f : PathEnd) → is_dead f.tcp.state ≡ is_dead e.tcp.state → Spared e f
+pub spared : (e f : PathEnd) → is_dead f.tcp.state ≡ is_dead e.tcp.state → Spared e f
 spared e f same = record { living = λ living. same ∙ living }
 
-rests : (e : PathEnd) → Spared e e
+pub rests : (e : PathEnd) → Spared e e
 rests e = spared e e refl
 
-spared_then : (e f g : PathEnd) → Spared e f → Spared f g → Spared e g
+pub spared_then : (e f g : PathEnd) → Spared e f → Spared f g → Spared e g
 spared_then e f g x y = record { living = λ living. y.living (x.living living) }
 
 only_spared : (w : EndWrites) (e f : PathEnd) → w.phase ≡ false → Only w e f → Spared e f
 only_spared w e f same x = spared e f (ap is_dead (unwritten w.phase e.tcp.state f.tcp.state same (ap (λ (v : EndView). v.phase) x.same)))
 
-judged_spared : (c : Profile) (s : Side) (now : ℕ) (h : HeardSegment) (e : PathEnd) (m : Meaning) → is_kill m ≡ false → Spared e (copy_judged (is_joined c) (held_of c s h) (reset_for c s h) s now h m e)
+pub judged_spared : (c : Profile) (s : Side) (now : ℕ) (h : HeardSegment) (e : PathEnd) (m : Meaning) → is_kill m ≡ false → Spared e (copy_judged (is_joined c) (held_of c s h) (reset_for c s h) s now h m e)
 judged_spared c s now h e m other =
     let items : List Heard = items_of (is_joined c) s h in
     record {
@@ -169,18 +169,18 @@ module _ {C : Type 0} (k : Codec C) where
   abbrev Fate : Side → PathState C → PathState C → Type 0
   Fate t p q = Spared (end_at t p) (end_at t q) ⊎ DiesBy k t p
 
-  record BothSpared (p q : PathState C) : Type 0 where
-    a : Spared p.a q.a
-    b : Spared p.b q.b
+  pub record BothSpared (p q : PathState C) : Type 0 where
+    pub a : Spared p.a q.a
+    pub b : Spared p.b q.b
 
-  side : (s : Side) (e : PathEnd) (p q : PathState C) → Spared (end_at s p) e → q.a ≡ (goes_on s e [] p).a → q.b ≡ (goes_on s e [] p).b → BothSpared p q
+  pub side : (s : Side) (e : PathEnd) (p q : PathState C) → Spared (end_at s p) e → q.a ≡ (goes_on s e [] p).a → q.b ≡ (goes_on s e [] p).b → BothSpared p q
   side A e p q x same_a same_b = record { a = subst (Spared p.a) (sym same_a) x; b = subst (Spared p.b) (sym same_b) (rests p.b) }
   side B e p q x same_a same_b = record { a = subst (Spared p.a) (sym same_a) (rests p.a); b = subst (Spared p.b) (sym same_b) x }
 
-  both_rest : (p q : PathState C) → q.a ≡ p.a → q.b ≡ p.b → BothSpared p q
+  pub both_rest : (p q : PathState C) → q.a ≡ p.a → q.b ≡ p.b → BothSpared p q
   both_rest p q same_a same_b = record { a = subst (Spared p.a) (sym same_a) (rests p.a); b = subst (Spared p.b) (sym same_b) (rests p.b) }
 
-  plain : (s : Side) (w : Writes) (p q : PathState C) → w.own.phase ≡ false → w.other ≡ nothing → OnlyAt s w p q → BothSpared p q
+  pub plain : (s : Side) (w : Writes) (p q : PathState C) → w.own.phase ≡ false → w.other ≡ nothing → OnlyAt s w p q → BothSpared p q
   plain s w p q same none x = record { a = h.0; b = h.1 }
     where
       h : Spared p.a q.a × Spared p.b q.b
@@ -191,7 +191,7 @@ module _ {C : Type 0} (k : Codec C) where
   ends p q x A = inl x.a
   ends p q x B = inl x.b
 
-  from_there : (p q r : PathState C) → q.a ≡ p.a → q.b ≡ p.b → BothSpared q r → BothSpared p r
+  pub from_there : (p q r : PathState C) → q.a ≡ p.a → q.b ≡ p.b → BothSpared q r → BothSpared p r
   from_there p q r a b x = record { a = subst (λ e. Spared e r.a) a x.a; b = subst (λ e. Spared e r.b) b x.b }
 
   -- ---- replies
@@ -231,7 +231,7 @@ module _ {C : Type 0} (k : Codec C) where
       by true same = record { living = λ living. ap (λ (s : EndState). is_dead s.state) same }
       by false same = spared e f (ap (λ (s : EndState). is_dead s.state) same)
 
-  joins_spared : (s : Side) (keys : Option KeyPair) (asked : Option JoinSyn) (r : Reply) (p : PathState C) → BothSpared p (join_taken s keys asked r p)
+  pub joins_spared : (s : Side) (keys : Option KeyPair) (asked : Option JoinSyn) (r : Reply) (p : PathState C) → BothSpared p (join_taken s keys asked r p)
   joins_spared s (Some keys) (Some asked) r p = side s _ p _ (syn_spared (end_at s p).treated.window (end_at s p) _ refl) refl refl
   joins_spared s None (Some asked) r p = side s _ p _ (spared _ _ refl) refl refl
   joins_spared s (Some keys) None r p = both_rest p _ refl refl
@@ -362,14 +362,14 @@ module _ {C : Type 0} (k : Codec C) where
   passed_spared (duties.Send (send_duties.ResetNoted s)) p = both_rest p p refl refl
   passed_spared d p = plain (side_of d) (writes d) p (passed d p) refl refl (passes_no_more d p)
 
-  spared_lasts : Lasts BothSpared
+  pub spared_lasts : Lasts BothSpared
   spared_lasts = record {
     agenda = λ ds p. both_rest p (record p { agenda = ds }) refl refl;
     chains = λ p q r x y. record { a = spared_then p.a q.a r.a x.a y.a; b = spared_then p.b q.b r.b x.b y.b };
     passes = λ d p. passed_spared d p;
   }
 
-  at_side : (s : Side) (p q : PathState C) → BothSpared p q → Spared (end_at s p) (end_at s q)
+  pub at_side : (s : Side) (p q : PathState C) → BothSpared p q → Spared (end_at s p) (end_at s q)
   at_side A p q x = x.a
   at_side B p q x = x.b
 

@@ -48,7 +48,7 @@ use Rattle.whole_paths.specs.Unstopped.{NothingIsStopped}
 use Rattle.whole_paths.proofs.FinishedThere.{ShowsFirmly, firmly, known_end, shown_firmly, within}
 use Rattle.whole_paths.proofs.Deliveries.{still_told, who_is_told_has_all}
 use Rattle.whole_paths.proofs.GoesOn.{goes_on_so}
-use Rattle.whole_paths.proofs.Unstopped.{mild_paths_are_never_stopped}
+use Rattle.whole_paths.proofs.Unstopped.{sides_are_never_stopped}
 
 -- ---- what is so at every moment
 
@@ -288,7 +288,7 @@ cut (Turn.Step actor ∷ more) w lawful some =
     let c = cut more (world_step values actor w) lawful.1 some in
     record { order = actor ∷ c.order; rest = c.rest; is = ap (λ xs. Turn.Step actor ∷ xs) c.is; over = c.over; lawful = c.lawful; rounds = c.rounds }
 
-module _ (start : Start) (plan : PathPlan) (one : start.paths ≡ plan ∷ []) (mild : IsMildStart start) where
+module _ (start : Start) (mild : IsMildStart start) where
   abbrev after : List Turn → WorldState Carried
   after turns = reached values start turns
 
@@ -340,7 +340,7 @@ module _ (start : Start) (plan : PathPlan) (one : start.paths ≡ plan ∷ []) (
       by (Some c) there = ap not (all_over_each w.crew actor c over there)
 
   stopped_at : (turns : List Turn) → NothingIsStopped (after turns)
-  stopped_at turns = mild_paths_are_never_stopped start plan turns one mild
+  stopped_at turns = sides_are_never_stopped start turns mild
 
   read_then : (turns more : List Turn) → Begins turns more → (order : List ℕ) → all_over (after (turns ++ steps_of order)).crew ≡ true → (s : Side) → IsAllThere s (after turns)
       → length (written_by s (after turns)).written ≤ (arrived_at (peer s) (after (turns ++ steps_of order))).read
@@ -459,6 +459,10 @@ module _ (start : Start) (plan : PathPlan) (one : start.paths ≡ plan ∷ []) (
       (λ s. stays_there start mild (turns ++ steps_of g.order) (Turn.Round ∷ []) s (stays_there start mild turns (steps_of g.order) s (all.of s)))
       (goes_to ((turns ++ steps_of g.order) ++ Turn.Round ∷ []) g.rest g.next.lawful (omega (arith, three, less))))
 
-pub what_is_there_is_delivered : WhatIsThereIsDelivered
-what_is_there_is_delivered start plan turns more one mild all lawful three =
-    first_rounds start plan one mild turns more all three (goes_to start plan one mild turns more lawful (omega (arith, three)))
+pub all_there_is_delivered : WhatIsThereIsDelivered
+all_there_is_delivered start turns more mild all lawful three = first_rounds start mild turns more all three (goes_to start mild turns more lawful (omega (arith, three)))
+
+-- over one path
+pub what_is_there_is_delivered : (start : Start) (plan : PathPlan) (turns more : List Turn) → start.paths ≡ plan ∷ [] → IsMildStart start → AllIsThere (reached values start turns)
+    → AreLawful values more (reached values start turns) → 3 ≤ rounds_in more → outcome_of (reached values start (turns ++ more)).crew ≡ Delivered
+what_is_there_is_delivered start plan turns more one mild all lawful three = all_there_is_delivered start turns more mild all lawful three

@@ -211,7 +211,7 @@ module _ (start : Start) (plan : PathPlan) (one : BeginsWithOnePath start plan) 
       by (copy.on on) = inl (copy_stays start mild turns turn b a A r h.copy h.of_it h.whole (p.clock + 400) h.soon on)
       by (copy.arrives others first_is next) =
           let x : Arrival h.of_it.segment p = each_copy_arrives A r p h.copy h.of_it h.whole.unstripped h.whole.unaltered h.there (numbered start mild turns turn b a h.copy h.there)
-          (known start mild turns turn b a).alike others first_is next first.first in inr (arrived x (sym (ap event_side x.next) ∙ ap event_side next ∙ h.of_it.to))
+          (known start mild turns turn b a).alike others first_is next in inr (arrived x (sym (ap event_side x.next) ∙ ap event_side next ∙ h.of_it.to))
       by (copy.dies line next is dead) = absurd (both_ways (is_dead q.a.tcp.state) (a.is_open.living A) dead)
 
   -- once A's end is past the handshake

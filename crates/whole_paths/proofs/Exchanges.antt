@@ -67,7 +67,7 @@ use Rattle.whole_paths.specs.Brought.{Comes}
 use Rattle.whole_paths.specs.Came.{AcksWhatCame, HasCome}
 use Rattle.whole_paths.specs.Copies.{IsUnderWay}
 use Rattle.whole_paths.specs.Due.{CopiesArriveSo}
-use Rattle.whole_paths.specs.Exchanges.{IsFaithful, IsSentWhole, IsBareWithin, IsExchanged, IsHeldUp, ExchangeGoesOn, ExchangesGoOn, ExchangesBegin, ExchangesEnd, EachRecordIsAcknowledged}
+use Rattle.whole_paths.specs.Exchanges.{IsFaithful, LetsThrough, IsSentWhole, IsBareWithin, IsExchanged, IsHeldUp, ExchangeGoesOn, ExchangesGoOn, ExchangesBegin, ExchangesEnd, EachRecordIsAcknowledged}
 use Rattle.whole_paths.specs.Exchanges.IsExchanged.{comes, in_hand, answered, acknowledged}
 use Rattle.whole_paths.specs.Exchanges.{IsHeldUp as held}
 use Rattle.whole_paths.specs.Exchanges.{IsAstray as stray}
@@ -85,7 +85,7 @@ use Rattle.whole_paths.specs.Owed.{AnswerGoesOn as answer}
 use Rattle.whole_paths.specs.Owed.IsAnswered.{owes, flies}
 use Rattle.whole_paths.specs.Sent.{WasSent}
 use Rattle.whole_paths.proofs.Acking.{HandsComeSo, hands_come_so, same_actor}
-use Rattle.whole_paths.proofs.Arrivals.{each_copy_arrives, each_mapped_record_is_a_piece, each_piece_comes_in_order, sender_of, taken_so}
+use Rattle.whole_paths.proofs.Arrivals.{each_copy_arrives, each_mapped_record_is_a_piece, each_piece_comes_in_order, sender_of, taken_so, first_joins, judged_taken}
 use Rattle.whole_paths.proofs.Came.{what_is_acknowledged_came}
 use Rattle.whole_paths.proofs.Due.{LinkIs, LinkMember, copies_arrive_as_sent, each_link}
 use Rattle.whole_paths.proofs.Flying.{Frames, FramesStay, SentAtTheEnd, SentGoOn, frames_stay, same_record, sent_at_the_end, sent_go_on, timer_from}
@@ -100,6 +100,7 @@ use Rattle.whole_paths.proofs.Reached.{EndsAreReached, each_is_reached, first_re
 use Rattle.whole_paths.proofs.Saying.{ToSend}
 use Rattle.whole_paths.proofs.Sent.{what_came_was_sent}
 use Rattle.whole_paths.proofs.SentSoon.{what_is_sent_comes_soon}
+use Rattle.path_core.specs.MpJoin.{is_joined}
 
 -- ---- what is known of a path at every moment
 
@@ -173,7 +174,7 @@ module _ (p : PathState Carried) (known : Known p) (s : Side) where
           told = inl told_before;
         }
 
-    sent_whole : IsFaithful p → at_side.modes.identity ≡ false → at_side.modes.own_infinite ≡ None → is_first_piece s r at_side ≡ false
+    sent_whole : LetsThrough p → at_side.modes.identity ≡ false → at_side.modes.own_infinite ≡ None → is_first_piece s r at_side ≡ false
         → IsSentWhole p.profile s r at_side (is_stripped s (next_number s p.link) p.clock p.link.lines) (is_altered s (next_number s p.link) p.link.lines)
     sent_whole faithful identity finite told_before = record {
       mapped = first_mapped identity finite told_before;
@@ -284,7 +285,11 @@ pub record IsTurn (p q : PathState Carried) : Type 0 where
   pub later : (s : Side) → stage (end_at s p).tcp.state ≤ stage (end_at s q).tcp.state
   pub counts : Counts values p q
 
-module _ (p q : PathState Carried) (known : Known p) (faithful : IsFaithful p) (few : (t : Side) → segments_sent t p.link < 2 ^ 64 - 1) (turn : IsTurn p q)
+-- so does the path that opens the connection
+pub lets_through : (p : PathState Carried) → IsFaithful p → LetsThrough p
+lets_through p h = record { joined = λ s. first_joins s p h.joined; whole = h.whole; plain = h.plain }
+
+module _ (p q : PathState Carried) (known : Known p) (faithful : LetsThrough p) (few : (t : Side) → segments_sent t p.link < 2 ^ 64 - 1) (turn : IsTurn p q)
     (s : Side) (acks_first : AcksGoFirst p) (hands : HandsComeSo (IsBareWithin (end_at s p).tcp.recv.edge (end_at (peer s) p).tcp.send.nxt) values (Path p) (Path q))
     (answers : AnswersComeSo (IsBareWithin (end_at s p).tcp.recv.edge (end_at (peer s) p).tcp.send.nxt) values (Path p) (Path q)) where
   abbrev Bare : PlainSegment → Type 0
@@ -359,9 +364,9 @@ module _ (p q : PathState Carried) (known : Known p) (faithful : IsFaithful p) (
           acknowledged = h.covers.up_to;
           taken = inl (
             f.carried.segment.position,
-            ap (λ j. judged_of j said.rst (items_of j listener said) (meaning_of (copy_of said) hearer.tcp) hearer) faithful.joined
-                ∙ ap (λ m. judged.As m) (taken_so (copy_of said) hearer.tcp f.carried.segment.position h.covers.up_to opened living (below_limit p known listener) syn unreset refl
-                (ap (λ (o : Option ℕ). heard_position (option_map (λ n. At n) o)) acks_up_to) accepted some (acked_sent f h.covers.up_to there unreset acks_up_to)),
+            ap (λ m. judged_of (is_joined p.profile) said.rst (items_of (is_joined p.profile) listener said) m hearer) (taken_so (copy_of said) hearer.tcp f.carried.segment.position h.covers.up_to opened living (below_limit p known listener) syn unreset refl
+                (ap (λ (o : Option ℕ). heard_position (option_map (λ n. At n) o)) acks_up_to) accepted some (acked_sent f h.covers.up_to there unreset acks_up_to))
+                ∙ judged_taken (is_joined p.profile) said.rst (items_of (is_joined p.profile) listener said) f.carried.segment.position h.covers.up_to hearer (faithful.joined listener),
           );
         }))
 
@@ -480,10 +485,10 @@ module _ (p q : PathState Carried) (known : Known p) (faithful : IsFaithful p) (
       taker = end_at (peer s) p
 
       comes_now : Arrival copied p
-      comes_now = each_copy_arrives s r p f copy sent.unstripped sent.unaltered there (numbered f there) known.alike others first next faithful.joined
+      comes_now = each_copy_arrives s r p f copy sent.unstripped sent.unaltered there (numbered f there) known.alike others first next
 
-      piece : IsMappedPiece (peer comes_now.due.to) copied
-      piece = subst (λ y. IsMappedPiece y copied) (sym (ap peer (sym (ap event_side comes_now.next) ∙ ap event_side next ∙ copy.to) ∙ sender_of s))
+      piece : IsMappedPiece p.profile (peer comes_now.due.to) copied
+      piece = subst (λ y. IsMappedPiece p.profile y copied) (sym (ap peer (sym (ap event_side comes_now.next) ∙ ap event_side next ∙ copy.to) ∙ sender_of s))
           (each_mapped_record_is_a_piece p.profile s r copy.sender copied sent.mapped copy.of_it copy.says)
 
       some_end : 0 < end_of r
@@ -539,13 +544,13 @@ module _ (p q : PathState Carried) (known : Known p) (faithful : IsFaithful p) (
           (hands.1.0 c.copy c.outside (subst (λ t. 3 ≤ stage (end_at t p).tcp.state) (sym to) opened))
 
       arrives_in : Takes copied taker → Goes
-      arrives_in takes = in_order ((each_piece_comes_in_order copied p comes_now piece).0 (subst (λ t. Takes copied (end_at t p)) (sym due_to) takes))
+      arrives_in takes = in_order ((each_piece_comes_in_order copied p comes_now (faithful.joined comes_now.due.to) piece).0 (subst (λ t. Takes copied (end_at t p)) (sym due_to) takes))
         where
           due_to : comes_now.due.to ≡ peer s
           due_to = sym (ap event_side comes_now.next) ∙ ap event_side next ∙ copy.to
 
       arrives_again : end_of r ≤ taker.tcp.recv.edge → 3 ≤ stage taker.tcp.state → CameBefore copied taker → Goes
-      arrives_again passed opened before = again passed opened ((each_piece_comes_in_order copied p comes_now piece).1 (subst (λ t. CameBefore copied (end_at t p)) (sym due_to) before))
+      arrives_again passed opened before = again passed opened ((each_piece_comes_in_order copied p comes_now (faithful.joined comes_now.due.to) piece).1 (subst (λ t. CameBefore copied (end_at t p)) (sym due_to) before))
         where
           due_to : comes_now.due.to ≡ peer s
           due_to = sym (ap event_side comes_now.next) ∙ ap event_side next ∙ copy.to

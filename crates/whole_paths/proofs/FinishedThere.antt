@@ -41,7 +41,7 @@ use Rattle.whole_paths.specs.Mild.{IsMildStart}
 use Rattle.whole_paths.specs.Unstopped.{NothingIsStopped}
 use Rattle.whole_paths.proofs.Finished.{ArePushed, behind_ending, each_pushed}
 use Rattle.whole_paths.proofs.Unended.{AreUnended, BothUnended, IsUnended, both_unended}
-use Rattle.whole_paths.proofs.Unstopped.{mild_paths_are_never_stopped}
+use Rattle.whole_paths.proofs.Unstopped.{sides_are_never_stopped}
 
 -- ---- books
 
@@ -146,7 +146,7 @@ shown_firmly start turns mild =
 
 -- ---- the world
 
-module _ (start : Start) (plan : PathPlan) (turns : List Turn) (one : start.paths ≡ plan ∷ []) (mild : IsMildStart start) where
+module _ (start : Start) (turns : List Turn) (mild : IsMildStart start) where
   abbrev w : WorldState Carried
   w = world_run values turns (opened_world start)
 
@@ -169,7 +169,7 @@ module _ (start : Start) (plan : PathPlan) (turns : List Turn) (one : start.path
   unended = subst BothUnended shown.shows.duo_is shown.unended
 
   stopped : NothingIsStopped now
-  stopped = subst NothingIsStopped shown.shows.is (mild_paths_are_never_stopped start plan turns one mild)
+  stopped = subst NothingIsStopped shown.shows.is (sides_are_never_stopped start turns mild)
 
   pushed : Every (λ (c : ActorCrew Carried). HoldsOfKind (λ app. Unit {0}) (λ (p : PathState Carried). ArePushed p) c.member) now.crew
   pushed = subst (λ (v : WorldState Carried). Every (λ (c : ActorCrew Carried). HoldsOfKind (λ app. Unit {0}) (λ (p : PathState Carried). ArePushed p) c.member) v.crew) shown.shows.is (each_pushed values start turns)
@@ -209,5 +209,10 @@ module _ (start : Start) (plan : PathPlan) (turns : List Turn) (one : start.path
   each_finished = subst (λ (v : WorldState Carried). (actor : ℕ) (c : ActorCrew Carried) → slice_get v.crew actor ≡ Some c → FinishedMember v c.member) (sym shown.shows.is)
       (each_actor (λ actor c. FinishedMember now c.member) cast tt tt (λ number x at. path_there number x at))
 
-pub what_is_finished_is_there : WhatIsFinishedIsThere
-what_is_finished_is_there start plan turns one mild = each_finished start plan turns one mild
+pub each_finished_is_there : WhatIsFinishedIsThere
+each_finished_is_there start turns mild = each_finished start turns mild
+
+-- over one path
+pub what_is_finished_is_there : (start : Start) (plan : PathPlan) (turns : List Turn) → start.paths ≡ plan ∷ [] → IsMildStart start → let w = world_run values turns (opened_world start) in
+    (actor : ℕ) (c : ActorCrew Carried) → slice_get w.crew actor ≡ Some c → HoldsOfKind (λ app. Unit {0}) (FinishedIsThere w) c.member
+what_is_finished_is_there start plan turns one mild = each_finished start turns mild

@@ -73,7 +73,7 @@ use Rattle.whole_paths.specs.FirstSigns.{SignGoesOn as goes}
 use Rattle.whole_paths.specs.Reasons.{IsOutstanding as outstanding}
 use Rattle.whole_paths.specs.Waits.{IsNews as news}
 use Rattle.whole_paths.specs.OpeningConfirmed.Confirms.{dss}
-use Rattle.whole_paths.proofs.Arrivals.{sender_of}
+use Rattle.whole_paths.proofs.Arrivals.{sender_of, first_joins}
 use Rattle.whole_paths.proofs.DataAcksAsked.{AskedAtTheEnd, AsksComeSo, asked_at_the_end, asks_come_so}
 use Rattle.whole_paths.proofs.DataAcksCome.{each_ack_comes, each_ask_arrives}
 use Rattle.whole_paths.proofs.Exchanges.{all_at}
@@ -176,7 +176,7 @@ module _ (p q : PathState Carried) (known : Known p) (faithful : IsFaithful p) (
         said_is = asks_end p.profile h.sender sent.third sent.close sent.owed
 
         ask_arrives : AskArrives B p f h.sender
-        ask_arrives = each_ask_arrives B p f h sent.unstripped sent.unaltered there (numbered f there) known.alike others first then_event faithful.joined
+        ask_arrives = each_ask_arrives B p f h sent.unstripped sent.unaltered there (numbered f there) known.alike others first then_event
 
         abbrev to : Side
         to = ask_arrives.arrival.due.to
@@ -204,7 +204,7 @@ module _ (p q : PathState Carried) (known : Known p) (faithful : IsFaithful p) (
         opened living = subst (λ t. IsOpenEnd (end_at t p).tcp) (sym to_a) (record { opened = high; living = living; below_limit = below_limit p known A })
 
         taken : is_dead p.a.tcp.state ≡ false → ComesTaken copied p
-        taken living = (each_ack_comes copied p ask_arrives.arrival ask_arrives.bare (opened living)).taken (subst (λ t. IsInWindow copied (end_at t p).tcp) (sym to_a) window)
+        taken living = (each_ack_comes copied p ask_arrives.arrival (first_joins ask_arrives.arrival.due.to p faithful.joined) ask_arrives.bare (opened living)).taken (subst (λ t. IsInWindow copied (end_at t p).tcp) (sym to_a) window)
 
         side_is : (b : Brings values p) → b.copy.due.to ≡ A
         side_is b = sym (ap event_side b.copy.next) ∙ ap event_side then_event ∙ h.to

@@ -194,6 +194,8 @@ pub mod Waiting
 pub mod WellOctets
 pub mod WindowRoom
 pub mod WindowWaits
+pub mod Wanted
+pub mod EdgeStands
 pub mod WindowsHeard
 pub mod Writers
 pub mod Endings
@@ -302,3 +304,18 @@ pub mod FewRecords
 pub mod ProbeWaits
 pub mod EachLane
 pub mod WindowStalls
+pub mod MarkSteps
+pub mod TriedBytes
+pub mod Leaving
+pub mod Holding
+pub mod GivenBack
+pub mod HolderWaits
+pub mod BookNews
+pub mod ShutKnown
+pub mod Refused
+pub mod PlainQueues
+pub mod QuietTexts
+pub mod FewTexts
+pub mod BriefRuns
+pub mod FirstMissing
+pub mod GrantReasons

@@ -113,9 +113,9 @@ pub data MapsAll (s : Side) (x : PlainSegment) : Type 0 where
   first : s ≡ A → IsFirstPiece x → MapsAll s x
   bare : x.options ≡ [] → MapsAll s x
 
-of_mapped : (s : Side) (x : PlainSegment) → IsMappedPiece s x → MapsAll s x
-of_mapped s x (mapped_by.piece h) = piece h
-of_mapped s x (mapped_by.first is h syn fin rst) = first is h
+of_mapped : (c : Profile) (s : Side) (x : PlainSegment) → IsMappedPiece c s x → MapsAll s x
+of_mapped c s x (mapped_by.piece h) = piece h
+of_mapped c s x (mapped_by.first opens is h syn fin rst) = first is h
 
 -- bytes stand behind the SYN, and neither it nor the FIN has any
 abbrev pub KindBehind : RecordKind → Record → Type 0
@@ -207,7 +207,7 @@ module _ (c : Profile) (s : Side) (e : PathEnd) (mapped : e.modes.identity ≡ f
   piece_said : (r : Record) → r.kind ≡ Data → RecordTells c s r → RecordKindTells c s Data r → 0 < r.pos → is_first_piece s r e ≡ false → MapsAll s (said r)
   piece_said r kind told kinds behind later =
       let some = kinds.0 in let place = kinds.3 in let whole = kinds.4 in let reaches = told.reaches in let few = told.octets in
-      of_mapped s (said r) (each_mapped_record_is_a_piece c s r e (said r) (record {
+      of_mapped c s (said r) (each_mapped_record_is_a_piece c s r e (said r) (record {
         kind = kind;
         some = omega (arith, some, whole);
         behind_syn = behind;

@@ -182,7 +182,7 @@ module _ (s t : Side) (gone : Bool) (d : Duty) (ds : List Duty) (calm : may_brea
   unbroken : {X : Type 0} → may_break d ≡ true → X
   unbroken is = absurd (true≢false (sym is ∙ calm))
 
-  follow_asks : (next : List Duty) → AsksFirst s (d ∷ ds) → AsksFirst s ds → Follows t gone d ds next → AsksFirst s next
+  pub follow_asks : (next : List Duty) → AsksFirst s (d ∷ ds) → AsksFirst s ds → Follows t gone d ds next → AsksFirst s next
   follow_asks next whole rest follow.goes_on = rest
   follow_asks next whole rest follow.again = whole
   follow_asks next whole rest (follow.told treats e own both one quiet) = unbroken (treats_breaks d treats)
@@ -201,7 +201,7 @@ start_asks B = (refl, refl, (refl, refl, (refl, refl, inr (refl, inl refl))))
 
 module _ {C : Type 0} where
   -- by such a duty no segment goes
-  none_sent : (d : Duty) (p : PathState C) → is_silent d ≡ true → may_break d ≡ false → duty_sends d p ≡ None
+  pub none_sent : (d : Duty) (p : PathState C) → is_silent d ≡ true → may_break d ≡ false → duty_sends d p ≡ None
   none_sent (duties.Step (step_duties.Data s)) p silent calm = absurd (true≢false (sym silent))
   none_sent (duties.Step (step_duties.Heard s index)) p silent calm = absurd (true≢false calm)
   none_sent (duties.Step (step_duties.PlainAck s)) p silent calm = absurd (true≢false calm)
@@ -236,7 +236,7 @@ module _ {C : Type 0} where
       (λ away. subst (λ t. Same (end_at t p) (end_at t (passed d p))) away (passed_other d p))
       (sides s (side_of d))
 
-  asks_tail : (s : Side) (d : Duty) (ds : List Duty) (p : PathState C) → stands d p ≡ false → AsksFirst s (d ∷ ds) → AsksFirst s ds
+  pub asks_tail : (s : Side) (d : Duty) (ds : List Duty) (p : PathState C) → stands d p ≡ false → AsksFirst s (d ∷ ds) → AsksFirst s ds
   asks_tail s (duties.Ask (ask_duties.Window t)) ds p quiet h = absurd (true≢false quiet)
   asks_tail s (duties.Send (send_duties.Update t)) ds p quiet h = h.1
   asks_tail s d ds p quiet h = h.2

@@ -74,6 +74,7 @@ use Rattle.whole_paths.proofs.OpenAsks.{AsksForItself, EndsAskForThemselves, end
 use Rattle.whole_paths.proofs.OpenPieces.{AgreesWith, EndsAgreeWith, closed_stays, each_knows, ends_agree}
 use Rattle.whole_paths.proofs.Owing.{copies_are_answered}
 use Rattle.whole_paths.proofs.Reached.{EndsAreReached, IsReached, each_is_reached, first_waits, none_left}
+use Rattle.whole_paths.proofs.Arrivals.{first_joins}
 
 -- ---- what isn't answered
 
@@ -216,7 +217,7 @@ member_goes w later lines steps (Path p) (Path q) t = λ open_p open_q few s pla
       agrees = t.agrees.ends;
       closed = t.closed;
     }) t.hardly open_p open_q s place fin by still
-    (t.go (record { joined = open_p.first; whole = t.link.strips; plain = t.link.alters }) s place fin by few (past_the_end place fin _ _ still) wants h)
+    (t.go (record { joined = λ u. first_joins u p open_p.first; whole = t.link.strips; plain = t.link.alters }) s place fin by few (past_the_end place fin _ _ still) wants h)
 member_goes w later lines steps (Path p) (App b) t = tt
 member_goes w later lines steps (App a) n t = tt
 
@@ -224,7 +225,7 @@ abbrev Each : (PathState Carried → Type 0) → WorldState Carried → Type 0
 Each P w = (actor : ℕ) (c : ActorCrew Carried) → slice_get w.crew actor ≡ Some c → OfPaths P c.member
 
 pub open_asks_go_on : OpenAsksGoOn
-open_asks_go_on start turns turn plan one mild actor c d was now =
+open_asks_go_on start turns turn mild actor c d was now =
     let w : WorldState Carried = world_run values turns (opened_world start) in
     let v : WorldState Carried = after_turn values turn w in
     let more : List Turn = turns ++ turn ∷ [] in
@@ -234,7 +235,7 @@ open_asks_go_on start turns turn plan one mild actor c d was now =
     let shown : Each Shown v = subst (Each Shown) same (each_shown start more mild.plain.size mild.fit) in
     let mapped : Each EndsGoByMappings v = subst (Each EndsGoByMappings) same (mapping_is_kept start more mild).each in
     member_goes w (books_in v.books) start.lines d.list c.member d.member (record {
-      go = same_actor (λ x. InquiriesGoOn w.books x.list c.member x.member) v actor d now (each_ask_is_answered.goes_on start turns plan one mild.plain.size mild.fit turn actor c was);
+      go = same_actor (λ x. InquiriesGoOn w.books x.list c.member x.member) v actor d now (each_ask_is_answered.goes_on start turns mild.plain.size mild.fit turn actor c was);
       hardly = open_ends_hardly_go_awry start turns turn mild actor c d was now;
       kept = same_actor (λ x. EndsKeepWhatWaits c.member x.member) v actor d now (what_waits_is_kept values w (turn ∷ []) actor c was);
       far = subst (λ (x : ActorCrew Carried). IsActorAsFar c.member x.member) (same_Some far.0 d (sym far.1 ∙ now)) far.2.member;

@@ -123,14 +123,24 @@ each_later turns w actor c there = turns_each values (λ c d. ActorLater c.membe
 
 -- ---- path 0 by its lanes
 
--- the path opened the connection, as this begins; and an end that sent no FIN has none to be acknowledged, nor did the peer hear of one
+-- the path checks sums as the connection does; and an end that sent no FIN has none to be acknowledged, nor did the peer hear of one
+pub record IsOfLanes (start : Start) (p : PathState Carried) : Type 0 where
+  pub checksums : p.profile.spelling.checksums ≡ start.checksums
+  pub fins : (s : Side) → (end_at s p).tcp.send.finished ≡ false → (end_at (peer s) p).tcp.fin_at ≡ None
+  pub may : (s : Side) → may_finish (end_at s p).tcp.state ≡ true → (end_at s p).tcp.send.finished ≡ false
+  pub kinds : (s : Side) → (end_at s p).tcp.send.finished ≡ false → Every (λ (r : Record). r.kind ≡ Fin → ⊥) (end_at s p).tcp.send.records
+  -- an end that isn't past the opening is one, and its SYN has a position
+  pub unfinished : (s : Side) → is_unfinished (end_at s p).tcp.state ≡ true → (end_at s p).tcp.send.finished ≡ false
+  pub begun : (s : Side) → is_unfinished (end_at s p).tcp.state ≡ true → 1 ≤ (end_at s p).tcp.send.nxt
+  pub syns : (s : Side) → Every (λ (r : Record). r.kind ≡ Syn → r.piece ≡ []) (end_at s p).tcp.send.records
+
+-- and it opened the connection
 pub record IsFirstPath (start : Start) (p : PathState Carried) : Type 0 where
   pub first : is_joined p.profile ≡ false
   pub checksums : p.profile.spelling.checksums ≡ start.checksums
   pub fins : (s : Side) → (end_at s p).tcp.send.finished ≡ false → (end_at (peer s) p).tcp.fin_at ≡ None
   pub may : (s : Side) → may_finish (end_at s p).tcp.state ≡ true → (end_at s p).tcp.send.finished ≡ false
   pub kinds : (s : Side) → (end_at s p).tcp.send.finished ≡ false → Every (λ (r : Record). r.kind ≡ Fin → ⊥) (end_at s p).tcp.send.records
-  -- an end that isn't past the opening is one, and its SYN has a position
   pub unfinished : (s : Side) → is_unfinished (end_at s p).tcp.state ≡ true → (end_at s p).tcp.send.finished ≡ false
   pub begun : (s : Side) → is_unfinished (end_at s p).tcp.state ≡ true → 1 ≤ (end_at s p).tcp.send.nxt
   pub syns : (s : Side) → Every (λ (r : Record). r.kind ≡ Syn → r.piece ≡ []) (end_at s p).tcp.send.records
@@ -153,9 +163,8 @@ may_so _ may = absurd (true≢false (sym may))
 empty_syns : (c : Profile) (s : Side) (out : Lane) (rs : List Record) → Every (RecordShows c s out.alters out.sent out.datas out.fins) rs → Every (λ (r : Record). r.kind ≡ Syn → r.piece ≡ []) rs
 empty_syns c s out rs h = record { each = λ i r there is. subst (λ k. KindShows c s out.alters out.sent out.datas out.fins k r) is (h.each i r there) }
 
-shown_first : (start : Start) (number : ℕ) (c : Profile) (p : PathState Carried) (ab ba : Lane) → number ≡ 0 → PathShows c p ab ba → c.spelling.path ≡ number → c.spelling.checksums ≡ start.checksums → IsFirstPath start p
-shown_first start number c p ab ba zeroth shows named sums = record {
-  first = ap (λ (x : Profile). nat_lt 0 x.spelling.path) shows.profile ∙ ap (λ n. nat_lt 0 n) (named ∙ zeroth);
+shown_lanes : (start : Start) (c : Profile) (p : PathState Carried) (ab ba : Lane) → PathShows c p ab ba → c.spelling.checksums ≡ start.checksums → IsOfLanes start p
+shown_lanes start c p ab ba shows sums = record {
   checksums = ap (λ (x : Profile). x.spelling.checksums) shows.profile ∙ sums;
   fins = fins;
   may = elim [ A ↦ λ is. shows.a.sender.unfinished (may_so p.a.tcp.state is) | B ↦ λ is. shows.b.sender.unfinished (may_so p.b.tcp.state is) ];
@@ -181,19 +190,51 @@ shown_first start number c p ab ba zeroth shows named sums = record {
     kinds A unfinished = none_finishes c A ab p.a.tcp.send.records (shows.a.sender.sent.none unfinished) shows.a.sender.pieces
     kinds B unfinished = none_finishes c B ba p.b.tcp.send.records (shows.b.sender.sent.none unfinished) shows.b.sender.pieces
 
-pub each_first : (start : Start) (turns : List Turn) → HasRoom start → (c : ActorCrew Carried) → slice_get (reached values start turns).crew 2 ≡ Some c
-    → HoldsOfKind (λ app. Unit {0}) (IsFirstPath start) c.member
-each_first start turns size c there =
+-- of each actor; the actor 2 is the path that opened the connection
+abbrev LanesAt : Start → ℕ → Actor Carried → Type 0
+LanesAt start actor = HoldsOfKind (λ app. Unit {0}) (λ (p : PathState Carried). (actor ≡ 2 → is_joined p.profile ≡ false) × IsOfLanes start p)
+
+lanes_at : (start : Start) (turns : List Turn) → HasRoom start → (actor : ℕ) (c : ActorCrew Carried) → slice_get (reached values start turns).crew actor ≡ Some c → LanesAt start actor c.member
+lanes_at start turns size actor c there =
     let can = anyhow start size in
     let r = each_run_shows start can turns (free_run can.links (anyhow_free start size) turns (opened_world start)) in
-    shown_so can.links (after_events r.events (first_duo can.links start)) r.shows 2 c there refl
+    shown_so can.links (after_events r.events (first_duo can.links start)) r.shows actor c there
   where
+    first_of : (x : Profile) (number : ℕ) (p : PathState Carried) → p.profile ≡ x → x.spelling.path ≡ number → number ≡ 0 → is_joined p.profile ≡ false
+    first_of x number p same named zeroth = ap (λ (y : Profile). nat_lt 0 y.spelling.path) same ∙ ap (λ n. nat_lt 0 n) (named ∙ zeroth)
+
     shown_so : (links : Links) (d : Duo) → WorldShows links start d (reached values start turns)
-        → (actor : ℕ) (c : ActorCrew Carried) → slice_get (reached values start turns).crew actor ≡ Some c → actor ≡ 2 → HoldsOfKind (λ app. Unit {0}) (IsFirstPath start) c.member
-    shown_so links d h = subst (λ (w : WorldState Carried). (actor : ℕ) (c : ActorCrew Carried) → slice_get w.crew actor ≡ Some c → actor ≡ 2 → HoldsOfKind (λ app. Unit {0}) (IsFirstPath start) c.member) (sym h.is)
-        (each_actor (λ actor c. actor ≡ 2 → HoldsOfKind (λ app. Unit {0}) (IsFirstPath start) c.member) h.cast (λ is. tt) (λ is. tt) (λ number x there is.
+        → (actor : ℕ) (c : ActorCrew Carried) → slice_get (reached values start turns).crew actor ≡ Some c → LanesAt start actor c.member
+    shown_so links d h = subst (λ (w : WorldState Carried). (actor : ℕ) (c : ActorCrew Carried) → slice_get w.crew actor ≡ Some c → LanesAt start actor c.member) (sym h.is)
+        (each_actor (λ actor c. LanesAt start actor c.member) h.cast tt tt (λ number x there.
         (let path = h.paths.each number number x (omega arith) there in
-        shown_first start number (path_begins start number path.plan).profile x.path path.ab path.ba (omega (arith, is)) path.shows refl refl)))
+        let profile = (path_begins start number path.plan).profile in
+        (λ is. first_of profile number x.path path.shows.profile refl (omega (arith, is)), shown_lanes start profile x.path path.ab path.ba path.shows refl))))
+
+pub each_of_lanes : (start : Start) (turns : List Turn) → HasRoom start → (actor : ℕ) (c : ActorCrew Carried) → slice_get (reached values start turns).crew actor ≡ Some c
+    → HoldsOfKind (λ app. Unit {0}) (IsOfLanes start) c.member
+each_of_lanes start turns size actor c there = by c.member (lanes_at start turns size actor c there)
+  where
+    by : (m : Actor Carried) → LanesAt start actor m → HoldsOfKind (λ app. Unit {0}) (IsOfLanes start) m
+    by (App a) h = tt
+    by (Path p) h = h.1
+
+pub each_first : (start : Start) (turns : List Turn) → HasRoom start → (c : ActorCrew Carried) → slice_get (reached values start turns).crew 2 ≡ Some c
+    → HoldsOfKind (λ app. Unit {0}) (IsFirstPath start) c.member
+each_first start turns size c there = by c.member (lanes_at start turns size 2 c there)
+  where
+    by : (m : Actor Carried) → LanesAt start 2 m → HoldsOfKind (λ app. Unit {0}) (IsFirstPath start) m
+    by (App a) h = tt
+    by (Path p) h = let x = h.1 in record {
+      first = h.0 refl;
+      checksums = x.checksums;
+      fins = x.fins;
+      may = x.may;
+      kinds = x.kinds;
+      unfinished = x.unfinished;
+      begun = x.begun;
+      syns = x.syns;
+    }
 
 first_so : (start : Start) (before ts : List Turn) → HasRoom start → (p : PathState Carried) → IsPathAt 0 (world_run values ts (reached values start before)) p → IsFirstPath start p
 first_so start before ts size p here = subst (HoldsOfKind (λ app. Unit {0}) (IsFirstPath start)) here.is

@@ -27,6 +27,7 @@ use Rattle.whole_paths.specs.Arrivals.{Arrival}
 use Rattle.whole_paths.specs.AsFar.{stage}
 use Rattle.whole_paths.specs.Brought.{Comes}
 use Rattle.whole_paths.specs.Opening.{IsSyn, ComesAs, SynCounts, EachSynCounts}
+use Rattle.path_core.specs.MpJoin.{is_joined}
 
 and_false : (b : Bool) → (b && false) ≡ false
 and_false true = refl
@@ -93,7 +94,7 @@ module _ (c : Copy) (s : EndState) (syn : c.syn ≡ true) (fin : c.fin ≡ false
       ∙ ap (λ b. if b then means.RepeatedSyn else meaning_placed c.position c s) (unrepeated n acks)
       ∙ ap (λ o. meaning_placed o c s) at ∙ ap (λ b. if b then meaning_within 0 c s else meaning_outside c) (outside some) ∙ ap (λ b. if b then means.Ignored else means.Outside) rst
 
-module _ (x : PlainSegment) (p : PathState Carried) (a : Arrival x p) (h : IsSyn x) where
+module _ (x : PlainSegment) (p : PathState Carried) (a : Arrival x p) (joined : is_joined p.profile ≡ false) (h : IsSyn x) where
   abbrev to : Side
   to = a.due.to
 
@@ -114,7 +115,7 @@ module _ (x : PlainSegment) (p : PathState Carried) (a : Arrival x p) (h : IsSyn
   }
 
   comes_as : (m : Meaning) → meaning_of (copy_of said) e.tcp ≡ m → ComesAs p m
-  comes_as m is = record { copy = copy; is = ap (λ j. judged_of j said.rst (items_of j to said) (meaning_of (copy_of said) e.tcp) e) a.joined ∙ ap (λ m. judged.As m) is }
+  comes_as m is = record { copy = copy; is = ap (λ j. judged_of j said.rst (items_of j to said) (meaning_of (copy_of said) e.tcp) e) joined ∙ ap (λ m. judged.As m) is }
 
   acks : (o : Option ℕ) → x.acknowledged ≡ o → (copy_of said).acknowledged ≡ o
   acks None is = ap (λ (o : Option ℕ). acknowledged_in (option_map (λ n. At n) o)) is
@@ -135,4 +136,4 @@ module _ (x : PlainSegment) (p : PathState Carried) (a : Arrival x p) (h : IsSyn
   }
 
 pub each_syn_counts : EachSynCounts
-each_syn_counts x p a h = syn_counts x p a h
+each_syn_counts x p a joined h = syn_counts x p a joined h

@@ -63,7 +63,7 @@ use Rattle.whole_paths.proofs.DataLeft.{EndsAreBegun, each_is_begun}
 use Rattle.whole_paths.proofs.Duties.{answered_steps, passed_steps}
 use Rattle.whole_paths.proofs.Finishing.{steps_push}
 use Rattle.whole_paths.proofs.Harmed.{none_stays}
-use Rattle.whole_paths.proofs.OpenCourses.{IsFirstPath, each_first}
+use Rattle.whole_paths.proofs.OpenCourses.{IsOfLanes, each_of_lanes}
 use Rattle.whole_paths.proofs.Pushing.{AllStay, NextStays, answered_next, event_next, passed_next, refused_next, unsent_next}
 use Rattle.whole_paths.proofs.Reached.{EndsAreReached, Joined, Line, each_is_reached}
 use Rattle.whole_paths.proofs.Room.{who_is_done_may_ask}
@@ -194,7 +194,7 @@ record Facts (start : Start) (p : PathState Carried) : Type 0 where
   windows : HasWindows p
   ends : EndsAreReached p
   begun : EndsAreBegun p
-  first : IsFirstPath start p
+  first : IsOfLanes start p
   stood : FirstStands p.agenda p
 
 finishing_stage : (state : EndPhase) → may_finish state ≡ true → (3 ≤ stage state) × (stage state ≤ 6)
@@ -239,7 +239,7 @@ module _ (start : Start) (books : StampedBooks) (p : PathState Carried) (facts :
 abbrev OfPaths : (PathState Carried → Type 0) → Actor Carried → Type 0
 OfPaths P = HoldsOfKind (λ app. Unit {0}) P
 
-module _ (start : Start) where
+module _ (start : Start) (actor : ℕ) where
   takes_on : (books : StampedBooks) (x : Ask) (m : Actor Carried) → member_asks values m ≡ Some x → OfPaths (Facts start) m → OfPaths StaysWithin m → OfPaths StaysWithin (member_takes values (answer_to books x) m)
   takes_on books x (App a) asks facts h = tt
   takes_on books x (Path p) asks facts h = λ s. takes_within (answer_to books x) p (first_fits start books p facts x asks) s (h s)
@@ -248,46 +248,50 @@ module _ (start : Start) where
   next_on (App a) h = tt
   next_on (Path p) h = λ s. next_within p s (h s)
 
-  turn_on : (turn : Turn) (w : WorldState Carried) (c : ActorCrew Carried) → slice_get w.crew 2 ≡ Some c → OfPaths (Facts start) c.member → OfPaths StaysWithin c.member
-      → (d : ActorCrew Carried) × (slice_get (after_turn values turn w).crew 2 ≡ Some d) × OfPaths StaysWithin d.member
+  turn_on : (turn : Turn) (w : WorldState Carried) (c : ActorCrew Carried) → slice_get w.crew actor ≡ Some c → OfPaths (Facts start) c.member → OfPaths StaysWithin c.member
+      → (d : ActorCrew Carried) × (slice_get (after_turn values turn w).crew actor ≡ Some d) × OfPaths StaysWithin d.member
   turn_on turn w c there facts h =
       let found = turn_by values (λ books c d. OfPaths (Facts start) c.member → OfPaths StaysWithin c.member → OfPaths StaysWithin d.member) (λ books c facts h. h)
-      (λ books ask c asks facts h. takes_on books ask c.member asks facts h) (λ books stamp c over facts h. next_on c.member h) turn w 2 c there in
+      (λ books ask c asks facts h. takes_on books ask c.member asks facts h) (λ books stamp c over facts h. next_on c.member h) turn w actor c there in
       (found.0, found.1, found.2 facts h)
 
-  facts_so : (m : Actor Carried) → OfPaths HasWindows m → OfPaths EndsAreReached m → OfPaths EndsAreBegun m → OfPaths (IsFirstPath start) m → MemberUpright m → OfPaths (Facts start) m
+  facts_so : (m : Actor Carried) → OfPaths HasWindows m → OfPaths EndsAreReached m → OfPaths EndsAreBegun m → OfPaths (IsOfLanes start) m → MemberUpright m → OfPaths (Facts start) m
   facts_so (App a) windows ends begun first upright = tt
   facts_so (Path p) windows ends begun first upright = record { windows = windows; ends = ends; begun = begun; first = first; stood = upright.passes.settled }
 
-  abbrev AtTwo : WorldState Carried → Type 0
-  AtTwo w = (c : ActorCrew Carried) → slice_get w.crew 2 ≡ Some c → OfPaths StaysWithin c.member
+  abbrev AtActor : WorldState Carried → Type 0
+  AtActor w = (c : ActorCrew Carried) → slice_get w.crew actor ≡ Some c → OfPaths StaysWithin c.member
 
   module _ (mild : IsMildStart start) where
-    facts_at : (turns : List Turn) (c : ActorCrew Carried) → slice_get (reached values start turns).crew 2 ≡ Some c → OfPaths (Facts start) c.member
-    facts_at turns c there = facts_so c.member (who_is_done_may_ask start turns mild.plain.size mild.fit 2 c there) ((each_is_reached values start turns).each 2 c there) ((each_is_begun values start turns).each 2 c there)
-        (each_first start turns mild.plain.size c there) ((each_upright start turns mild.plain mild.strips).each 2 c there)
+    facts_at : (turns : List Turn) (c : ActorCrew Carried) → slice_get (reached values start turns).crew actor ≡ Some c → OfPaths (Facts start) c.member
+    facts_at turns c there = facts_so c.member (who_is_done_may_ask start turns mild.plain.size mild.fit actor c there) ((each_is_reached values start turns).each actor c there) ((each_is_begun values start turns).each actor c there)
+        (each_of_lanes start turns mild.plain.size actor c there) ((each_upright start turns mild.plain mild.strips).each actor c there)
 
-    step_on : (turns : List Turn) (turn : Turn) → AtTwo (reached values start turns) → AtTwo (after_turn values turn (reached values start turns))
-    step_on turns turn h d there = by (slice_get (reached values start turns).crew 2) refl
+    step_on : (turns : List Turn) (turn : Turn) → AtActor (reached values start turns) → AtActor (after_turn values turn (reached values start turns))
+    step_on turns turn h d there = by (slice_get (reached values start turns).crew actor) refl
       where
-        by : (o : Option (ActorCrew Carried)) → slice_get (reached values start turns).crew 2 ≡ o → OfPaths StaysWithin d.member
-        by None was = absurd (let none = none_stays values turn (reached values start turns) 2 was in let found : None ≡ Some d = sym none ∙ there in cc)
+        by : (o : Option (ActorCrew Carried)) → slice_get (reached values start turns).crew actor ≡ o → OfPaths StaysWithin d.member
+        by None was = absurd (let none = none_stays values turn (reached values start turns) actor was in let found : None ≡ Some d = sym none ∙ there in cc)
         by (Some c) was =
             let next = turn_on turn (reached values start turns) c was (facts_at turns c was) (h c was) in
             subst (λ (y : ActorCrew Carried). OfPaths StaysWithin y.member) (same_Some next.0 d (sym next.1 ∙ there)) next.2
 
-    run_on : (before more : List Turn) → AtTwo (reached values start before) → AtTwo (reached values start (before ++ more))
-    run_on before [] h = subst (λ ts. AtTwo (reached values start ts)) (sym (append-nil before)) h
-    run_on before (turn ∷ more) h = subst (λ ts. AtTwo (reached values start ts)) (append_assoc before (turn ∷ []) more)
-        (run_on (before ++ turn ∷ []) more (subst AtTwo (sym (run_append values before (turn ∷ []) (opened_world start))) (step_on before turn h)))
+    run_on : (before more : List Turn) → AtActor (reached values start before) → AtActor (reached values start (before ++ more))
+    run_on before [] h = subst (λ ts. AtActor (reached values start ts)) (sym (append-nil before)) h
+    run_on before (turn ∷ more) h = subst (λ ts. AtActor (reached values start ts)) (append_assoc before (turn ∷ []) more)
+        (run_on (before ++ turn ∷ []) more (subst AtActor (sym (run_append values before (turn ∷ []) (opened_world start))) (step_on before turn h)))
 
-  opened_on : AtTwo (opened_world start)
+  opened_on : AtActor (opened_world start)
   opened_on c there = (opened_lifted (λ c. OfPaths StaysWithin c.member) start tt tt
-      (λ number plan there s. begins_lasts Stays stays_last (waiting_path (path_begins start number plan) start.lines) s (first number plan s))).each 2 c there
+      (λ number plan there s. begins_lasts Stays stays_last (waiting_path (path_begins start number plan) start.lines) s (first number plan s))).each actor c there
     where
       first : (number : ℕ) (plan : PathPlan) (s : Side) → Within (end_at s (waiting_path {C = Carried} (path_begins start number plan) start.lines))
       first number plan A = omega arith
       first number plan B = omega arith
 
-pub no_end_overruns : NoEndOverruns
-no_end_overruns start turns mild c there = run_on start mild [] turns (opened_on start) c there
+pub each_end_stays_within : NoEndOverruns
+each_end_stays_within start turns mild actor c there = run_on start actor mild [] turns (opened_on start actor) c there
+
+-- of path 0
+pub no_end_overruns : (start : Start) (turns : List Turn) → IsMildStart start → (c : ActorCrew Carried) → slice_get (reached values start turns).crew 2 ≡ Some c → OfPaths StaysWithin c.member
+no_end_overruns start turns mild c there = each_end_stays_within start turns mild 2 c there

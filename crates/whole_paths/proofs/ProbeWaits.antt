@@ -68,7 +68,7 @@ use Rattle.whole_paths.specs.Timers.{TimersAreNear}
 use Rattle.whole_paths.specs.Waits.{IsNews, IsSettledAtTheEnd}
 use Rattle.whole_paths.specs.Waits.{IsNews as news_by}
 use Rattle.whole_paths.proofs.AckedData.{positions_are_acked_as_bytes}
-use Rattle.whole_paths.proofs.Arrivals.{sender_of}
+use Rattle.whole_paths.proofs.Arrivals.{sender_of, first_joins}
 use Rattle.whole_paths.proofs.BareSegments.{bare_segments_are_taken}
 use Rattle.whole_paths.proofs.Closing.{each_data_fin_is_said}
 use Rattle.whole_paths.proofs.ClosingOwed.{what_wants_an_answer_is_owed_one}
@@ -375,14 +375,13 @@ module _ (start : Start) (plan : PathPlan) (one : BeginsWithOnePath start plan) 
         flight = comes.first;
         there = comes.there;
         carried = comes.same ∙ c.carried ∙ ap (λ u. carried_by p.profile.spelling u c.segment) (sym (ap peer c.to ∙ sender_of s));
-        joined = h.before.is_open.first;
       }
 
       due_to : comes_now.due.to ≡ t
       due_to = sym (ap event_side comes_now.next) ∙ ap event_side next ∙ c.to
 
       again : ComesAgain p
-      again = (each_ack_comes c.segment p comes_now c.bare (record {
+      again = (each_ack_comes c.segment p comes_now (first_joins comes_now.due.to p h.before.is_open.first) c.bare (record {
         opened = subst (λ u. 2 ≤ phase_of (end_at u p).tcp.state) (sym due_to) (let past = h.before.is_open.past t in omega (arith, past));
         living = subst (λ u. is_dead (end_at u p).tcp.state ≡ false) (sym due_to) (h.before.is_open.living t);
         below_limit = below_limit p facts comes_now.due.to;

@@ -26,7 +26,7 @@ use Rattle.whole_paths.specs.Between.{PathsBetween}
 use Rattle.whole_paths.specs.DataAcksExchanged.{IsAskedPlainly}
 use Rattle.whole_paths.specs.DataAcksExchanged.{IsAwry as awry}
 use Rattle.whole_paths.specs.DataAcksHeard.{IsToHear}
-use Rattle.whole_paths.specs.Exchanges.{IsFaithful}
+use Rattle.whole_paths.specs.Exchanges.{LetsThrough}
 use Rattle.whole_paths.specs.Exchanges.{IsHeldUp as held}
 use Rattle.whole_paths.specs.InTime.{ComesFrom}
 use Rattle.whole_paths.specs.Offered.{Offers, OffersWhereItSends}
@@ -72,7 +72,7 @@ window_goes s edge last at p first living clear mapped low high fits offers t se
 
 -- ---- a turn
 
-module _ (six after : SixBooks) (steps : List Note) (p q : PathState Carried) (known : Known p) (faithful : IsFaithful p) (few : (t : Side) → segments_sent t p.link < 2 ^ 64 - 1) (turn : IsTurn p q)
+module _ (six after : SixBooks) (steps : List Note) (p q : PathState Carried) (known : Known p) (faithful : LetsThrough p) (few : (t : Side) → segments_sent t p.link < 2 ^ 64 - 1) (turn : IsTurn p q)
     (hears : HearsWindows values six after steps p q) (s : Side) (at until : ℕ) where
   abbrev OpenThen : PathState Carried → Type 0
   OpenThen = IsOpenTo after s at

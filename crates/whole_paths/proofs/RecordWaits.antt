@@ -47,7 +47,7 @@ use Rattle.whole_paths.specs.Waits.{IsNews}
 use Rattle.whole_paths.specs.WholeMappings.{NoneIsPartial}
 use Rattle.whole_paths.proofs.Counted.{by_counts, what_holds_up_counts}
 use Rattle.whole_paths.proofs.DataLeft.{what_is_left_is_data}
-use Rattle.whole_paths.proofs.Exchanges.{answer_later, each_record_is_acknowledged, hand_later}
+use Rattle.whole_paths.proofs.Exchanges.{answer_later, each_record_is_acknowledged, hand_later, lets_through}
 use Rattle.whole_paths.proofs.Finishing.{MemberFinishes, turn_finishes}
 use Rattle.whole_paths.proofs.Flying.{first_stays, same_record}
 use Rattle.whole_paths.proofs.GoesOn.{goes_on_so}
@@ -234,7 +234,7 @@ module _ (start : Start) (mild : IsMildStart start) (turns : List Turn) (turn : 
 
       pub goes_on : Next
       goes_on = by_exchange ((with_both ExchangesGoOn (each_record_is_acknowledged.goes_on start turns mild.plain.size mild.fit turn 2 before.here.crew before.here.there))
-          before.faithful s r x h.is_data before.few h.exchange)
+          (lets_through before.path before.faithful) s r x h.is_data before.few h.exchange)
 
 -- ---- waits
 

@@ -66,7 +66,7 @@ use Rattle.whole_paths.specs.ReadModes.{ReadsMappings}
 use Rattle.whole_paths.specs.Straying.{IsOpenFrom}
 use Rattle.whole_paths.specs.Timers.{TimersAreNear}
 use Rattle.whole_paths.proofs.Acking.{all_or, octet_of}
-use Rattle.whole_paths.proofs.Arrivals.{each_copy_arrives, each_mapped_record_is_a_piece, sender_of}
+use Rattle.whole_paths.proofs.Arrivals.{each_copy_arrives, each_mapped_record_is_a_piece, sender_of, first_joins}
 use Rattle.whole_paths.proofs.Breaking.{never_breaks}
 use Rattle.whole_paths.proofs.Bringing.{what_comes_is_kept}
 use Rattle.whole_paths.proofs.Came.{what_is_acknowledged_came}
@@ -255,7 +255,7 @@ module _ (start : Start) (mild : IsMildStart start) (turns : List Turn) (turn : 
           let few : length u.piece ≤ 65475 = told.octets in
           let reaches : u.pos + length u.piece + 1 < 2 ^ 31 = told.reaches in
           let behind = ((stand s).each h.at u there kind).behind in
-          let told_by : (y : Side) → (is_first_piece y u (end_at y p) ≡ false) ⊎ (is_some (end_at y p).modes.peer_key ≡ true) = elim [ A ↦ inr keyed | B ↦ inl refl ] in
+          let told_by : (y : Side) → (is_first_piece y u (end_at y p) ≡ false) ⊎ ((is_joined p.profile ≡ false) × (is_some (end_at y p).modes.peer_key ≡ true)) = elim [ A ↦ inr (before.faithful.joined, keyed) | B ↦ inl refl ] in
           record {
             kind = kind;
             some = omega (arith, one, whole);
@@ -386,13 +386,13 @@ module _ (start : Start) (mild : IsMildStart start) (turns : List Turn) (turn : 
             x = of_it.segment
 
             abbrev comes_now : Arrival x p
-            comes_now = each_copy_arrives s r p f of_it whole.unstripped whole.unaltered here (numbered f here) known.alike others first next open_p.first
+            comes_now = each_copy_arrives s r p f of_it whole.unstripped whole.unaltered here (numbered f here) known.alike others first next
 
             due_to : comes_now.due.to ≡ t
             due_to = sym (ap event_side comes_now.next) ∙ ap event_side next ∙ of_it.to
 
-            piece : IsMappedPiece (peer comes_now.due.to) x
-            piece = subst (λ y. IsMappedPiece y x) (sym (ap peer due_to ∙ sender_of s)) (each_mapped_record_is_a_piece p.profile s r of_it.sender x whole.mapped of_it.of_it of_it.says)
+            piece : IsMappedPiece p.profile (peer comes_now.due.to) x
+            piece = subst (λ y. IsMappedPiece p.profile y x) (sym (ap peer due_to ∙ sender_of s)) (each_mapped_record_is_a_piece p.profile s r of_it.sender x whole.mapped of_it.of_it of_it.says)
 
             at_pos : x.position ≡ r.pos
             at_pos = of_it.of_it.position
@@ -421,7 +421,7 @@ module _ (start : Start) (mild : IsMildStart start) (turns : List Turn) (turn : 
                 (all_or (λ pos. r.pos ≤ pos → Came pos q) (q ≡ p) (end_of r) (λ pos low. ⊎_elim (λ below. inl (λ from. absurd (omega (arith, below, from)))) (λ from. one pos from low) (cases_lt pos r.pos)))
               where
                 a : ComesAhead x p comes_now.due.to
-                a = comes_ahead x p comes_now piece
+                a = comes_ahead x p comes_now (first_joins comes_now.due.to p open_p.first) piece
                     (subst (λ y. 2 ≤ stage (end_at y p).tcp.state) (sym due_to) (let past = open_p.past t in omega (arith, past)))
                     (subst (λ y. is_dead (end_at y p).tcp.state ≡ false) (sym due_to) (open_p.living t))
                     (below_limit p known comes_now.due.to)

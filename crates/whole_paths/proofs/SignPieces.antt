@@ -167,7 +167,7 @@ module _ (p q : PathState Carried) (known : Known p) (faithful : IsFaithful p) (
         copied = copy.segment
 
         comes_now : Arrival copied p
-        comes_now = each_copy_arrives B r p f copy sent.unstripped sent.unaltered there (numbered f there) known.alike others first then_event faithful.joined
+        comes_now = each_copy_arrives B r p f copy sent.unstripped sent.unaltered there (numbered f there) known.alike others first then_event
 
         abbrev to : Side
         to = comes_now.due.to

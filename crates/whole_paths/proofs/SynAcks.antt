@@ -60,7 +60,7 @@ use Rattle.whole_paths.proofs.Acking.{HandsComeSo, hands_come_so, same_actor}
 use Rattle.whole_paths.proofs.Arrivals.{each_copy_arrives}
 use Rattle.whole_paths.proofs.Breaking.{never_breaks}
 use Rattle.whole_paths.proofs.Clearing.{Clears, MemberClears, each_clears, never_refuses}
-use Rattle.whole_paths.proofs.Exchanges.{IsTurn, Known, OfPaths, acks_bare, answer_comes, answer_from, answer_later, bare_later, below_limit, numbered, tick_from, way_from}
+use Rattle.whole_paths.proofs.Exchanges.{IsTurn, Known, OfPaths, acks_bare, answer_comes, answer_from, answer_later, bare_later, below_limit, lets_through, numbered, tick_from, way_from}
 use Rattle.whole_paths.proofs.Flying.{FramesStay, SentAtTheEnd, SentGoOn, frames_stay, sent_at_the_end, sent_go_on}
 use Rattle.whole_paths.proofs.Hearing.{each_acknowledgement_counts}
 use Rattle.whole_paths.proofs.InTime.{nothing_is_overdue}
@@ -161,7 +161,7 @@ module _ (p q : PathState Carried) (known : Known p) (faithful : IsFaithful p) (
         (λ heard. goes.held_up (held.news (IsNews.on_subflow (let none = h.unheard in omega (arith, enough, heard, none)))))
         (λ hindered. ⊎_elim (λ z. goes.held_up z) (λ far. if_living (λ living. goes.finished (past_so living far))) hindered)
         y)
-        (answer_comes p q known faithful few turn B acks_first hands answers position f there g so (let was = ap stage h.half_open in omega (arith, was)) others first next (omega (arith, enough)))
+        (answer_comes p q known (lets_through p faithful) few turn B acks_first hands answers position f there g so (let was = ap stage h.half_open in omega (arith, was)) others first next (omega (arith, enough)))
     answer_goes position before enough low (answer.harmed is) so = goes.held_up (held.harmed A is)
     answer_goes position before enough low (answer.resets is) so = never_refused is
     answer_goes position before enough low (answer.gone dead) so = goes.held_up (held.gone A (inr dead))
@@ -172,7 +172,7 @@ module _ (p q : PathState Carried) (known : Known p) (faithful : IsFaithful p) (
       module _ (f : Flight Carried) (in_time : f.tick ≤ arrival) (there : IsUnderWay f p) (copy : IsCopyOf values B syn p f) (sent : IsSynSent B copy.sender copy.stripped copy.altered)
           (others : List Duty) (first : p.agenda ≡ duties.Step step_duties.Events ∷ others) (next : next_event p ≡ Some (happenings.Arrives (due_of f))) where
         comes_now : Arrival copy.segment p
-        comes_now = each_copy_arrives B syn p f copy sent.unstripped sent.unaltered there (numbered p q known faithful few turn B acks_first hands answers f there) known.alike others first next faithful.joined
+        comes_now = each_copy_arrives B syn p f copy sent.unstripped sent.unaltered there (numbered p q known (lets_through p faithful) few turn B acks_first hands answers f there) known.alike others first next
 
         is_syn_ack : IsSyn copy.segment
         is_syn_ack = record {
@@ -187,10 +187,10 @@ module _ (p q : PathState Carried) (known : Known p) (faithful : IsFaithful p) (
         due_to = sym (ap event_side comes_now.next) ∙ ap event_side next ∙ copy.to
 
         counts : SynCounts copy.segment p p.a.tcp
-        counts = subst (λ t. SynCounts copy.segment p (end_at t p).tcp) due_to (each_syn_counts copy.segment p comes_now is_syn_ack)
+        counts = subst (λ t. SynCounts copy.segment p (end_at t p).tcp) due_to (each_syn_counts copy.segment p comes_now faithful.joined is_syn_ack)
 
         clock_is : q.clock ≡ max p.clock f.tick → q.clock + 400 ≤ x
-        clock_is is = (let from = tick_from p q known faithful few turn B acks_first hands answers f there in omega (arith, is, from, in_time, soon))
+        clock_is is = (let from = tick_from p q known (lets_through p faithful) few turn B acks_first hands answers f there in omega (arith, is, from, in_time, soon))
 
         again : ComesAs p means.Outside → Goes
         again c =
@@ -221,7 +221,7 @@ module _ (p q : PathState Carried) (known : Known p) (faithful : IsFaithful p) (
         by (comes syn kind at_first empty arrival soon next so) =
             let go = sent B syn arrival (few B) (λ is_first. sent_so h.half_open) next so in goes_by syn kind at_first empty arrival soon go.0 go.1
         by (answered g so) = if_living (λ living.
-            let go = answers A 1 x (few A) (acks_bare p q known faithful few turn B acks_first hands answers living) g so in answer_goes 1 x (le_refl 1) (le_refl x) go.0 go.1)
+            let go = answers A 1 x (few A) (acks_bare p q known (lets_through p faithful) few turn B acks_first hands answers living) g so in answer_goes 1 x (le_refl 1) (le_refl x) go.0 go.1)
 
 -- ---- how it begins
 

@@ -179,7 +179,7 @@ module _ (p q : PathState Carried) (known : Known p) (faithful : IsFaithful p) (
     module _ (f : Flight Carried) (there : IsUnderWay f p) (copy : IsCopyOf values s h.syn p f) (sent : IsSynSent s copy.sender copy.stripped copy.altered)
         (others : List Duty) (first : p.agenda ≡ duties.Step step_duties.Events ∷ others) (next : next_event p ≡ Some (happenings.Arrives (due_of f))) where
       comes_now : Arrival copy.segment p
-      comes_now = each_copy_arrives s h.syn p f copy sent.unstripped sent.unaltered there (numbered f there) known.alike others first next faithful.joined
+      comes_now = each_copy_arrives s h.syn p f copy sent.unstripped sent.unaltered there (numbered f there) known.alike others first next
 
       syn : IsSyn copy.segment
       syn = record {
@@ -194,7 +194,7 @@ module _ (p q : PathState Carried) (known : Known p) (faithful : IsFaithful p) (
       due_to = sym (ap event_side comes_now.next) ∙ ap event_side next ∙ copy.to
 
       counts : SynCounts copy.segment p (end_at (peer s) p).tcp
-      counts = subst (λ t. SynCounts copy.segment p (end_at t p).tcp) due_to (each_syn_counts copy.segment p comes_now syn)
+      counts = subst (λ t. SynCounts copy.segment p (end_at t p).tcp) due_to (each_syn_counts copy.segment p comes_now faithful.joined syn)
 
       header : SameHeader copy.segment f.carried.segment
       header = changed_said p.profile.spelling s copy.segment copy.stripped copy.altered f.carried copy.carried

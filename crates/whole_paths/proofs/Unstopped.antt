@@ -2,7 +2,7 @@
 use Rattle.std.proofs.Common.{◌≡◌, refl, sym, subst, ap, ◌∙◌, inl, inr, ◌⊎◌, ⊎_elim, ℕ, zero, suc, ◌+◌, ◌||◌, nat_lt, Bool, true, false, true≢false, if◌then◌else◌, is_some, Ok, Err, Option, Some, None, List, [], ◌∷◌, ◌++◌, take}
 use Rattle.std.specs.List.{list_any, slice_get}
 use Rattle.std.specs.Option.{option_map}
-use Rattle.std.proofs.lemmas.Bool.{or_from, or_parts}
+use Rattle.std.proofs.lemmas.Bool.{or_from, or_parts, both_ways, or_left}
 use Rattle.std.proofs.lemmas.Option.{same_Some}
 use Rattle.sides.specs.declared.side.Side.{Side}
 use Rattle.sides.specs.declared.side.Side.TheVariants.{A, B}
@@ -63,17 +63,27 @@ use Rattle.world_laws.proofs.Falls.ChecksPass.{is_failure}
 use Rattle.world_laws.proofs.Rounds.Frame.{first_keeps, takes_keeps}
 use Rattle.world_laws.proofs.Rounds.Lifting.{opened_lifted, run_lifted}
 use Rattle.world_laws.proofs.Weaving.Journals.{books_after}
-use Rattle.world_laws.proofs.Whole.Falls.{MemberUpright, PathUpright, each_upright}
+use Rattle.world_laws.proofs.Whole.Falls.{MemberUpright, PathUpright, each_upright, sides_never_fall}
 use Rattle.world_laws.proofs.Worlds.Turns.{turn_so}
 use Rattle.world_laws.proofs.Writes.Asks.{asks_no_more}
 use Rattle.whole_paths.specs.AgendaSteps.{Follows, Happened, is_told}
 use Rattle.whole_paths.specs.AgendaSteps.{Follows as follows}
 use Rattle.whole_paths.specs.AgendaSteps.{Happened as happened}
 use Rattle.whole_paths.specs.Mild.{IsUnbroken, IsNeverBroken, IsMildStart, is_harsh}
-use Rattle.whole_paths.specs.Unstopped.{MildPathsAreNeverStopped}
+use Rattle.whole_paths.specs.Unstopped.{MildPathsAreNeverStopped, NothingIsStopped}
 use Rattle.whole_paths.proofs.Agendas.{answered_follows}
-use Rattle.whole_paths.proofs.Breaking.{never_breaks}
+use Rattle.whole_paths.proofs.Breaking.{never_breaks, none_noted, stops_speak}
 use Rattle.whole_paths.proofs.Unbroken.{none_heard}
+use Rattle.sides.specs.Side.{peer}
+use Rattle.link_script.specs.Places.{same_side}
+use Rattle.fallback_state.specs.Modes.{is_identity, is_infinite}
+use Rattle.world_laws.specs.NeverFalls.{NeverFalls, is_fallen_back}
+use Rattle.world_laws.proofs.Falls.ByTheJournal.{was_wider}
+use Rattle.world_laws.proofs.Keys.ByJournals.{Causes, Knows, run_causes}
+use Rattle.world_laws.proofs.Keys.WhatWakes.{Voice, first_speaks, speaks}
+use Rattle.world_laws.proofs.Promises.AbortsHaveACause.{StopsAreAsked, stops_are_asked}
+use Rattle.world_laws.proofs.Worlds.CastLifting.{each_actor}
+use Rattle.world_laws.proofs.Worlds.Casts.{Cast, world_of}
 
 -- ---- what is asked
 
@@ -343,12 +353,12 @@ module _ (p : PathState Carried) where
   item_quiet s index (Some (says.FastClose key)) is heard = tt
   item_quiet s index (Some _) is heard = tt
 
-  duty_quiet : ((s : Side) → list_any is_failure (end_at s p).treated.items ≡ false) → (d : Duty) → is_stop d ≡ false → is_harsh d ≡ false → IsQuiet (ask_for values d p)
-  duty_quiet heard (duties.Ask (ask_duties.AbortSend s)) on calm = absurd (true≢false on)
-  duty_quiet heard (duties.Ask (ask_duties.AbortReceive s)) on calm = absurd (true≢false on)
-  duty_quiet heard (duties.Ask (ask_duties.GoIdentity s)) on calm = absurd (true≢false calm)
-  duty_quiet heard (duties.Step (step_duties.Heard s index)) on calm = item_quiet s index (item_of index (end_at s p)) refl (heard s)
-  duty_quiet heard d on calm = quiet_by (asking d) (ask_for values d p) refl refl refl (asks_no_more values p d).kind
+  duty_quiet : ((s : Side) → list_any is_failure (end_at s p).treated.items ≡ false) → (d : Duty) → is_stop d ≡ false → ((s : Side) → d ≡ duties.Ask (ask_duties.GoIdentity s) → ⊥) → IsQuiet (ask_for values d p)
+  duty_quiet heard (duties.Ask (ask_duties.AbortSend s)) on falls = absurd (true≢false on)
+  duty_quiet heard (duties.Ask (ask_duties.AbortReceive s)) on falls = absurd (true≢false on)
+  duty_quiet heard (duties.Ask (ask_duties.GoIdentity s)) on falls = absurd (falls s refl)
+  duty_quiet heard (duties.Step (step_duties.Heard s index)) on falls = item_quiet s index (item_of index (end_at s p)) refl (heard s)
+  duty_quiet heard d on falls = quiet_by (asking d) (ask_for values d p) refl refl refl (asks_no_more values p d).kind
 
 -- ---- the world
 
@@ -360,8 +370,14 @@ record GoesQuietly (w : WorldState Carried) : Type 0 where
   each : (actor : ℕ) (c : ActorCrew Carried) → slice_get w.crew actor ≡ Some c → MemberGoes c.member
   told : (actor : ℕ) (c : ActorCrew Carried) → slice_get w.crew actor ≡ Some c → was_told tells_stop c.list ≡ false
 
+-- a path whose ends treat no MP_FAIL, whose side is neither to fall back to plain TCP next nor to be stopped
+record IsUnhalted (p : PathState Carried) : Type 0 where
+  heard : (s : Side) → list_any is_failure (end_at s p).treated.items ≡ false
+  falls : (s : Side) (ds : List Duty) → p.agenda ≡ duties.Ask (ask_duties.GoIdentity s) ∷ ds → ⊥
+  stopped : (s : Side) → p.agenda ≡ stops s → ⊥
+
 abbrev MemberFact : Actor Carried → Type 0
-MemberFact = HoldsOfKind (λ app. Unit {0}) (λ p. PathUpright p × IsUnbroken p)
+MemberFact = HoldsOfKind (λ app. Unit {0}) IsUnhalted
 
 record Facts (w : WorldState Carried) : Type 0 where
   each : (actor : ℕ) (c : ActorCrew Carried) → slice_get w.crew actor ≡ Some c → MemberFact c.member
@@ -369,14 +385,14 @@ record Facts (w : WorldState Carried) : Type 0 where
 member_quiet : (m : Actor Carried) (x : Ask) → member_asks values m ≡ Some x → MemberFact m → MemberGoes m → IsQuiet x
 member_quiet (App a) x is fact h = (elim a.agenda as (λ ds. app_asks_first ds a ≡ Some x → halts ds ≡ false → IsQuiet x)
     [ [] ↦ λ is none. cc | d ∷ ds ↦ λ is none. subst IsQuiet (same_Some _ x is) (app_quiet d ds a none) ]) is h.1
-member_quiet (Path p) x is fact h = (elim p.agenda as (λ ds. asks_first values ds p ≡ Some x → list_any is_stop ds ≡ false → list_any is_harsh ds ≡ false → IsQuiet x) [
-  | [] ↦ λ is on calm. cc
-  | d ∷ ds ↦ λ is on calm. subst IsQuiet (same_Some _ x is) (duty_quiet p fact.0.passes.heard_none d (or_parts (is_stop d) (list_any is_stop ds) on).0 (or_parts (is_harsh d) (list_any is_harsh ds) calm).0)
-]) is h fact.1.duties
+member_quiet (Path p) x is fact h = (elim p.agenda as (λ ds. asks_first values ds p ≡ Some x → list_any is_stop ds ≡ false → ((s : Side) (es : List Duty) → ds ≡ duties.Ask (ask_duties.GoIdentity s) ∷ es → ⊥) → IsQuiet x) [
+  | [] ↦ λ is on falls. cc
+  | d ∷ ds ↦ λ is on falls. subst IsQuiet (same_Some _ x is) (duty_quiet p fact.heard d (or_parts (is_stop d) (list_any is_stop ds) on).0 (λ s same. falls s ds (ap (λ e. e ∷ ds) same)))
+]) is h fact.falls
 
 member_takes_goes : (r : Reply) (m : Actor Carried) → MemberFact (member_takes values r m) → MemberGoes m → MemberGoes (member_takes values r m)
 member_takes_goes r (App a) fact h = takes_on r a h
-member_takes_goes r (Path p) fact h = ⊎_elim (λ is. is) (λ at. absurd (fact.1.stopped at.0 at.1)) (takes_unstopped r p h)
+member_takes_goes r (Path p) fact h = ⊎_elim (λ is. is) (λ at. absurd (fact.stopped at.0 at.1)) (takes_unstopped r p h)
 
 member_next_goes : (m : Actor Carried) → MemberGoes m → MemberGoes (member_next m)
 member_next_goes (App a) h = settled_on start_of_app (fresh_turn a) (ap a_round_less h.0)
@@ -456,8 +472,32 @@ opened_quiet start mild = record {
     first : (s : Side) (file : List ℕ) → GoesOn (first_app_turn s start.buffer file (fast_close_of s start.lines))
     first s file = settled_on start_of_app (untouched s start.buffer file (fast_close_of s start.lines)) (ap (λ o. option_map rounds_before o) (mild.stays_open s))
 
-pub mild_paths_are_never_stopped : MildPathsAreNeverStopped
-mild_paths_are_never_stopped start plan turns one mild = record {
+-- ---- a side that never fell back
+
+abbrev NeverNext : PathState Carried → Type 0
+NeverNext p = (s : Side) (ds : List Duty) → p.agenda ≡ duties.Ask (ask_duties.GoIdentity s) ∷ ds → ⊥
+
+-- no end is to learn of a fall
+never_falls_next : (start : Start) (turns : List Turn) → IsMildStart start → (actor : ℕ) (c : ActorCrew Carried) → slice_get (world_run values turns (opened_world start)).crew actor ≡ Some c
+    → HoldsOfKind (λ app. Unit {0}) NeverNext c.member
+never_falls_next start turns mild =
+    let run = run_causes start turns in
+    subst (λ (v : WorldState Carried). NeverFalls v → (actor : ℕ) (c : ActorCrew Carried) → slice_get v.crew actor ≡ Some c → HoldsOfKind (λ app. Unit {0}) NeverNext c.member)
+    (sym run.is) (of_cast run.cast run.holds) (sides_never_fall start turns mild.plain mild.strips)
+  where
+    itself : (s : Side) → same_side s s ≡ true
+    itself A = refl
+    itself B = refl
+
+    one : (t : Cast Carried) → NeverFalls (world_of t) → (p : PathState Carried) → Knows start t p → NeverNext p
+    one t never p k s ds is = both_ways _ (never s) (was_wider is_identity is_fallen_back (λ m is. or_left (is_identity m) (is_infinite m) is) t.books s
+        (k.is.known (Voice.Falls s) (subst (λ xs. speaks (Voice.Falls s) xs ≡ true) (sym is) (first_speaks (Voice.Falls s) (duties.Ask (ask_duties.GoIdentity s)) ds (itself s)))).1.1)
+
+    of_cast : (t : Cast Carried) → Causes start t → NeverFalls (world_of t) → (actor : ℕ) (c : ActorCrew Carried) → slice_get (world_of t).crew actor ≡ Some c → HoldsOfKind (λ app. Unit {0}) NeverNext c.member
+    of_cast t h never = each_actor (λ actor c. HoldsOfKind (λ app. Unit {0}) NeverNext c.member) t tt tt (λ number x there. one t never x.path (h.paths.each number x there))
+
+pub sides_are_never_stopped : MildPathsAreNeverStopped
+sides_are_never_stopped start turns mild = record {
   send = elim [ A ↦ h.books.send_a.goes | B ↦ h.books.send_b.goes ];
   owner = elim [ A ↦ h.books.send_a.owner | B ↦ h.books.send_b.owner ];
   arrived = elim [ A ↦ h.books.arrived_a | B ↦ h.books.arrived_b ];
@@ -467,13 +507,17 @@ mild_paths_are_never_stopped start plan turns one mild = record {
     w : WorldState Carried
     w = world_run values turns (opened_world start)
 
-    by : (m : Actor Carried) → MemberUpright m → HoldsOfKind (λ app. Unit {0}) IsNeverBroken m → HoldsOfKind (λ app. Unit {0}) (λ p. is_joined p.profile ≡ false) m → MemberFact m
-    by (App a) upright breaks first = tt
-    by (Path p) upright breaks first = (upright, breaks first)
+    by : (more : List Turn) (m : Actor Carried) → MemberUpright m → HoldsOfKind (λ app. Unit {0}) NeverNext m → StopsAreAsked (world_run values more (opened_world start)) m → MemberFact m
+    by more (App a) upright falls asked = tt
+    by more (Path p) upright falls asked = record {
+      heard = upright.passes.heard_none;
+      falls = falls;
+      stopped = λ s is. both_ways _ (none_noted start more mild (peer s)) (asked s (ap (speaks (Voice.Aborts s)) is ∙ stops_speak s));
+    }
 
     facts : (more : List Turn) → Facts (world_run values more (opened_world start))
     facts more = record {
-      each = λ actor c there. by c.member ((each_upright start more mild.plain mild.strips).each actor c there) ((never_breaks start more mild).each actor c there) ((only_path_opens start plan more one).each actor c there);
+      each = λ actor c there. by more c.member ((each_upright start more mild.plain mild.strips).each actor c there) (never_falls_next start more mild actor c there) (stops_are_asked start more actor c there);
     }
 
     h : GoesQuietly w
@@ -482,3 +526,7 @@ mild_paths_are_never_stopped start plan turns one mild = record {
     at : (actor : ℕ) (o : Option (ActorCrew Carried)) → slice_get w.crew actor ≡ o → was_told tells_stop (notes_or o) ≡ false
     at actor None there = refl
     at actor (Some c) there = h.told actor c there
+
+-- over one path
+pub mild_paths_are_never_stopped : (start : Start) (plan : PathPlan) (turns : List Turn) → start.paths ≡ plan ∷ [] → IsMildStart start → NothingIsStopped (world_run values turns (opened_world start))
+mild_paths_are_never_stopped start plan turns one mild = sides_are_never_stopped start turns mild

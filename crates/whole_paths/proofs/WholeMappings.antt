@@ -46,7 +46,8 @@ use Rattle.whole_paths.specs.WholeMappings.{HasRecord, MappingsAreWhole, NoneIsP
 use Rattle.whole_paths.proofs.Boundaries.{AreCut, BothCut, IsCut, IsFirm, ShowsChecked, checked_firmly, shown_checked}
 use Rattle.whole_paths.proofs.Exchanges.{Shown, each_shown}
 use Rattle.whole_paths.proofs.Knowing.{what_is_told_is_known}
-use Rattle.whole_paths.proofs.OpenCourses.{IsFirstPath, each_first}
+use Rattle.whole_paths.proofs.OpenCourses.{IsOfLanes, each_of_lanes}
+use Rattle.world_laws.specs.RoundDone.{reached}
 
 -- ---- a mapping that is found
 
@@ -221,13 +222,17 @@ module _ (start : Start) (turns : List Turn) (mild : IsMildStart start) (uses : 
   each_whole = subst (λ (v : WorldState Carried). (actor : ℕ) (c : ActorCrew Carried) → slice_get v.crew actor ≡ Some c → MemberWhole c.member) (sym shown.shows.is)
       (each_actor (λ actor c. MemberWhole c.member) cast (λ x y. tt) (λ x y. tt) (λ number x at. path_whole number x at))
 
-pub mappings_are_whole : MappingsAreWhole
-mappings_are_whole start turns mild c there = by start.checksums refl
+pub each_mapping_is_whole : MappingsAreWhole
+each_mapping_is_whole start turns mild actor c there = by start.checksums refl
   where
-    unchecked : start.checksums ≡ false → (m : Actor Carried) → HoldsOfKind (λ app. Unit {0}) (IsFirstPath start) m → HoldsOfKind (λ app. Unit {0}) NoneIsPartial m
-    unchecked none (App a) first = tt
-    unchecked none (Path p) first = λ s r h kind partial. true≢false (sym partial.checksums ∙ first.checksums ∙ none)
+    unchecked : start.checksums ≡ false → (m : Actor Carried) → HoldsOfKind (λ app. Unit {0}) (IsOfLanes start) m → HoldsOfKind (λ app. Unit {0}) NoneIsPartial m
+    unchecked none (App a) lanes = tt
+    unchecked none (Path p) lanes = λ s r h kind partial. true≢false (sym partial.checksums ∙ lanes.checksums ∙ none)
 
     by : (b : Bool) → start.checksums ≡ b → HoldsOfKind (λ app. Unit {0}) NoneIsPartial c.member
-    by false none = unchecked none c.member (each_first start turns mild.plain.size c there)
-    by true uses = each_whole start turns mild uses 2 c there (each_shown start turns mild.plain.size mild.fit 2 c there) (((what_is_told_is_known values).live start turns).each 2 c there)
+    by false none = unchecked none c.member (each_of_lanes start turns mild.plain.size actor c there)
+    by true uses = each_whole start turns mild uses actor c there (each_shown start turns mild.plain.size mild.fit actor c there) (((what_is_told_is_known values).live start turns).each actor c there)
+
+-- of path 0
+pub mappings_are_whole : (start : Start) (turns : List Turn) → IsMildStart start → (c : ActorCrew Carried) → slice_get (reached values start turns).crew 2 ≡ Some c → HoldsOfKind (λ app. Unit {0}) NoneIsPartial c.member
+mappings_are_whole start turns mild c there = each_mapping_is_whole start turns mild 2 c there

@@ -41,7 +41,7 @@ use Rattle.whole_paths.specs.WindowsHeard.{IsOpenTo}
 use Rattle.whole_paths.specs.WindowWaits.{AwaitsAWindow, HasAShutWindow, IsWindowAwaited, WindowsAreAwaitedAlways}
 use Rattle.whole_paths.proofs.Awaited.{each_window_comes}
 use Rattle.whole_paths.proofs.Counted.{by_news, what_holds_up_counts}
-use Rattle.whole_paths.proofs.Exchanges.{OfPaths, Shown, each_shown}
+use Rattle.whole_paths.proofs.Exchanges.{OfPaths, Shown, each_shown, lets_through}
 use Rattle.whole_paths.proofs.Halting.{who_halts_goes_on_halting}
 use Rattle.whole_paths.proofs.InTime.{nil_so}
 use Rattle.whole_paths.proofs.News.{each_gain_counts}
@@ -128,7 +128,7 @@ module _ (start : Start) (plan : PathPlan) (one : start.paths ≡ plan ∷ []) (
           let found = each_window_comes.goes_on start turns mild.plain.size mild.fit turn 2 before.here.crew before.here.there in
           let both = with_both start mild turns turn before after (λ m n. (steps : List Note) × PathsBetween AwaitedGoesOn w.books v.books steps m n × HardlyGoesAwry steps m n)
           (found.0, found.1, (found.0.list, found.2, open_ends_hardly_go_awry start turns turn mild 2 before.here.crew found.0 before.here.there found.1)) in
-          by_halt (λ halted. by_turn halted both.0 both.2 (both.1 before.faithful s h.place x before.few h.awaited))
+          by_halt (λ halted. by_turn halted both.0 both.2 (both.1 (lets_through before.path before.faithful) s h.place x before.few h.awaited))
 
 -- ---- waits
 

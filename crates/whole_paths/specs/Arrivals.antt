@@ -62,13 +62,13 @@ pub record IsFirstPiece (x : PlainSegment) : Type 0 where
   pub checksum : Option ℕ
   pub options : x.options ≡ Capable sums false (WithData own other (length x.payload) checksum) ∷ []
 
--- a segment of this side maps its bytes, in the one way or the other
-pub data IsMappedPiece (s : Side) (x : PlainSegment) : Type 0 where
-  piece : IsPiece x → IsMappedPiece s x
-  first : s ≡ A → IsFirstPiece x → x.syn ≡ false → x.fin ≡ false → x.rst ≡ false → IsMappedPiece s x
+-- a segment of this side maps its bytes, in the one way or the other; A's first piece goes on the path that opens the connection
+pub data IsMappedPiece (c : Profile) (s : Side) (x : PlainSegment) : Type 0 where
+  piece : IsPiece x → IsMappedPiece c s x
+  first : is_joined c ≡ false → s ≡ A → IsFirstPiece x → x.syn ≡ false → x.fin ≡ false → x.rst ≡ false → IsMappedPiece c s x
 
 -- The record has bytes behind the SYN, which its end sends with their own mapping, to places up to 2^62: neither in plain TCP nor by an
--- infinite mapping; as A's first piece, which carries both keys, only where the end knows the peer's.
+-- infinite mapping; as A's first piece, which carries both keys, only on the path that opens the connection and where the end knows the peer's.
 pub record HasItsMapping (c : Profile) (s : Side) (r : Record) (e : PathEnd) : Type 0 where
   pub kind : r.kind ≡ Data
   pub some : 0 < length r.piece
@@ -79,12 +79,12 @@ pub record HasItsMapping (c : Profile) (s : Side) (r : Record) (e : PathEnd) : T
   pub mapped : e.modes.identity ≡ false
   pub finite : e.modes.own_infinite ≡ None
   pub few : length r.piece ≤ 65475
-  pub told : (is_first_piece s r e ≡ false) ⊎ (is_some e.modes.peer_key ≡ true)
+  pub told : (is_first_piece s r e ≡ false) ⊎ ((is_joined c ≡ false) × (is_some e.modes.peer_key ≡ true))
 
 -- the segment of such a record is such a segment
 abbrev pub EachMappedRecordIsAPiece : Type 0
 EachMappedRecordIsAPiece = (c : Profile) (s : Side) (r : Record) (e : PathEnd) (x : PlainSegment) → HasItsMapping c s r e → IsSegmentOf r x
-    → IsSaidAt c s r e x → IsMappedPiece s x
+    → IsSaidAt c s r e x → IsMappedPiece c s x
 
 -- the end has both SYNs, and takes the segment: RCV.NXT is one of its positions, all of them lie in the window, and what it acknowledges
 -- was sent
@@ -109,7 +109,7 @@ pub record CameBefore (x : PlainSegment) (e : PathEnd) : Type 0 where
   pub below_limit : is_at_limit e.tcp ≡ false
   pub passed : x.position + length x.payload ≤ e.tcp.recv.edge
 
--- of the path that opens the connection: a copy of such a segment that comes, neither stripped nor altered
+-- a copy of such a segment that comes, neither stripped nor altered
 pub record Arrival (x : PlainSegment) (p : PathState Carried) : Type 0 where
   pub others : List Duty
   pub first : p.agenda ≡ duties.Step step_duties.Events ∷ others
@@ -118,15 +118,18 @@ pub record Arrival (x : PlainSegment) (p : PathState Carried) : Type 0 where
   pub flight : Flight Carried
   pub there : arriving due p.link ≡ Some flight
   pub carried : flight.carried ≡ carried_by p.profile.spelling (peer due.to) x
-  pub joined : is_joined p.profile ≡ false
 
 -- a copy of a record comes that was under way, where nothing was taken away or altered
 abbrev pub EachCopyArrives : Type 0
 EachCopyArrives = (s : Side) (r : Record) (p : PathState Carried) (f : Flight Carried) (copy : IsCopyOf values s r p f) → copy.stripped ≡ false
     → copy.altered ≡ false
     → IsUnderWay f p → f.number < 2 ^ 64 - 1 → CopiesArriveSo p → (others : List Duty) → p.agenda ≡ duties.Step step_duties.Events ∷ others
-    → next_event p ≡ Some (happenings.Arrives (due_of f))
-    → is_joined p.profile ≡ false → Arrival copy.segment p
+    → next_event p ≡ Some (happenings.Arrives (due_of f)) → Arrival copy.segment p
+
+-- Of a path that joins, this side's end is past the handshake: from then on a copy is to it what it means to its subflow (RFC 8684, section 3.2),
+-- as on the path that opens the connection.
+abbrev pub HasJoined : Side → PathState Carried → Type 0
+HasJoined s p = is_joined p.profile ≡ true → 3 ≤ stage (end_at s p).tcp.state
 
 -- a record's payload is brought in order
 pub record ComesInOrder (x : PlainSegment) (p : PathState Carried) : Type 0 where
@@ -141,5 +144,5 @@ pub record ComesAgain (p : PathState Carried) : Type 0 where
   pub outside : IsTo values p copy (judged.As Outside)
 
 abbrev pub EachPieceComesInOrder : Type 0
-EachPieceComesInOrder = (x : PlainSegment) (p : PathState Carried) (a : Arrival x p) → IsMappedPiece (peer a.due.to) x
+EachPieceComesInOrder = (x : PlainSegment) (p : PathState Carried) (a : Arrival x p) → HasJoined a.due.to p → IsMappedPiece p.profile (peer a.due.to) x
     → (Takes x (end_at a.due.to p) → ComesInOrder x p) × (CameBefore x (end_at a.due.to p) → ComesAgain p)

@@ -13,7 +13,7 @@ use Rattle.path_core.specs.Values.{Carried, values}
 use Rattle.world_laws.specs.declared.member.Member.TheVariants.{Path}
 use Rattle.world_laws.specs.Actors.{Actor, ActorCrew}
 use Rattle.world_laws.specs.Members.{HoldsOfKind}
-use Rattle.world_laws.specs.Openings.{PathPlan, Start, opened_world}
+use Rattle.world_laws.specs.Openings.{Start, opened_world}
 use Rattle.world_laws.specs.Worlds.{Turn, after_turn, world_run}
 use Rattle.whole_paths.specs.Closing.{IsFinHeard}
 use Rattle.whole_paths.specs.DataAcksAsked.{IsAskedSo}
@@ -24,6 +24,7 @@ use Rattle.whole_paths.specs.Mild.{IsMildStart}
 use Rattle.whole_paths.specs.News.{one_if}
 use Rattle.whole_paths.specs.OpenAsks.{IsHardlyAwry, IsUnansweredAt}
 use Rattle.whole_paths.specs.Straying.{IsOpen}
+use Rattle.whole_paths.specs.DataAcksOwed.{KnowsWhereItSends}
 
 -- ---- an exchange
 
@@ -52,11 +53,13 @@ pub data AnswerIsAwaitedOn (later : SixBooks) (s : Side) (place : ℕ) (fin : Bo
   held_up : IsHeldUp s p q → AnswerIsAwaitedOn later s place fin by p q
   awry : IsHardlyAwry s p q → AnswerIsAwaitedOn later s place fin by p q
 
--- as the path becomes this actor, and is still open, with fewer than 2^64 - 1 segments sent from each side
+-- As the path becomes this actor, and is still open, with fewer than 2^64 - 1 segments sent from each side. The peer's end knows as it sends that
+-- the place is wanted, once the DATA_FIN was heard.
 abbrev pub AnswerIsAwaitedBy : SixBooks → SixBooks → Actor Carried → Actor Carried → Type 0
 AnswerIsAwaitedBy six later (Path p) (Path q) =
     IsOpen p → IsOpen q → ((t : Side) → segments_sent t p.link < 2 ^ 64 - 1)
-    → (s : Side) (place : ℕ) (fin : Bool) (by : ℕ) → IsAnswerAwaited six s place fin by p → AnswerIsAwaitedOn later s place fin by p q
+    → (s : Side) (place : ℕ) (fin : Bool) (by : ℕ) → ((fin ≡ true → IsFinHeard (peer s) p) → KnowsWhereItSends (peer s) place p)
+    → IsAnswerAwaited six s place fin by p → AnswerIsAwaitedOn later s place fin by p q
 AnswerIsAwaitedBy six later _ _ = Unit {0}
 
 -- where the turn of an open path is over such a wait begins, for a minute and 400 ticks there and back
@@ -65,11 +68,11 @@ AnswerIsAwaitedFrom six p = IsOpen p → p.agenda ≡ [] → (s : Side) → (end
     → place ≤ received (reassembly_of (peer s) six) + one_if fin
     → IsAnswerAwaited six s place fin (p.clock + 60000 + 400 + 400) p
 
--- at any moment of a mild connection, and by any turn where there is one path
+-- at any moment of a mild connection, and by any turn
 pub record OpenAsksAreAnswered : Type 0 where
   pub begin : (start : Start) (turns : List Turn) → IsMildStart start → let w = world_run values turns (opened_world start) in
       (actor : ℕ) (c : ActorCrew Carried) → slice_get w.crew actor ≡ Some c → HoldsOfKind (λ app. Unit {0}) (AnswerIsAwaitedFrom (books_in w.books)) c.member
-  pub goes_on : (start : Start) (turns : List Turn) (turn : Turn) (plan : PathPlan) → start.paths ≡ plan ∷ [] → IsMildStart start
+  pub goes_on : (start : Start) (turns : List Turn) (turn : Turn) → IsMildStart start
       → let w = world_run values turns (opened_world start) in let v = after_turn values turn w in
       (actor : ℕ) (c d : ActorCrew Carried) → slice_get w.crew actor ≡ Some c → slice_get v.crew actor ≡ Some d
       → AnswerIsAwaitedBy (books_in w.books) (books_in v.books) c.member d.member

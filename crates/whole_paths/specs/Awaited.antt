@@ -17,7 +17,7 @@ use Rattle.world_laws.specs.Openings.{Start, opened_world}
 use Rattle.world_laws.specs.Promises.{HasRoom, NumbersFit}
 use Rattle.world_laws.specs.Worlds.{WorldState, Turn, after_turn, world_run}
 use Rattle.whole_paths.specs.Between.{PathsBetween}
-use Rattle.whole_paths.specs.Exchanges.{IsFaithful}
+use Rattle.whole_paths.specs.Exchanges.{LetsThrough}
 use Rattle.whole_paths.specs.Offered.{OffersUpTo}
 use Rattle.whole_paths.specs.Probes.{AskTurns, IsProbed}
 use Rattle.whole_paths.specs.Reasons.{IsOutstanding}
@@ -32,7 +32,7 @@ pub record IsAwaited (six : SixBooks) (s : Side) (at by : ℕ) (p : PathState Ca
 -- As the path becomes another one, with fewer than 2^64 - 1 segments sent from each side: it is awaited still, or the edge rose, or one of the
 -- things came between that may in the exchange of any ask.
 abbrev pub AwaitedGoesOn : SixBooks → SixBooks → List Note → PathState Carried → PathState Carried → Type 0
-AwaitedGoesOn six after steps p q = IsFaithful p → (s : Side) (at by : ℕ) → ((t : Side) → segments_sent t p.link < 2 ^ 64 - 1) → IsAwaited six s at by p
+AwaitedGoesOn six after steps p q = LetsThrough p → (s : Side) (at by : ℕ) → ((t : Side) → segments_sent t p.link < 2 ^ 64 - 1) → IsAwaited six s at by p
     → AskTurns (IsAwaited after s at by q ⊎ ((send_of s six).edge < (send_of s after).edge)) s by steps p q
 
 -- Where a turn is over, of each end that opens, is open or closes, without a record, and of each place past the edge, where the peer's book takes

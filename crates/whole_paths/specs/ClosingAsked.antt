@@ -22,6 +22,7 @@ use Rattle.whole_paths.specs.Copies.{IsUnderWay}
 use Rattle.whole_paths.specs.DataAcksAsked.{IsAsking}
 use Rattle.whole_paths.specs.DataAcksCome.{IsOpen}
 use Rattle.whole_paths.specs.Due.{CopiesArriveSo}
+use Rattle.whole_paths.specs.Arrivals.{HasJoined}
 
 -- the end may send a DSS, and its DATA_FIN at this place isn't acknowledged, nor waits anything before it that an end asks for
 pub record OwesItsEnd (place : ℕ) (e : PathEnd) : Type 0 where
@@ -49,9 +50,9 @@ pub record EndComes (place : ℕ) (p : PathState Carried) : Type 0 where
   pub index : ℕ
   pub says : item_at index (items_of (is_joined p.profile) brings.copy.due.to (options_heard (end_at brings.copy.due.to p) brings.copy.segment)) ≡ Some (says.DataFin place)
 
--- where such a copy was under way, and nothing was taken away or altered, on the path that opens the connection
+-- where such a copy was under way, and nothing was taken away or altered
 abbrev pub EachDataFinComes : Type 0
 EachDataFinComes = (s : Side) (p : PathState Carried) (f : Flight Carried) (h : IsAsking values s p f) → h.stripped ≡ false → h.altered ≡ false
     → IsUnderWay f p → f.number < 2 ^ 64 - 1
     → CopiesArriveSo p → (others : List Duty) → p.agenda ≡ duties.Step step_duties.Events ∷ others → next_event p ≡ Some (happenings.Arrives (due_of f))
-    → is_joined p.profile ≡ false → (place : ℕ) → OwesItsEnd place h.sender → TakesFrom h.sender (end_at (peer s) p) → EndComes place p
+    → HasJoined (peer s) p → (place : ℕ) → OwesItsEnd place h.sender → TakesFrom h.sender (end_at (peer s) p) → EndComes place p

@@ -15,11 +15,10 @@ use Rattle.path_core.specs.DataFin.{is_data_fin_owed}
 use Rattle.path_core.specs.Emission.{ack_resent}
 use Rattle.path_core.specs.End.{PathEnd}
 use Rattle.path_core.specs.Events.{next_event}
-use Rattle.path_core.specs.MpJoin.{is_joined}
 use Rattle.path_core.specs.State.{PathState, end_at}
 use Rattle.path_core.specs.Values.{Carried, values}
 use Rattle.path_core.specs.declared.events.Event.TheVariants as happenings
-use Rattle.whole_paths.specs.Arrivals.{Arrival, ComesAgain}
+use Rattle.whole_paths.specs.Arrivals.{Arrival, ComesAgain, HasJoined}
 use Rattle.whole_paths.specs.AsFar.{stage}
 use Rattle.whole_paths.specs.Brought.{Brings}
 use Rattle.whole_paths.specs.Copies.{IsUnderWay}
@@ -53,13 +52,13 @@ pub record ComesTaken (x : PlainSegment) (p : PathState Carried) : Type 0 where
   pub brings : Brings values p
   pub segment : brings.copy.segment ≡ meant x
 
--- a copy of it on the path that opens the connection: in the window it is taken, and before RCV.NXT, as a probe, it is answered
+-- a copy of it: in the window it is taken, and before RCV.NXT, as a probe, it is answered
 pub record AckComes (x : PlainSegment) (p : PathState Carried) (t : EndState) : Type 0 where
   pub taken : IsInWindow x t → ComesTaken x p
   pub again : x.position < t.recv.edge → ComesAgain p
 
 abbrev pub EachAckComes : Type 0
-EachAckComes = (x : PlainSegment) (p : PathState Carried) (a : Arrival x p) → IsBare x → IsOpen (end_at a.due.to p).tcp → AckComes x p (end_at a.due.to p).tcp
+EachAckComes = (x : PlainSegment) (p : PathState Carried) (a : Arrival x p) → HasJoined a.due.to p → IsBare x → IsOpen (end_at a.due.to p).tcp → AckComes x p (end_at a.due.to p).tcp
 
 -- ---- what an end without a record asks again
 
@@ -70,9 +69,9 @@ pub record AskArrives (s : Side) (p : PathState Carried) (f : Flight Carried) (e
   pub bare : IsBare (ack_resent p.profile s e)
   pub probes : e.modes.owes_third ≡ false → e.notices.fast_closed ≡ false → is_data_fin_owed e ≡ false → (ack_resent p.profile s e).position ≡ e.tcp.send.una - 1
 
--- where a copy of it was under way, and nothing was taken away or altered, on the path that opens the connection
+-- where a copy of it was under way, and nothing was taken away or altered
 abbrev pub EachAskArrives : Type 0
 EachAskArrives = (s : Side) (p : PathState Carried) (f : Flight Carried) (h : IsAsking values s p f) → h.stripped ≡ false → h.altered ≡ false
     → IsUnderWay f p → f.number < 2 ^ 64 - 1
     → CopiesArriveSo p → (others : List Duty) → p.agenda ≡ duties.Step step_duties.Events ∷ others → next_event p ≡ Some (happenings.Arrives (due_of f))
-    → is_joined p.profile ≡ false → AskArrives s p f h.sender
+    → AskArrives s p f h.sender

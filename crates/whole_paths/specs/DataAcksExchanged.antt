@@ -7,7 +7,7 @@ use Rattle.link_model.specs.Steps.{segments_sent}
 use Rattle.subflow_send.specs.Records.{Record}
 use Rattle.subflow_tcp.specs.States.{is_closed_to_segments}
 use Rattle.actor_desk.specs.declared.ask.Note.{Note}
-use Rattle.actor_desk.specs.Books.{StampedBooks, books_in}
+use Rattle.actor_desk.specs.Books.{StampedBooks}
 use Rattle.path_core.specs.DataFin.{is_data_fin_owed}
 use Rattle.path_core.specs.End.{PathEnd}
 use Rattle.path_core.specs.State.{PathState, end_at}
@@ -16,7 +16,7 @@ use Rattle.world_laws.specs.declared.member.Member.TheVariants.{App, Path}
 use Rattle.world_laws.specs.Actors.{Actor, ActorCrew}
 use Rattle.world_laws.specs.Laws.{Always}
 use Rattle.world_laws.specs.Members.{HoldsOfKind}
-use Rattle.world_laws.specs.Openings.{PathPlan, Start, opened_world}
+use Rattle.world_laws.specs.Openings.{Start, opened_world}
 use Rattle.world_laws.specs.Outcomes.{was_told}
 use Rattle.world_laws.specs.Promises.{HasRoom, NumbersFit, tells_refusal}
 use Rattle.world_laws.specs.Worlds.{WorldState, Turn, after_turn, world_run}
@@ -25,8 +25,8 @@ use Rattle.whole_paths.specs.Brought.{IsToReset}
 use Rattle.whole_paths.specs.ClosingAsked.{OwesItsEnd}
 use Rattle.whole_paths.specs.DataAcksAsked.{IsAskedAgain, IsAskedSo}
 use Rattle.whole_paths.specs.DataAcksHeard.{IsHeard, IsPastTheEnd}
-use Rattle.whole_paths.specs.DataAcksOwed.{IsDataAckFrom, WantsWhereItSends}
-use Rattle.whole_paths.specs.Exchanges.{AtEither, IsFaithful, IsHeldUp}
+use Rattle.whole_paths.specs.DataAcksOwed.{IsDataAckFrom, KnowsWhereItSends}
+use Rattle.whole_paths.specs.Exchanges.{AtEither, LetsThrough, IsHeldUp}
 use Rattle.whole_paths.specs.Flights.{IsFirst, IsOnItsWay}
 use Rattle.whole_paths.specs.Owed.{IsAnswered, IsAnsweredSo, IsToRefuse}
 use Rattle.whole_paths.specs.Reasons.{IsOutstanding}
@@ -92,8 +92,8 @@ pub data InquiryGoesOn (s : Side) (place : ℕ) (fin : Bool) (by : ℕ) (steps :
 -- as the path becomes this actor, with fewer than 2^64 - 1 segments sent from each side
 abbrev pub InquiriesGoOn : StampedBooks → List Note → Actor Carried → Actor Carried → Type 0
 InquiriesGoOn books steps (Path p) (Path q) =
-    IsFaithful p → (s : Side) (place : ℕ) (fin : Bool) (by : ℕ) → ((t : Side) → segments_sent t p.link < 2 ^ 64 - 1)
-    → IsPastTheEnd books s place fin → WantsWhereItSends (books_in books) (peer s) place p → IsInquired s place fin by p → InquiryGoesOn s place fin by steps p q
+    LetsThrough p → (s : Side) (place : ℕ) (fin : Bool) (by : ℕ) → ((t : Side) → segments_sent t p.link < 2 ^ 64 - 1)
+    → IsPastTheEnd books s place fin → KnowsWhereItSends (peer s) place p → IsInquired s place fin by p → InquiryGoesOn s place fin by steps p q
 InquiriesGoOn books steps (App a) (App b) = Unit {0}
 InquiriesGoOn books steps _ _ = ⊥
 
@@ -117,10 +117,10 @@ pub record InquiriesAreInTime (w : WorldState Carried) : Type 0 where
   pub begin : (actor : ℕ) (c : ActorCrew Carried) → slice_get w.crew actor ≡ Some c → HoldsOfKind (λ app. Unit {0}) InquiriesBegin c.member
   pub end : (actor : ℕ) (c : ActorCrew Carried) → slice_get w.crew actor ≡ Some c → HoldsOfKind (λ app. Unit {0}) InquiriesEnd c.member
 
--- at any moment, and by any turn where there is one path
+-- at any moment, and by any turn
 pub record EachAskIsAnswered : Type 0 where
   pub in_time : Always values (λ start w. InquiriesAreInTime w)
-  pub goes_on : (start : Start) (turns : List Turn) (plan : PathPlan) → start.paths ≡ plan ∷ [] → HasRoom start → NumbersFit start
+  pub goes_on : (start : Start) (turns : List Turn) → HasRoom start → NumbersFit start
       → let w = world_run values turns (opened_world start) in
       (turn : Turn) (actor : ℕ) (c : ActorCrew Carried) → slice_get w.crew actor ≡ Some c
       → (d : ActorCrew Carried) × (slice_get (after_turn values turn w).crew actor ≡ Some d) × InquiriesGoOn w.books d.list c.member d.member

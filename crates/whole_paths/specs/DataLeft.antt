@@ -1,5 +1,5 @@
 -- What an open end waits for, but for its FIN: octets of data.
-use Rattle.std.specs.Prelude.{◌≡◌, ◌<◌, false, Some, List, ◌∷◌, slice_get, ◌+◌, ◌≤◌, ◌⊎◌}
+use Rattle.std.specs.Prelude.{◌≡◌, ◌<◌, false, Some, List, ◌∷◌, slice_get, ◌+◌, ◌≤◌, ◌⊎◌, ℕ}
 use Rattle.sides.specs.declared.side.Side.{Side}
 use Rattle.subflow_send.specs.Records.{Record, end_of}
 use Rattle.subflow_send.specs.declared.record.RecordKind.TheVariants.{Data}
@@ -27,8 +27,8 @@ HasDataLeft p = (s : Side) → 3 ≤ stage (end_at s p).tcp.state → is_dead (e
     ⊎ ((end_at s p).tcp.send.una + 1 < (end_at s p).tcp.send.nxt) → (r : Record) (others : List Record)
     → (end_at s p).tcp.send.records ≡ r ∷ others → IsData r (end_at s p)
 
--- on path 0, at every moment
+-- on each path, at every moment
 abbrev pub WhatIsLeftIsData : Type 0
-WhatIsLeftIsData = (start : Start) (turns : List Turn) → HasRoom start → NumbersFit start → (c : ActorCrew Carried)
-    → slice_get (reached values start turns).crew 2 ≡ Some c
+WhatIsLeftIsData = (start : Start) (turns : List Turn) → HasRoom start → NumbersFit start → (actor : ℕ) (c : ActorCrew Carried)
+    → slice_get (reached values start turns).crew actor ≡ Some c
     → HoldsOfKind (λ app. Unit {0}) HasDataLeft c.member

@@ -10,7 +10,7 @@ use Rattle.path_core.specs.Values.{Carried, values}
 use Rattle.world_laws.specs.declared.outcome.Outcome.TheVariants.{Delivered}
 use Rattle.world_laws.specs.Actors.{ActorCrew}
 use Rattle.world_laws.specs.Members.{HoldsOfKind}
-use Rattle.world_laws.specs.Openings.{PathPlan, Start}
+use Rattle.world_laws.specs.Openings.{Start}
 use Rattle.world_laws.specs.Outcomes.{outcome_of}
 use Rattle.world_laws.specs.Promises.{arrived_at, written_by}
 use Rattle.world_laws.specs.RoundDone.{reached}
@@ -36,9 +36,9 @@ module _ {C : Type 0} where
   abbrev pub FinishedIsThere : WorldState C → PathState C → Type 0
   FinishedIsThere w p = (s : Side) → HasFinished (end_at s p) → IsAllThere s w
 
--- at every moment of a mild connection over one path
+-- at every moment of a mild connection
 abbrev pub WhatIsFinishedIsThere : Type 0
-WhatIsFinishedIsThere = (start : Start) (plan : PathPlan) (turns : List Turn) → start.paths ≡ plan ∷ [] → IsMildStart start → let w = reached values start turns in
+WhatIsFinishedIsThere = (start : Start) (turns : List Turn) → IsMildStart start → let w = reached values start turns in
     (actor : ℕ) (c : ActorCrew Carried) → slice_get w.crew actor ≡ Some c → HoldsOfKind (λ app. Unit {0}) (FinishedIsThere w) c.member
 
 -- ---- both streams
@@ -53,6 +53,6 @@ WhatIsThereStays = (start : Start) (turns more : List Turn) → IsMildStart star
 
 -- once all of both streams is there, and three more rounds have ended, both files are delivered, and it stays so
 abbrev pub WhatIsThereIsDelivered : Type 0
-WhatIsThereIsDelivered = (start : Start) (plan : PathPlan) (turns more : List Turn) → start.paths ≡ plan ∷ [] → IsMildStart start
+WhatIsThereIsDelivered = (start : Start) (turns more : List Turn) → IsMildStart start
     → AllIsThere (reached values start turns)
     → AreLawful values more (reached values start turns) → 3 ≤ rounds_in more → outcome_of (reached values start (turns ++ more)).crew ≡ Delivered

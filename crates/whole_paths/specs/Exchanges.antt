@@ -31,7 +31,7 @@ use Rattle.world_laws.specs.NeverFalls.{StripsNothing}
 use Rattle.world_laws.specs.Openings.{Start, opened_world}
 use Rattle.world_laws.specs.Promises.{HasRoom, NumbersFit}
 use Rattle.world_laws.specs.Worlds.{WorldState, Turn, after_turn, world_run}
-use Rattle.whole_paths.specs.Arrivals.{HasItsMapping}
+use Rattle.whole_paths.specs.Arrivals.{HasItsMapping, HasJoined}
 use Rattle.whole_paths.specs.AsFar.{stage}
 use Rattle.whole_paths.specs.Brought.{FailsItsCheck, IsToReset, IsUnsure}
 use Rattle.whole_paths.specs.Flights.{IsFirst, IsOnItsWay, IsSentSo}
@@ -45,6 +45,12 @@ use Rattle.whole_paths.specs.Waits.{IsNews}
 -- The path opens the connection, and no line of the script takes options away on it, or alters payload.
 pub record IsFaithful (p : PathState Carried) : Type 0 where
   pub joined : is_joined p.profile ≡ false
+  pub whole : StripsNothing p.link.lines
+  pub plain : AltersNothing p.link.lines
+
+-- No line of the script takes options away on the path, or alters payload; and where the path joined, both ends are past the handshake.
+pub record LetsThrough (p : PathState Carried) : Type 0 where
+  pub joined : (s : Side) → HasJoined s p
   pub whole : StripsNothing p.link.lines
   pub plain : AltersNothing p.link.lines
 
@@ -132,7 +138,7 @@ pub data ExchangeGoesOn (s : Side) (r : Record) (by : ℕ) (p q : PathState Carr
 -- of each record of data, as the path becomes this actor, with fewer than 2^64 - 1 segments sent from each side
 abbrev pub ExchangesGoOn : Actor Carried → Actor Carried → Type 0
 ExchangesGoOn (Path p) (Path q) =
-    IsFaithful p → (s : Side) (r : Record) (by : ℕ) → r.kind ≡ Data → ((t : Side) → segments_sent t p.link < 2 ^ 64 - 1) → IsExchanged s r by p
+    LetsThrough p → (s : Side) (r : Record) (by : ℕ) → r.kind ≡ Data → ((t : Side) → segments_sent t p.link < 2 ^ 64 - 1) → IsExchanged s r by p
     → ExchangeGoesOn s r by p q
 ExchangesGoOn (App a) (App b) = Unit {0}
 ExchangesGoOn _ _ = ⊥

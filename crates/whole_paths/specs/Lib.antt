@@ -107,6 +107,8 @@ pub mod Unstopped
 pub mod Waits
 pub mod WindowRoom
 pub mod WindowWaits
+pub mod Wanted
+pub mod EdgeStands
 pub mod WindowsHeard
 pub mod BareSegments
 pub mod FinsComing
@@ -181,3 +183,11 @@ pub mod WrittenAtOnce
 pub mod FewRecords
 pub mod ProbeWaits
 pub mod WindowStalls
+pub mod Holders
+pub mod GivenBack
+pub mod HolderWaits
+pub mod BookNews
+pub mod Refusals
+pub mod QuietTexts
+pub mod FewTexts
+pub mod FirstMissing

@@ -13,10 +13,10 @@ use Rattle.path_core.specs.Values.{Carried, values}
 use Rattle.world_laws.specs.declared.member.Member.TheVariants.{Path}
 use Rattle.world_laws.specs.Actors.{Actor, ActorCrew}
 use Rattle.world_laws.specs.Members.{HoldsOfKind}
-use Rattle.world_laws.specs.Openings.{PathPlan, Start, opened_world}
+use Rattle.world_laws.specs.Openings.{Start, opened_world}
 use Rattle.world_laws.specs.Worlds.{WorldState, Turn, after_turn, world_run}
 use Rattle.whole_paths.specs.DataAcksExchanged.{IsAwry, IsInquired}
-use Rattle.whole_paths.specs.DataAcksOwed.{WantsWhereItSends}
+use Rattle.whole_paths.specs.DataAcksOwed.{KnowsWhereItSends}
 use Rattle.whole_paths.specs.Exchanges.{IsHeldUp}
 use Rattle.whole_paths.specs.Mild.{IsMildStart}
 use Rattle.whole_paths.specs.Reasons.{IsOutstanding}
@@ -68,14 +68,14 @@ pub data AskGoesOn (s : Side) (place : ℕ) (fin : Bool) (by written : ℕ) (p q
 abbrev pub AskGoesOnBy : SixBooks → SixBooks → Actor Carried → Actor Carried → Type 0
 AskGoesOnBy six later (Path p) (Path q) =
     IsOpen p → IsOpen q → ((t : Side) → segments_sent t p.link < 2 ^ 64 - 1)
-    → (s : Side) (place : ℕ) (fin : Bool) (by : ℕ) → WantsWhereItSends six (peer s) place p
+    → (s : Side) (place : ℕ) (fin : Bool) (by : ℕ) → KnowsWhereItSends (peer s) place p
     → IsInquired s place fin by p → IsUnanswered place fin (length (send_of s six).written) (end_at s p).sending
     → AskGoesOn s place fin by (length (send_of s later).written) p q
 AskGoesOnBy six later _ _ = Unit {0}
 
--- by any turn of a mild connection over one path
+-- by any turn of a mild connection
 abbrev pub OpenAsksGoOn : Type 0
-OpenAsksGoOn = (start : Start) (turns : List Turn) (turn : Turn) (plan : PathPlan) → start.paths ≡ plan ∷ [] → IsMildStart start
+OpenAsksGoOn = (start : Start) (turns : List Turn) (turn : Turn) → IsMildStart start
     → let w = world_run values turns (opened_world start) in let v = after_turn values turn w in
     (actor : ℕ) (c d : ActorCrew Carried) → slice_get w.crew actor ≡ Some c → slice_get v.crew actor ≡ Some d
     → AskGoesOnBy (books_in w.books) (books_in v.books) c.member d.member

@@ -16,6 +16,7 @@ use Rattle.world_laws.specs.Worlds.{WorldState, Turn, after_turn}
 use Rattle.whole_paths.specs.Arrivals.{Arrival}
 use Rattle.whole_paths.specs.AsFar.{stage}
 use Rattle.whole_paths.specs.Brought.{Comes, IsTo}
+use Rattle.path_core.specs.MpJoin.{is_joined}
 
 -- the SYN makes a listening end half-open; the SYN/ACK opens the end that sent the SYN, and the third segment the other one
 abbrev pub opens_to : Meaning → ℕ
@@ -70,4 +71,4 @@ pub record SynCounts (x : PlainSegment) (p : PathState Carried) (t : EndState) :
 
 -- on the path that opens the connection
 abbrev pub EachSynCounts : Type 0
-EachSynCounts = (x : PlainSegment) (p : PathState Carried) (a : Arrival x p) → IsSyn x → SynCounts x p (end_at a.due.to p).tcp
+EachSynCounts = (x : PlainSegment) (p : PathState Carried) (a : Arrival x p) → is_joined p.profile ≡ false → IsSyn x → SynCounts x p (end_at a.due.to p).tcp

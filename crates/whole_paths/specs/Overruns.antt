@@ -1,5 +1,5 @@
 -- No end sends more than its peer's window of 2^20 positions has room for (RFC 5681, section 2).
-use Rattle.std.specs.Prelude.{◌+◌, ◌≡◌, ◌≤◌, Some, List, slice_get}
+use Rattle.std.specs.Prelude.{◌+◌, ◌≡◌, ◌≤◌, Some, List, slice_get, ℕ}
 use Rattle.sides.specs.declared.side.Side.{Side}
 use Rattle.path_core.specs.State.{PathState, end_at}
 use Rattle.path_core.specs.Values.{Carried, values}
@@ -15,7 +15,7 @@ use Rattle.whole_paths.specs.News.{one_if}
 abbrev pub StaysWithin : PathState Carried → Type 0
 StaysWithin p = (s : Side) → (end_at s p).tcp.send.nxt ≤ (end_at s p).tcp.send.una + 1048576 + one_if (end_at s p).tcp.send.finished
 
--- on path 0 of a mild connection, at every moment
+-- on each path of a mild connection, at every moment
 abbrev pub NoEndOverruns : Type 0
-NoEndOverruns = (start : Start) (turns : List Turn) → IsMildStart start → (c : ActorCrew Carried) → slice_get (reached values start turns).crew 2 ≡ Some c
+NoEndOverruns = (start : Start) (turns : List Turn) → IsMildStart start → (actor : ℕ) (c : ActorCrew Carried) → slice_get (reached values start turns).crew actor ≡ Some c
     → HoldsOfKind (λ app. Unit {0}) StaysWithin c.member

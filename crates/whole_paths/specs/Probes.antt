@@ -24,7 +24,7 @@ use Rattle.whole_paths.specs.Between.{PathsBetween}
 use Rattle.whole_paths.specs.DataAcksAsked.{IsAskedAgain, IsAskedSo}
 use Rattle.whole_paths.specs.DataAcksExchanged.{IsAskedPlainly, IsAwry}
 use Rattle.whole_paths.specs.DataAcksOwed.{IsDataAckFrom}
-use Rattle.whole_paths.specs.Exchanges.{IsFaithful, IsHeldUp}
+use Rattle.whole_paths.specs.Exchanges.{LetsThrough, IsHeldUp}
 use Rattle.whole_paths.specs.Flights.{IsFirst, IsOnItsWay}
 use Rattle.whole_paths.specs.Offered.{OffersWhereItSends}
 use Rattle.whole_paths.specs.Owed.{IsAnswered, IsAnsweredSo}
@@ -68,7 +68,7 @@ IsProbed six s at by p = IsAskedFor (TellsWindow at) (IsOpenTo six s at) s by p
 -- 32, so that the peer knows as it sends that 31 bytes more are taken.
 abbrev pub ProbesGoOn : SixBooks → SixBooks → List Note → PathState Carried → PathState Carried → Type 0
 ProbesGoOn six after steps p q =
-    IsFaithful p → (s : Side) (at by : ℕ) → ((t : Side) → segments_sent t p.link < 2 ^ 64 - 1) → OffersWhereItSends (peer s) (at + 31) p
+    LetsThrough p → (s : Side) (at by : ℕ) → ((t : Side) → segments_sent t p.link < 2 ^ 64 - 1) → OffersWhereItSends (peer s) (at + 31) p
     → IsProbed six s at by p → AskTurns (IsProbed after s at by q) s by steps p q
 
 -- where a turn is over, of each end that opens, is open or closes, without a record: within a minute and 400 ticks there and back

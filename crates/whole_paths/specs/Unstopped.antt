@@ -2,7 +2,7 @@
 use Rattle.std.specs.Prelude.{◌≡◌, false, None, List, [], ◌∷◌}
 use Rattle.sides.specs.declared.side.Side.{Side}
 use Rattle.path_core.specs.Values.{values}
-use Rattle.world_laws.specs.Openings.{PathPlan, Start, opened_world}
+use Rattle.world_laws.specs.Openings.{Start, opened_world}
 use Rattle.world_laws.specs.Outcomes.{notes_of, tells_stop, was_told}
 use Rattle.world_laws.specs.Promises.{arrived_at, written_by}
 use Rattle.world_laws.specs.Worlds.{WorldState, Turn, world_run}
@@ -15,7 +15,6 @@ pub record NothingIsStopped {C : Type 0} (w : WorldState C) : Type 0 where
   pub arrived : (s : Side) → (arrived_at s w).aborted ≡ None
   pub told : (s : Side) → was_told tells_stop (notes_of s w.crew) ≡ false
 
--- nothing is stopped at any moment of a mild connection over one path
+-- nothing is stopped at any moment of a mild connection
 abbrev pub MildPathsAreNeverStopped : Type 0
-MildPathsAreNeverStopped = (start : Start) (plan : PathPlan) (turns : List Turn) → start.paths ≡ plan ∷ [] → IsMildStart start
-    → NothingIsStopped (world_run values turns (opened_world start))
+MildPathsAreNeverStopped = (start : Start) (turns : List Turn) → IsMildStart start → NothingIsStopped (world_run values turns (opened_world start))

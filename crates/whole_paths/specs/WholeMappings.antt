@@ -1,5 +1,5 @@
 -- With checksums the mapping at RCV.NXT begins there, and it is whole as soon as a record is whose octets come first (RFC 8684, section 3.3.1).
-use Rattle.std.specs.Prelude.{◌≡◌, Some, List, slice_get}
+use Rattle.std.specs.Prelude.{◌≡◌, Some, List, slice_get, ℕ}
 use Rattle.sides.specs.declared.side.Side.{Side}
 use Rattle.sides.specs.Side.{peer}
 use Rattle.subflow_send.specs.Records.{Record, end_of}
@@ -25,7 +25,7 @@ HasRecord r e = Has (IsSameRecord r) e.tcp.send.records
 abbrev pub NoneIsPartial : PathState Carried → Type 0
 NoneIsPartial p = (s : Side) (r : Record) → HasRecord r (end_at s p) → r.kind ≡ Data → IsPartial (peer s) (end_of r) p → ⊥
 
--- on path 0 of a mild connection, at every moment
+-- on each path of a mild connection, at every moment
 abbrev pub MappingsAreWhole : Type 0
-MappingsAreWhole = (start : Start) (turns : List Turn) → IsMildStart start → (c : ActorCrew Carried)
-    → slice_get (reached values start turns).crew 2 ≡ Some c → HoldsOfKind (λ app. Unit {0}) NoneIsPartial c.member
+MappingsAreWhole = (start : Start) (turns : List Turn) → IsMildStart start → (actor : ℕ) (c : ActorCrew Carried)
+    → slice_get (reached values start turns).crew actor ≡ Some c → HoldsOfKind (λ app. Unit {0}) NoneIsPartial c.member

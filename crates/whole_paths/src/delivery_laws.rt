@@ -101,8 +101,8 @@ pub fn what_is_owed_goes()
     ensures { WhatIsOwedGoes }
 {}
 
-/// A law: in a mild connection over one path no send book is aborted, or given to one path alone, no reassembly book is aborted, and no reader
-/// is told of an abort, always (RFC 8684, section 3.5). No application and no path asks for it.
+/// A law: in a mild connection no send book is aborted, or given to one path alone, no reassembly book is aborted, and no reader is told of an
+/// abort, always (RFC 8684, section 3.5). No application and no path asks for it, over however many paths.
 pub fn mild_paths_are_never_stopped()
     ensures { MildPathsAreNeverStopped }
 {}
@@ -134,13 +134,13 @@ pub fn fins_are_last()
     ensures { HoldsAnyway FinsAreLast }
 {}
 
-/// A law: what an open end of path 0 waits for is data, but for its FIN: its first record that isn't acknowledged is one of octets, and SND.UNA
+/// A law: what an open end of a path waits for is data, but for its FIN: its first record that isn't acknowledged is one of octets, and SND.UNA
 /// lies before its end. Both SYNs were acknowledged before (RFC 9293, section 3.5).
 pub fn what_is_left_is_data()
     ensures { WhatIsLeftIsData }
 {}
 
-/// A law: no end of path 0 sends more than its peer's window of 2^20 positions has room for, but its FIN, in a mild connection: SND.NXT lies 2^20
+/// A law: no end of a path sends more than its peer's window of 2^20 positions has room for, but its FIN, in a mild connection: SND.NXT lies 2^20
 /// positions past SND.UNA at most, and one more once the FIN is sent (RFC 5681, section 2).
 pub fn no_end_overruns()
     ensures { NoEndOverruns }
@@ -343,13 +343,13 @@ pub fn openings_are_awaited()
     ensures living { LivingEndsOpenOrArePast }
 {}
 
-/// A law: what an open end of the only path of a mild connection asks for, the Data ACK of its DATA_FIN or of a piece (`each_ask_is_answered`),
+/// A law: what an open end of path 0 of a mild connection asks for, the Data ACK of its DATA_FIN or of a piece (`each_ask_is_answered`),
 /// goes on by each turn to be answered by the same tick, or something comes between that counts: more is heard or sent, a segment is
 /// harmed, or an end dies.
 ///
 /// An open end without a record of which anything is outstanding waits for such an answer, or for the peer's window (`in_time`). Where a turn
-/// is over it asks for the answer, within a minute and 800 ticks, and no round ends past that. That the peer wants the
-/// place where it sends is a premise; one thing may lead it awry (`open_ends_hardly_go_awry`).
+/// is over it asks for the answer, within a minute and 800 ticks, and no round ends past that. That the peer knows the place to be
+/// wanted where it sends is a premise; one thing may lead it awry (`open_ends_hardly_go_awry`).
 pub fn open_asks_go_on()
     ensures goes_on { OpenAsksGoOn }
     ensures in_time { IsPromisedMildly values (λ start w. OpenAsksAreInTime w) }
@@ -358,7 +358,8 @@ pub fn open_asks_go_on()
 /// A law: such an ask goes on to be answered, or something comes between that counts, where the bytes are received that it asks for.
 ///
 /// The peer's reassembly book has all bytes before the place, but for that of the DATA_FIN, which the peer heard, or what the end asks brings
-/// it. So the peer wants the place as it answers (`who_heard_the_end_knows_it`), and nothing but received bytes is a premise any longer.
+/// it. Once that was heard, the peer is to know that the place is wanted, as it answers: over one path it does (`who_heard_the_end_knows_it`,
+/// `each_data_ack_is_up_to_date`), over several from its next turn on (`what_is_wanted_is_told`).
 pub fn open_asks_are_answered()
     ensures { OpenAsksAreAnswered }
 {}
@@ -453,13 +454,13 @@ pub fn who_waits_for_nothing_goes_on()
     ensures ends { EndsGoOn }
 {}
 
-/// A law: in a mild connection over one path, whenever an end heard that its DATA_FIN is acknowledged, or sent its FIN and isn't dead, its
+/// A law: in a mild connection, whenever an end heard that its DATA_FIN is acknowledged, or sent its FIN and isn't dead, its
 /// side's stream is closed, and the peer's side received all of it and knows where it ends (RFC 8684, section 3.3.3).
 pub fn what_is_finished_is_there()
     ensures { WhatIsFinishedIsThere }
 {}
 
-/// A law: in a mild connection over one path, once all of both streams is with the peers, and they know where they end, both files are
+/// A law: in a mild connection, once all of both streams is with the peers, and they know where they end, both files are
 /// delivered after three more rounds, in whatever order the actors go, and stay so (`delivers`). Whatever is there stays there (`stays`).
 pub fn what_is_there_is_delivered()
     ensures stays { WhatIsThereStays }

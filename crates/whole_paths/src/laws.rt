@@ -363,17 +363,19 @@ pub fn each_segment_has_a_data_ack()
 /// A law: on the only path of a connection each Data ACK is up to date: the end knows the place that its reassembly book wants next, where it
 /// sends a segment that is no reset, where the turn is over, and where an event is next (RFC 8684, section 3.3.2).
 ///
-/// What came in order is acknowledged by the next segment that the end sends (`each_segment_has_a_data_ack`), bytes and DATA_FIN.
+/// What came in order is acknowledged by the next segment that the end sends (`each_segment_has_a_data_ack`), bytes and DATA_FIN. Its window is what the
+/// book took of its buffer as the end asked it last; since then nothing was read, or all that came, or 65,536 bytes and more.
 pub fn each_data_ack_is_up_to_date()
     ensures octets { Always octets OnlyPathsAreUpToDate }
     ensures values { Always values OnlyPathsAreUpToDate }
 {}
 
-/// A law: on the only path of a connection an acknowledgement that an end owes comes with the Data ACK of all that its side received, as
-/// `what_is_owed_comes` says of what it acknowledges (RFC 8684, section 3.3.2).
+/// A law: an acknowledgement that an end owes comes with the Data ACK of all that the end was told to be received, as `what_is_owed_comes` says of
+/// what it acknowledges (RFC 8684, section 3.3.2).
 ///
-/// The end may send a DSS and didn't fall back to plain TCP. By each turn the end owes it still, or such a segment is under way, without
-/// payload, at SND.NXT or behind what that was, and its Data ACK is at the place that the reassembly book wanted next, or past it.
+/// The end may send a DSS and didn't fall back to plain TCP. By each turn the end owes it still, or such a segment is under way, without payload, at
+/// SND.NXT or behind what that was, and its Data ACK is at the place that the end knows to be wanted as it sends, or past it: over one path that is
+/// what its reassembly book wants (`each_data_ack_is_up_to_date`), over several what that wanted as the turn began (`what_is_wanted_is_told`).
 pub fn what_is_owed_has_a_data_ack()
     ensures octets { WhatIsOwedHasADataAck octets }
     ensures values { WhatIsOwedHasADataAck values }
@@ -421,8 +423,8 @@ pub fn what_is_taken_is_offered()
 /// Where a copy that the end takes says it, the end hears it once all is treated that the copy says before, and tells the book once the
 /// payload is; from then on, by each turn, it came. Or the end is dead, or reset next, as where the book refuses the end; or the side fell
 /// back to plain TCP, or hasn't the peer's key, so that no DATA_FIN counts. A segment whose DSS maps a DATA_FIN says so (`says`); and a copy
-/// is taken, and says so, by which an end asks for the Data ACK of its DATA_FIN (`comes`, `what_is_asked_comes`), on the path that opens the
-/// connection.
+/// is taken, and says so, by which an end asks for the Data ACK of its DATA_FIN (`comes`, `what_is_asked_comes`), past the handshake of a path that
+/// joins.
 pub fn each_data_fin_counts()
     ensures octets { EachDataFinCounts octets }
     ensures values { EachDataFinCounts values }
@@ -568,8 +570,8 @@ pub fn what_is_in_order_is_passed()
 /// A law: a copy of a piece that comes to an open end is taken in order, with its mapping, or it came before (RFC 9293, section 3.10.7.4;
 /// RFC 8684, section 3.3.1).
 ///
-/// The copy is neither stripped nor altered, on the path that opens the connection, and a DSS maps its bytes, or the option that shows both keys
-/// those of A's first piece. Where
+/// The copy is neither stripped nor altered, and a DSS maps its bytes, or on the path that opens the connection the option that shows both keys those
+/// of A's first piece. An end of a path that joins is past the handshake. Where
 /// RCV.NXT is one of its positions, all of them lie in the window, what it acknowledges was sent, and the side didn't fall back to plain
 /// TCP, the end takes it. Where RCV.NXT is past it, it lies outside the window. `what_is_in_hand_is_acknowledged` says what follows of
 /// both. The segment of a record that an end sends with its own mapping is such a piece (`records`), and a copy of it that was under way
@@ -612,7 +614,7 @@ pub fn what_waits_comes()
 /// Where a turn is over such an exchange begins. By each turn it goes on in its order, and the tick stays: a copy of the record comes to the
 /// peer, which takes its octets in order, with their mapping, or had them before; all of it is in hand there, and is passed; an acknowledgement
 /// goes back that says as much; and SND.UNA is at the record's end then, or past it. Once the clock is past the tick it is so (`in_time`). That
-/// is said of data on the path that opens the connection, where no line takes options away or alters payload. Or there is news, octets of the
+/// is said of data where no line takes options away or alters payload, and of a path that joins past the handshake. Or there is news, octets of the
 /// peer's come in order, a segment is harmed, or an end dies (`IsHeldUp`); or an end doesn't go by the mappings of pieces, or goes on to
 /// a reset (`IsAstray`).
 pub fn each_record_is_acknowledged()
@@ -626,9 +628,9 @@ pub fn each_record_is_acknowledged()
 /// MP_FASTCLOSE (RFC 8684, sections 3.2, 3.3 and 3.5). Where a turn is over its timer runs, for a minute at most (`timers_run_out`). From
 /// then on, by each turn, its timer runs still, or it is to send again, or a copy of that is under way, and the tick stays by which a copy
 /// comes; or a copy was what arrives next; or the end has a record again, which comes by the same tick (`what_waits_comes`); or there is
-/// news (`timers_run_on`), or nothing is outstanding any longer; or the segment is harmed; or the end is dead, or the path dies by a line. So it is with the first 2^64 - 2 segments of a side. On the path
-/// that opens the connection a copy of an acknowledgement is taken in the window, and answered before RCV.NXT (`comes`), as a probe is
-/// (`arrives`).
+/// news (`timers_run_on`), or nothing is outstanding any longer; or the segment is harmed; or the end is dead, or the path dies by a line. So it is with the first 2^64 - 2 segments of a side. Past the
+/// handshake of a path that joins, as on the path that opens the connection, a copy of an acknowledgement is taken in the window, and answered
+/// before RCV.NXT (`comes`), as a probe is (`arrives`).
 pub fn what_is_asked_comes()
     ensures octets { WhatIsAskedComes octets }
     ensures values { WhatIsAskedComes values }
@@ -636,14 +638,14 @@ pub fn what_is_asked_comes()
     ensures arrives { EachAskArrives }
 {}
 
-/// A law: what an end without a record asks is answered with the Data ACK of what the peer's side received by then, on the only path of a
-/// connection, where no segment of the exchange is harmed (RFC 8684, sections 3.3.2 and 3.3.3).
+/// A law: what an end without a record asks is answered with the Data ACK of what the peer's end was told to be received by then, where no segment
+/// of the exchange is harmed (RFC 8684, sections 3.3.2 and 3.3.3).
 ///
 /// By each turn the exchange goes on in its order, and the tick stays by which the answer comes: the end's DATA_FIN or probe comes to the
 /// peer (`what_is_asked_comes`), which takes it, or answers it as a copy that came before; an acknowledgement goes back whose Data ACK is
-/// at the place that the peer's reassembly book wants as it sends, or past it; and the end hears it, in its turn. Where a turn is over such
+/// at the place that the peer's end knows to be wanted as it sends, or past it; and the end hears it, in its turn. Where a turn is over such
 /// an exchange begins, within a minute and 800 ticks there and back, and once the clock is past its tick the Data ACK is heard
-/// (`in_time`). That is said of a path where no line takes options away or alters payload. Or the end has a record again,
+/// (`in_time`). That is said of a path where no line takes options away or alters payload, past the handshake if it joins. Or the end has a record again,
 /// or nothing of it is outstanding; or there is news, octets of the peer's come in order, a segment is lost or late, or an end dies
 /// (`IsHeldUp`); or an end isn't open or doesn't go by Data ACKs (`IsAwry`).
 pub fn each_ask_is_answered()
@@ -715,7 +717,7 @@ pub fn no_side_is_stopped()
     ensures { NoSideIsStopped }
 {}
 
-/// A law: with checksums, up to the end of each record of data of an end of path 0 of a mild connection, the mapping at its peer's RCV.NXT
+/// A law: with checksums, up to the end of each record of data of an end of a path of a mild connection, the mapping at its peer's RCV.NXT
 /// begins there, and ends there or before.
 ///
 /// So octets that came in order are passed with checksums too, as soon as their record is whole (RFC 8684, section 3.3.1): RCV.NXT stands at the

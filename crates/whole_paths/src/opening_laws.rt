@@ -9,6 +9,7 @@ ghost use Rattle.whole_paths.specs.FewRecords.{OpensOwingSegments, RecordsAreFul
 ghost use Rattle.whole_paths.specs.FirstPiecesSoon.{EachFirstPieceComesSoon};
 ghost use Rattle.whole_paths.specs.OnePathScripts.{NeverFalls};
 ghost use Rattle.whole_paths.specs.QuietOpenings.{OpensOwingFew, lost_early};
+ghost use Rattle.whole_paths.specs.QuietTexts.{NothingComesEarlyByText};
 ghost use Rattle.whole_paths.specs.SignPieces.{EachSignPieceComes};
 ghost use Rattle.whole_paths.specs.SynsSoon.{EachSynComesSoon};
 ghost use Rattle.whole_paths.specs.WrittenAtOnce.{WhatFitsIsWrittenAtOnce};
@@ -93,4 +94,13 @@ pub fn what_fits_is_written_at_once()
 pub fn records_are_full()
     ensures full { RecordsAreFull }
     ensures owing { OpensOwingSegments }
+{}
+
+/// A law: where no line of the script moves a segment of A's, none with octets comes to B's end before that may send a DSS, over the only path of a
+/// mild connection (RFC 8684, section 3.1).
+///
+/// A's copies come in the order in which they were sent. The first one that acknowledges B's SYN has no octet, and shows both keys. It is said of fewer
+/// than 2^64 - 1 turns by which no end died, over a path of 400 ticks at most.
+pub fn nothing_comes_early_by_text()
+    ensures { NothingComesEarlyByText }
 {}

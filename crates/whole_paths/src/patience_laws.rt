@@ -1,6 +1,7 @@
 //! How soon both files are delivered over one path of a mild connection, as clauses of functions that do nothing.
 ghost use Rattle.path_core.specs.Octets.{octets};
 ghost use Rattle.path_core.specs.Values.{values};
+ghost use Rattle.whole_paths.specs.FewTexts.{FewStepsAreBrief, FewTextsFinish, FewTextsGoOn};
 ghost use Rattle.whole_paths.specs.PatientPaths.{FewLossesFinishPatiently, PatientPathEnds, PatientPathsEnd};
 ghost use Rattle.whole_paths.specs.PatientTexts.{FewLossesFinishByText, PatientTextEnds, PatientTextsEnd};
 
@@ -38,4 +39,17 @@ pub fn patient_texts_deliver()
     ensures few_values { FewLossesFinishByText values }
     ensures octets { PatientTextEnds octets }
     ensures values { PatientTextEnds values }
+{}
+
+/// A law: over one path both files are delivered after 10,800 rounds, 23 for each full segment of either file, and 3,150 for each line by which a segment
+/// is lost or late, where the script's text tells that (`finish`); until then the connection goes on, as no reader is told of an abort and the path
+/// lives (`go_on`).
+///
+/// The script has one path, and is mild. Four lines at most lose or delay a segment of B's; none moves one of A's, or speaks of a whole direction; by none
+/// the path dies, or its address is taken back. It is said of fewer than 2^64 - 1 turns, in any lawful order of steps within the rounds, over links that carry octets. So few are those of a run of whose actors each made fewer than
+/// 2^57 steps (`brief`).
+pub fn few_texts_deliver()
+    ensures finish { FewTextsFinish }
+    ensures go_on { FewTextsGoOn }
+    ensures brief { FewStepsAreBrief }
 {}

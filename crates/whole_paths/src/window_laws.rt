@@ -62,7 +62,8 @@ pub fn who_asks_owes()
 /// A law: an end never tells its peer to send more than its side's reassembly book takes, but for the DATA_FIN (RFC 9293, section 3.8.6; RFC 8684, section
 /// 3.3.5).
 ///
-/// So it is on path 0 of a mild connection: of what the end knows, always, and of the edge that it told last, as long as it lives.
+/// So it is on path 0 of a mild connection: of what the end knows, always, and of the edge that it told last, as long as it lives; nor did it tell more
+/// than it knows.
 pub fn what_is_told_is_taken()
     ensures { WhatIsToldIsTaken }
 {}
@@ -71,7 +72,7 @@ pub fn what_is_told_is_taken()
 /// a window that has grown (RFC 9293, section 3.8.6).
 ///
 /// So it is by any turn. As the end asks, it knows then all that the book takes (`what_is_taken_is_offered`), and an Update comes next. It asks no more so
-/// until the path's turn is over and the next one begins.
+/// until the path's turn is over and the next one begins; where it is to ask first it asks, unless the path stays as it is.
 pub fn each_turn_asks_its_window()
     ensures octets { EachTurnBegins octets }
     ensures values { EachTurnBegins values }

@@ -2,4 +2,4 @@ use Rattle.whole_paths.proofs.Unstopped as unstopped
 use Rattle.whole_paths.proofs.delivery_laws.mild_paths_are_never_stopped.Goals as goal
 
 pub returns : goal.returns
-returns c = unstopped.mild_paths_are_never_stopped
+returns c = unstopped.sides_are_never_stopped

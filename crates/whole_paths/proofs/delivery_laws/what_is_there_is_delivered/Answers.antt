@@ -5,4 +5,4 @@ pub returns-clause-stays : goal.returns-clause-stays
 returns-clause-stays c = delivery.what_is_there_stays
 
 pub returns-clause-delivers : goal.returns-clause-delivers
-returns-clause-delivers c = delivery.what_is_there_is_delivered
+returns-clause-delivers c = delivery.all_there_is_delivered

@@ -1,0 +1,83 @@
+//! Who holds what isn't acknowledged, over any number of paths, as clauses of functions that do nothing.
+ghost use Rattle.path_core.specs.Octets.{octets};
+ghost use Rattle.path_core.specs.Values.{values};
+ghost use Rattle.world_laws.specs.Laws.{Always};
+ghost use Rattle.world_laws.specs.Promises.{HoldsAnyway, HoldsAnywayOfOctets};
+ghost use Rattle.whole_paths.specs.BookNews.{BookNewsIsBounded, BookNewsNeverFalls, EachByteCounts, WhatIsGivenBackCounts};
+ghost use Rattle.whole_paths.specs.FirstMissing.{EachMissingByteIsHeld};
+ghost use Rattle.whole_paths.specs.GivenBack.{EachReturnCounts, GivenBackIsBounded, GivenBackNeverFalls};
+ghost use Rattle.whole_paths.specs.HolderWaits.{HoldersLetGo};
+ghost use Rattle.whole_paths.specs.Holders.{HoldersLive, WhatIsTriedIsAwaited};
+ghost use Rattle.whole_paths.specs.Refusals.{WhoAsksIsRefused};
+
+/// A law: a byte that a path tried and that isn't acknowledged stands in a piece that the path's end waits for, whatever the links do, over any number of
+/// paths (RFC 8684, section 3.3.6).
+///
+/// The end didn't hear the byte acknowledged. So by `who_waits_has_a_timer` the end's timer runs where a turn is over, unless it is dead.
+pub fn what_is_tried_is_awaited()
+    ensures values { HoldsAnyway WhatIsTriedIsAwaited }
+    ensures octets { HoldsAnywayOfOctets WhatIsTriedIsAwaited }
+{}
+
+/// A law: at every moment a byte that a path holds is held by a path of the connection whose end is past the handshake, and lives, or gives the byte back
+/// before anything else is done on the path.
+///
+/// So where a turn is over no dead end's path holds a byte, however the end died: by expiries, a line, a reset, or as its address was taken back.
+pub fn holders_live()
+    ensures octets { Always octets (λ start w. HoldersLive w) }
+    ensures values { Always values (λ start w. HoldersLive w) }
+{}
+
+/// A law: a path gives back no byte twice: how many bytes are acknowledged, or were tried by it and are held no longer, never falls by any turns, and is
+/// no more than the side's file has (`bounded`).
+///
+/// As a timer runs out, or an end is dead or leaves, its path gives back all that it holds, and that number rises if it held a byte (`returns`).
+pub fn what_is_given_back_counts()
+    ensures octets { GivenBackNeverFalls octets }
+    ensures values { GivenBackNeverFalls values }
+    ensures returns_octets { EachReturnCounts octets }
+    ensures returns { EachReturnCounts values }
+    ensures bounded { GivenBackIsBounded }
+{}
+
+/// A law: a byte that a path holds is acknowledged or given back within a minute, or there is news at the path's end, or it dies (RFC 6298, section 5).
+///
+/// Where the path's turn is over the end's timer runs, for a minute at most (`begins`). By each turn it runs still, to the same tick, or it ran out, and to
+/// give back comes next (`goes_on`); and no turn is over in a round that ends past the tick (`due`). So it is of each path of a connection, whatever its link
+/// does.
+pub fn holders_let_go()
+    ensures { HoldersLetGo }
+{}
+
+/// A law: how far the bytes of a side's stream are, as one number, never falls by any turns, and is bounded by the side's file and the number of paths.
+///
+/// Each byte counts as it is acknowledged, and for each path as that tries it, and as it lets it go. So the number rises where a byte that a path might
+/// have taken is acknowledged, or granted to it or to another path (`rises`), and where a path gives back a byte (`returns`).
+pub fn each_byte_counts()
+    ensures octets { BookNewsNeverFalls octets }
+    ensures values { BookNewsNeverFalls values }
+    ensures rises_octets { EachByteCounts octets }
+    ensures rises { EachByteCounts values }
+    ensures returns_octets { WhatIsGivenBackCounts octets }
+    ensures returns { WhatIsGivenBackCounts values }
+    ensures bounded { BookNewsIsBounded }
+{}
+
+/// A law: in each round, in whatever order the actors go, where a path's turn is over, an end that may ask for bytes, with room in its window for a full
+/// segment, was granted what it might have taken as the round began, as far as the window reaches (RFC 8684, sections 3.3.5 and 3.3.8).
+///
+/// Of each byte that was free for the path as the round began: something became of it, or of another byte of the stream (`each_byte_counts`); or the byte
+/// isn't before the edge of the window as the round began, and the end knows that the window is shut; or the path was on standby when it asked last. It is
+/// said of a side that isn't stopped, and whose stream isn't given to one path alone.
+pub fn who_asks_is_refused()
+    ensures octets { WhoAsksIsRefused octets }
+    ensures values { WhoAsksIsRefused values }
+{}
+
+/// A law: where all turns of a round are over, a byte that isn't acknowledged is held, or may be taken, whichever path is asked (RFC 8684, section 3.3.6).
+///
+/// The path tried the byte, so that a piece that its end waits for has it; or another path holds it, and gives it back within a minute
+/// (`holders_let_go`); or the path may take it. So it is over any number of paths, whatever the links do.
+pub fn each_missing_byte_is_held()
+    ensures { EachMissingByteIsHeld }
+{}
