@@ -30,6 +30,11 @@ lost_early_never_falls start turns more =
     ≤ (if m then min (min (came_early start (turns ++ more)) (early values start (turns ++ more))) (segments_on start.paths start.file_a) else min (came_early start (turns ++ more)) (early values start (turns ++ more))))
     [ true ↦ omega (arith, came, records) | false ↦ omega (arith, came, records) ]
 
+-- none, where none came
+pub none_lost_early : (start : Start) (turns : List Turn) → came_early start turns ≡ 0 → lost_early start turns ≡ 0
+none_lost_early start turns none = elim (fits_first start) as (λ m. (if m then min (min (came_early start turns) (early values start turns)) (segments_on start.paths start.file_a) else min (came_early start turns) (early values start turns)) ≡ 0)
+    [ true ↦ omega (arith, none) | false ↦ omega (arith, none) ]
+
 -- no more than the file has segments, where it fits
 pub lost_early_fits : (start : Start) (turns : List Turn) → FitsFirstWindow start A → lost_early start turns ≤ segments_on start.paths start.file_a
 lost_early_fits start turns fits = by (fits_first start) fits_it

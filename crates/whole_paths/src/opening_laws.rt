@@ -69,8 +69,9 @@ pub fn paths_open_owing_records()
 /// send a DSS (RFC 8684, section 3.1).
 ///
 /// B's end has no key of A's then, and drops their payload. Until it has, each record of A's that was sent is under way, or was harmed, or a copy
-/// of it came (`loses`; `count`: how many came never falls). So no more is owed along either direction than that, nor more than A's end has records
-/// besides what was harmed (`owes`; `fewer`: that never falls).
+/// of it came (`loses`; `count`: how many came never falls; where A's timer runs out one of those before counts at most). So no more is owed along
+/// either direction than that; nor more, besides what was harmed, than A's end has records, or than A's file has full segments where that fits the
+/// first window (`owes`; `fewer`: that never falls).
 pub fn paths_open_owing_few()
     ensures loses { OpensLosingFew }
     ensures count { NeverFalls came_early }
@@ -86,8 +87,8 @@ pub fn what_fits_is_written_at_once()
     ensures octets { WhatFitsIsWrittenAtOnce octets }
 {}
 
-/// A law: on the only path of a mild connection each record of an end holds a full segment's payload, where its side's file fits the first window, but
-/// for the SYN, and one that reaches past all of the file.
+/// A law: on the only path of a mild connection each record of an end holds a full segment's payload, where its side's file fits the first window,
+/// but for the SYN, and one that reaches past all of the file.
 ///
 /// So it is as long as both ends live and the end sent no FIN (`full`). As the path opens nothing of A's file is acknowledged: so no more is owed
 /// along A's direction than that has full segments, and perhaps a shorter one (`owing`).
