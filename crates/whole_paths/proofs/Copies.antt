@@ -88,7 +88,7 @@ module _ {C : Type 0} where
   sent_there P strip alter B carried size now link h =
       still_there P A (next_number B link) (as_it_arrives strip alter B carried now link) (arrivals (fate_at B (next_number B link) size now link) (first_arrival B (next_number B link) size now link)) link.under_way h
 
-  without_first : (p : Flight C → Bool) (x : Flight C) (xs : List (Flight C)) → without (position p (x ∷ xs)) (x ∷ xs) ≡ (if p x then xs else x ∷ without (position p xs) xs)
+  pub without_first : (p : Flight C → Bool) (x : Flight C) (xs : List (Flight C)) → without (position p (x ∷ xs)) (x ∷ xs) ≡ (if p x then xs else x ∷ without (position p xs) xs)
   without_first p x xs = by (p x) (position_or_len p xs) (length xs)
     where
       place : Bool → ℕ → ℕ

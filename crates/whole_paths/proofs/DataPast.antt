@@ -47,18 +47,18 @@ use Rattle.whole_paths.proofs.WholePieces.{RecordsAreWhole, all_are_whole}
 
 -- ---- by a turn
 
-abbrev Same : PathState Carried → PathState Carried → Type 0
+abbrev pub Same : PathState Carried → PathState Carried → Type 0
 Same p q = (s : Side) → (end_at s q).tcp.send.nxt ≡ (end_at s p).tcp.send.nxt
 
-all_same : (p q : PathState Carried) → AllStay p q → Same p q
+pub all_same : (p q : PathState Carried) → AllStay p q → Same p q
 all_same p q h A = h.a
 all_same p q h B = h.b
 
-same_last : Lasts {C = Carried} Same
+pub same_last : Lasts {C = Carried} Same
 same_last = record { agenda = λ ds p s. refl; chains = λ p q r x y s. y s ∙ x s; passes = λ d p. all_same p (passed d p) (passed_next d p) }
 
 -- SND.NXT stays, or the end is past the handshake
-abbrev Pushes : Side → PathState Carried → PathState Carried → Type 0
+abbrev pub Pushes : Side → PathState Carried → PathState Carried → Type 0
 Pushes s p q = ((end_at s q).tcp.send.nxt ≡ (end_at s p).tcp.send.nxt) ⊎ (may_finish (end_at s p).tcp.state ≡ true)
 
 granted_row : (s t : Side) (r : Reply) (p : PathState Carried) → may_ask p.profile t (end_at t p) ≡ true → Pushes s p (answered_grant t (grant_in r) r p)
@@ -87,7 +87,7 @@ then_same : (s : Side) (p y q : PathState Carried) → Same y q → Pushes s p y
 then_same s p y q same (inl is) = inl (same s ∙ is)
 then_same s p y q same (inr past) = inr past
 
-takes_row : (r : Reply) (p : PathState Carried) → IsSettled p → (s : Side) → Pushes s p (takes values r p)
+pub takes_row : (r : Reply) (p : PathState Carried) → IsSettled p → (s : Side) → Pushes s p (takes values r p)
 takes_row r p settled s = by p.agenda settled
   where
     by : (ds : List Duty) → FirstStands ds (with_agenda ds p) → Pushes s (with_agenda ds p) (takes values r (with_agenda ds p))
@@ -96,7 +96,7 @@ takes_row r p settled s = by p.agenda settled
         let x : PathState Carried = with_agenda (d ∷ ds) p in let y : PathState Carried = answered values d r x in
         then_same s x y (takes values r x) (settled_lasts Same same_last y.agenda y) (duty_row s d r x stood)
 
-past_so : (state : EndPhase) → may_finish state ≡ true → 3 ≤ stage state
+pub past_so : (state : EndPhase) → may_finish state ≡ true → 3 ≤ stage state
 past_so phase.Established is = omega arith
 past_so phase.CloseWait is = omega arith
 past_so _ is = absurd (true≢false (sym is))

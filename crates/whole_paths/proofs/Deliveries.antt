@@ -24,7 +24,7 @@ use Rattle.whole_paths.proofs.GoesOn.{goes_on_so}
 -- ---- who is told the end
 
 -- no reader of such a connection is told an abort
-never_aborted : (start : Start) (turns : List Turn) → IsMildStart start → (s : Side) → was_told tells_abort (notes_of s (reached values start turns).crew) ≡ false
+pub never_aborted : (start : Start) (turns : List Turn) → IsMildStart start → (s : Side) → was_told tells_abort (notes_of s (reached values start turns).crew) ≡ false
 never_aborted start turns mild s = by (was_told tells_abort (notes_of s (reached values start turns).crew)) refl
   where
     by : (b : Bool) → was_told tells_abort (notes_of s (reached values start turns).crew) ≡ b → was_told tells_abort (notes_of s (reached values start turns).crew) ≡ false

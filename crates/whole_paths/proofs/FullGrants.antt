@@ -96,7 +96,7 @@ module _ (most : ℕ) (stands : Bool) (b : Sending) (span : Span) where
   passed_over true w r e = cc
   passed_over false w r e = e
 
-  first_is : (from : ℕ) → first_free 0 b ≡ Some from → from ≡ taken_len 0 b.marks
+  pub first_is : (from : ℕ) → first_free 0 b ≡ Some from → from ≡ taken_len 0 b.marks
   first_is from is = by (is_for 0 b.owner) is
     where
       found : (c : Bool) → (if c then Some (taken_len 0 b.marks) else None) ≡ Some from → from ≡ taken_len 0 b.marks
@@ -140,7 +140,7 @@ module _ (most : ℕ) (stands : Bool) (b : Sending) (span : Span) where
 
 -- ---- what a path sends stays as it passes duties
 
-abbrev SameSend : PathState Carried → PathState Carried → Type 0
+abbrev pub SameSend : PathState Carried → PathState Carried → Type 0
 SameSend p q = (s : Side) → (end_at s q).tcp.send ≡ (end_at s p).tcp.send
 
 by_both : (p q : PathState Carried) → (q.a.tcp.send ≡ p.a.tcp.send) × (q.b.tcp.send ≡ p.b.tcp.send) → SameSend p q
@@ -175,7 +175,7 @@ passed_send d p = by_both p (passed d p) (both_ends (λ e f. f.tcp.send ≡ e.tc
     (λ e f only. unwritten (writes d).own.send e.tcp.send f.tcp.send refl (ap (λ (v : EndView). v.send) only.same))
     (λ e f only. unwritten (writes d).other.send e.tcp.send f.tcp.send refl (ap (λ (v : EndView). v.send) only.same)) (passes_no_more d p))
 
-same_last : Lasts {C = Carried} SameSend
+pub same_last : Lasts {C = Carried} SameSend
 same_last = record { agenda = λ ds p s. refl; chains = λ p q r x y s. y s ∙ x s; passes = passed_send }
 
 -- ---- what a turn makes of SND.NXT
@@ -214,7 +214,7 @@ module _ (six : SixBooks) (p : PathState Carried) where
       by (Err why) is = let r : Reply = replies.Send (reply_by (Err why) six.send_b) in all_stay B (answered_grant B None r p) (refused_next B r p)
       by (Ok span) is = gives p.b.modes.standby span is (last_so (IsGrantOf p.b.tcp.send six.send_b span) p.b.tcp.send.records (record { pos = p.b.tcp.send.nxt; kind = Data; piece = part_of span six.send_b.written; mapping = mapping_of p.profile B span.from p.b.tcp.send.nxt (part_of span six.send_b.written); sending = never_sent }) (refl, refl, refl)) refl
 
-  other_next : (s : Side) (o : Option Record) (r : Reply) → (end_at s (answered_data values (peer s) o r p)).tcp.send.nxt ≡ (end_at s p).tcp.send.nxt
+  pub other_next : (s : Side) (o : Option Record) (r : Reply) → (end_at s (answered_data values (peer s) o r p)).tcp.send.nxt ≡ (end_at s p).tcp.send.nxt
   other_next A (Some u) r = refl
   other_next B (Some u) r = refl
   other_next A None r = elim (grant_in r) as (λ o. (answered_grant B o r p).a.tcp.send.nxt ≡ p.a.tcp.send.nxt) [ None ↦ refl | Some grant ↦ refl ]

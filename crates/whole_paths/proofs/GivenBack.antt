@@ -60,7 +60,7 @@ module _ {X : Type 0} (t : Option X → Bool) (never : t None ≡ false) where
   one_more false c keeps = omega arith
   one_more true false keeps = absurd (true≢false (sym (keeps refl)))
 
-  count_up : (xs ys : List X) → ((place : ℕ) → t (slice_get xs place) ≡ true → t (slice_get ys place) ≡ true) → count xs ≤ count ys
+  pub count_up : (xs ys : List X) → ((place : ℕ) → t (slice_get xs place) ≡ true → t (slice_get ys place) ≡ true) → count xs ≤ count ys
   count_up [] ys keeps = omega arith
   count_up (x ∷ xs) [] keeps =
       let rest = count_up xs [] (λ place. keeps (suc place)) in let first = one_more (t (Some x)) (t None) (keeps 0) in let none : cond {A = ℕ} (t None) 1 0 ≡ 0 = ap (λ b. cond {A = ℕ} b 1 0) never in
@@ -130,7 +130,7 @@ rightly_step call o q (returns asker m asks there is) h = ap rightly is ∙ righ
 abbrev pub AreRightly : SixBooks → Type 0
 AreRightly six = (s : Side) (place : ℕ) → rightly (slice_get (send_of s six).marks place) ≡ true
 
-ask_rightly : (x : Ask) (six : SixBooks) → AreRightly six → AreRightly (after_ask x six)
+pub ask_rightly : (x : Ask) (six : SixBooks) → AreRightly six → AreRightly (after_ask x six)
 ask_rightly x six h s place = ask_marks s place x six (λ o q. rightly o ≡ true → rightly q ≡ true) (λ o is. is) (λ call o q step is. rightly_step call o q step is) (h s place)
 
 -- ---- what is held is let go as it is given back

@@ -371,7 +371,7 @@ more_shown : (p : PathState Carried) → HasMore p → (1 < p.a.tcp.send.nxt) �
 more_shown p (inl more) = inl more
 more_shown p (inr clear) = inr (sure.clear clear)
 
-becomes_far : (p q : PathState Carried) → Becomes values p q → AllFar p q × (p.b.modes.clear ≡ true → q.b.modes.clear ≡ true)
+pub becomes_far : (p q : PathState Carried) → Becomes values p q → AllFar p q × (p.b.modes.clear ≡ true → q.b.modes.clear ≡ true)
 becomes_far p q Becomes.stays = (record { at = λ s. same_far (end_at s p) }, λ is. is)
 becomes_far p q (Becomes.takes_a_reply r) = (takes_far r p, (takes_clear values r p).b.0)
 becomes_far p q Becomes.begins_anew = (next_far p, (next_clear p).b.0)
@@ -427,12 +427,12 @@ module _ (start : Start) (plan : PathPlan) (one : start.paths ≡ plan ∷ []) (
     abbrev more : List Turn
     more = turns ++ turn ∷ []
 
-    record Turned : Type 0 where
-      steps : List Note
-      confirming : Confirming values steps p q
-      own_key : was_told tells_other_key steps ≡ false
+    pub record Turned : Type 0 where
+      pub steps : List Note
+      pub confirming : Confirming values steps p q
+      pub own_key : was_told tells_other_key steps ≡ false
 
-    turned : Turned
+    pub turned : Turned
     turned =
         let told = each_confirmation_counts values (reached values start turns) turn 2 here.crew here.there in
         let at : slice_get (reached values start more).crew 2 ≡ Some told.0 = subst (λ (u : WorldState Carried). slice_get u.crew 2 ≡ Some told.0) (sym (run_append values turns (turn ∷ []) (opened_world start))) told.1 in
@@ -443,10 +443,10 @@ module _ (start : Start) (plan : PathPlan) (one : start.paths ≡ plan ∷ []) (
           own_key = ap (λ o. was_told tells_other_key (notes_or o)) (sym at) ∙ keys_never_differ start more 2;
         }
 
-    far : AllFar p q × (p.b.modes.clear ≡ true → q.b.modes.clear ≡ true)
+    pub far : AllFar p q × (p.b.modes.clear ≡ true → q.b.modes.clear ≡ true)
     far = becomes_far p q becomes
 
-    was : IsAlive p
+    pub was : IsAlive p
     was = alive_before p q far.0 alive
 
     first : is_joined p.profile ≡ false
@@ -464,7 +464,7 @@ module _ (start : Start) (plan : PathPlan) (one : start.paths ≡ plan ∷ []) (
     never_reset (IsToReset.is_reset reason is) = unbroken.is_reset B reason is
     never_reset (IsToReset.stopped is) = unbroken.stopped B is
 
-    confirmed_then : ConfirmedOn B turned.steps q → IsConfirmed B q
+    pub confirmed_then : ConfirmedOn B turned.steps q → IsConfirmed B q
     confirmed_then (confirmed.on h) = h
     confirmed_then (confirmed.gone dead) = absurd (both_ways (is_dead q.b.tcp.state) (alive.living B) dead)
     confirmed_then (confirmed.reset is) = absurd (never_reset is)

@@ -75,6 +75,7 @@ pub mod Gaps
 pub mod GoesOn
 pub mod GoingOn
 pub mod Halting
+pub mod ShutEnds
 pub mod Harmed
 pub mod Hearing
 pub mod Hears
@@ -172,6 +173,8 @@ pub mod FilesFit
 pub mod AnswersAssure
 pub mod AsksOwed
 pub mod OfferedTaken
+pub mod SoundBooks
+pub mod ToldSince
 pub mod TurnsBegin
 pub mod ToldEdges
 pub mod WindowRounds
@@ -240,6 +243,10 @@ pub mod UnitRounds
 pub mod PatientPaths
 pub mod WindowKinds
 pub mod WindowsHeld
+pub mod CalmWindows
+pub mod BooksRead
+pub mod PathTurns
+pub mod ToldRounds
 pub mod QuietOpenings
 pub mod ShortWaits
 pub mod UnderWay
@@ -290,6 +297,7 @@ pub mod OpenQuietly
 pub mod Opened
 pub mod SignPieces
 pub mod EarlyRecords
+pub mod EarlyCopies
 pub mod ProbeWaits
 pub mod EachLane
 pub mod WindowStalls
@@ -299,3 +307,12 @@ pub mod Leaving
 pub mod Holding
 pub mod GivenBack
 pub mod HolderWaits
+pub mod BookNews
+pub mod ShutKnown
+pub mod Refused
+pub mod PlainQueues
+pub mod QuietTexts
+pub mod FewTexts
+pub mod BriefRuns
+pub mod FirstMissing
+pub mod GrantReasons

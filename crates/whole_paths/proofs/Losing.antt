@@ -74,7 +74,7 @@ module _ (s : Side) (r t : Record) (same : IsSameRecord r t) (p : PathState Carr
     unaltered = h.unaltered;
   })
 
-  comes_so : (first later : ℕ) → first ≤ later → ComesBy s r first p → ComesBy s t later p
+  pub comes_so : (first later : ℕ) → first ≤ later → ComesBy s r first p → ComesBy s t later p
   comes_so first later low h = record {
     copy = h.copy;
     there = h.there;
@@ -106,22 +106,22 @@ both_so None P Q each one = absurd one
 both_so (Some x) P Q each one = (x, each, one)
 
 -- where a segment is harmed the record that it is of may be lost
-abbrev lost_then : {X : Type 0} → (X → ℕ) → Bool → Option X → List ℕ → List ℕ
+abbrev pub lost_then : {X : Type 0} → (X → ℕ) → Bool → Option X → List ℕ → List ℕ
 lost_then at false o lost = lost
 lost_then at true None lost = lost
 lost_then at true (Some x) lost = at x ∷ lost
 
-few_lost : {X : Type 0} (at : X → ℕ) (b : Bool) (o : Option X) (lost : List ℕ) → length (lost_then at b o lost) ≤ length lost + one_if b
+pub few_lost : {X : Type 0} (at : X → ℕ) (b : Bool) (o : Option X) (lost : List ℕ) → length (lost_then at b o lost) ≤ length lost + one_if b
 few_lost at false o lost = omega arith
 few_lost at true None lost = omega arith
 few_lost at true (Some x) lost = omega arith
 
-still_lost : {X : Type 0} (at : X → ℕ) (b : Bool) (o : Option X) (lost : List ℕ) (n : ℕ) → Has (λ m. m ≡ n) lost → Has (λ m. m ≡ n) (lost_then at b o lost)
+pub still_lost : {X : Type 0} (at : X → ℕ) (b : Bool) (o : Option X) (lost : List ℕ) (n : ℕ) → Has (λ m. m ≡ n) lost → Has (λ m. m ≡ n) (lost_then at b o lost)
 still_lost at false o lost n h = h
 still_lost at true None lost n h = h
 still_lost at true (Some x) lost n h = record { at = suc h.at; item = h.item; there = h.there; holds = h.holds }
 
-lost_here : {X : Type 0} (at : X → ℕ) (o : Option X) (lost : List ℕ) (n : ℕ) (Q : X → Type 0) → ((x : X) → Q x → at x ≡ n) → IsOneSo o Q → Has (λ m. m ≡ n) (lost_then at true o lost)
+pub lost_here : {X : Type 0} (at : X → ℕ) (o : Option X) (lost : List ℕ) (n : ℕ) (Q : X → Type 0) → ((x : X) → Q x → at x ≡ n) → IsOneSo o Q → Has (λ m. m ≡ n) (lost_then at true o lost)
 lost_here at None lost n Q is one = absurd one
 lost_here at (Some x) lost n Q is one = record { at = 0; item = at x; there = refl; holds = is x one }
 
@@ -214,7 +214,7 @@ module _ (s : Side) (p q : PathState Carried) (records : RecordsStayWell s p q) 
 
 -- ---- a turn of a connection
 
-living_low : (state : EndPhase) → is_dead state ≡ false → stage state ≤ 6
+pub living_low : (state : EndPhase) → is_dead state ≡ false → stage state ≤ 6
 living_low phase.Dead living = absurd (true≢false living)
 living_low _ living = omega arith
 

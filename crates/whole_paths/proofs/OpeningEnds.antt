@@ -72,7 +72,7 @@ far_state : (s : Side) (p q : PathState Carried) → IsPathAsFar p q → stage (
 far_state A p q far = far.a.subflow.state
 far_state B p q far = far.b.subflow.state
 
-died_stays : (w : WorldState Carried) (more : List Turn) → AnEndDied 0 w → AnEndDied 0 (world_run values more w)
+pub died_stays : (w : WorldState Carried) (more : List Turn) → AnEndDied 0 w → AnEndDied 0 (world_run values more w)
 died_stays w more died =
     let later = later_path w more died.path died.here in
     record { path = later.path; here = later.here; side = died.side; dead = dead_up (end_at died.side died.path).tcp.state (end_at died.side later.path).tcp.state died.dead (far_state died.side died.path later.path later.far) }

@@ -40,7 +40,7 @@ use Rattle.whole_paths.proofs.Saying.{ToSend}
 
 module _ (c : Profile) (s : Side) (e : PathEnd) (key : ℕ) (own : s ≡ A) (known : e.modes.peer_key ≡ Some key) (unclear : e.modes.clear ≡ false) (mapped : e.modes.identity ≡ false)
     (answered : e.modes.owes_third ≡ false) where
-  ack_options_are : (fin : Option ℕ) → ack_options c s fin e ≡ key_options c A (Some key) e
+  pub ack_options_are : (fin : Option ℕ) → ack_options c s fin e ≡ key_options c A (Some key) e
   ack_options_are fin =
       ap (λ b. if b then [] else (if e.modes.clear then Dss (Some e.receiving.next) (data_fin_mapping c s fin) ∷ fail_beside fin e.modes else opening_options c s e)) mapped
       ∙ ap (λ b. if b then Dss (Some e.receiving.next) (data_fin_mapping c s fin) ∷ fail_beside fin e.modes else opening_options c s e) unclear

@@ -229,7 +229,7 @@ module _ (start : Start) (mild : IsMildStart start) (turns : List Turn) (turn : 
 
     module _ (s : Side) (past : 3 ≤ stage (end_at s p).tcp.state) (living : is_dead (end_at s p).tcp.state ≡ false) (keyed : is_some p.a.modes.peer_key ≡ true) where
       abbrev Goes : Record → Type 0
-      Goes u = WasSent (end_at s p) u ⊎ ((is_harmed s p q ≡ true) ⊎ IsThereBy s u (p.clock + 400) q)
+      Goes u = WasSent (end_at s p) u ⊎ ((is_harmed s p q ≡ true) ⊎ ComesBy s u (p.clock + 400) q)
 
       begun : EndsAreBegun p
       begun = holds_p EndsAreBegun (each_is_begun values start turns).each
@@ -299,7 +299,7 @@ module _ (start : Start) (mild : IsMildStart start) (turns : List Turn) (turn : 
       by_marks : (u : Record) → IsRecordOf (end_at s q) u → u.kind ≡ Data → Marks values s u p q.link → Goes u
       by_marks u is_one kind (marked.before h) = inl h
       by_marks u is_one kind (marked.now x of_it says taken) = inr (⊎_elim (λ harmed. inl harmed)
-          (λ h. inr (by_then.comes (sent_now u is_one kind x of_it says h)))
+          (λ h. inr (sent_now u is_one kind x of_it says h))
           (segments_come_soon values p q (numbered_so p known.link) s x (before.few s) taken))
 
       pub goes_so : (u : Record) → IsRecordOf (end_at s q) u → u.kind ≡ Data → u.sending.unsent ≡ false → Goes u
@@ -466,7 +466,8 @@ module _ (start : Start) (mild : IsMildStart start) (turns : List Turn) (turn : 
       Sent u = WasSent (end_at s p) u ⊎ ((is_harmed s p q ≡ true) ⊎ IsThereBy s u (p.clock + 400) q)
 
       sent_so : (u : Record) → IsRecordOf (end_at s q) u → u.kind ≡ Data → u.sending.unsent ≡ false → Sent u
-      sent_so u h kind sent = goes_so s (open_p.past s) (open_p.living s) open_p.keyed u h kind sent
+      sent_so u h kind sent = ⊎_elim (λ was. inl was) (λ now. inr (⊎_elim (λ harmed. inl harmed) (λ on. inr (by_then.comes on)) now))
+          (goes_so s (open_p.past s) (open_p.living s) open_p.keyed u h kind sent)
 
       later_there : (u : Record) → IsThereBy s u (p.clock + 400) q → IsThereBy s u (q.clock + 400) q
       later_there u (by_then.there h) = by_then.there h

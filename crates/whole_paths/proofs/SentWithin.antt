@@ -45,10 +45,15 @@ use Rattle.whole_paths.proofs.Staying.{inside}
 abbrev pub EndsWithin : ℕ → PlainSegment → Type 0
 EndsWithin nxt x = 0 < length x.payload + one_if x.fin → x.position + length x.payload + one_if x.fin ≤ nxt
 
+-- the segment has no octet and no FIN, where SND.NXT is at most just behind the SYN
+abbrev pub IsBareBefore : ℕ → PlainSegment → Type 0
+IsBareBefore nxt x = nxt ≤ 1 → length x.payload + one_if x.fin ≡ 0
+
 pub record SentWithin (p : PathState Carried) : Type 0 where
   pub kept : (s : Side) (pos octet : ℕ) → octet_at pos (end_at s p).tcp.recv ≡ Some octet → pos < (end_at (peer s) p).tcp.send.nxt
   pub held : (s : Side) (pos octet : ℕ) → octet_at pos (after_keep_held (end_at s p).tcp.recv) ≡ Some octet → (pos < (end_at (peer s) p).tcp.send.nxt) ⊎ (is_fin_passed (end_at s p).tcp ≡ true)
   pub copies : Every (λ (f : Flight Carried). EndsWithin (end_at (peer f.to) p).tcp.send.nxt f.carried.segment) p.link.under_way
+  pub bare : Every (λ (f : Flight Carried). IsBareBefore (end_at (peer f.to) p).tcp.send.nxt f.carried.segment) p.link.under_way
 
 -- ---- octets by position
 
@@ -120,6 +125,22 @@ module _ (path : ℕ) (v : View) (out : Lane) (holds : LaneHolds v path out) (fi
           let fin = shows.fin is in let len = ap (λ (xs : List ℕ). length xs) fin.0 in let one = ap one_if is in
           let last = fin_last path v finished nxt heard granted out.sent out.fins out.pair sent holds.fins x.position fin.1 in omega (arith, len, one, last)
 
+  segment_bare : (c : Profile) (s : Side) (acks : List AckCopy) (x : PlainSegment) → SegmentShows c s acks out x → IsBareBefore nxt x
+  segment_bare c s acks x shows few = by x.fin refl
+    where
+      no_fin : x.fin ≡ false → length x.payload + one_if x.fin ≡ 0
+      no_fin is = ⊎_elim
+          (λ none. (let len = ap (λ (xs : List ℕ). length xs) none in let zeroth = ap one_if is in omega (arith, len, zeroth)))
+          (λ has. (let within = (holds.bytes.honest.each has.at has.item has.there).within in let size = ap (λ (xs : List ℕ). length xs) has.holds.octets_are in
+          let most = bytes_low in let zeroth = ap one_if is in omega (arith, within, size, most, few, zeroth)))
+          shows.payload
+
+      by : (b : Bool) → x.fin ≡ b → length x.payload + one_if x.fin ≡ 0
+      by false is = no_fin is
+      by true is =
+          let fin = (shows.fin is).1 in let place = fin.holds in let behind = fin_last path v finished nxt heard granted out.sent out.fins out.pair sent holds.fins x.position fin in
+          absurd (omega (arith, place, behind, few))
+
   module _ (recv : Receiving) (fin_at : Option ℕ) where
     kept_low : IsAtEdge recv out ⊎ IsPastFin fin_at recv out → (pos octet : ℕ) → octet_at pos recv ≡ Some octet → pos < nxt
     kept_low (inl at) pos octet is =
@@ -143,7 +164,7 @@ module _ (path : ℕ) (v : View) (out : Lane) (holds : LaneHolds v path out) (fi
         by (Some held) h is = held_so held h is
 
 path_within : (path : ℕ) (v u : View) (c : Profile) (p : PathState Carried) (ab ba : Lane) → PathShows c p ab ba → LaneHolds v path ab → LaneHolds u path ba → SentWithin p
-path_within path v u c p ab ba shows ab_holds ba_holds = record { kept = kept; held = held; copies = record { each = λ i f at. copy f.to f.carried.segment (shows.copies.each i f at) } }
+path_within path v u c p ab ba shows ab_holds ba_holds = record { kept = kept; held = held; copies = record { each = λ i f at. copy f.to f.carried.segment (shows.copies.each i f at) }; bare = record { each = λ i f at. empty f.to f.carried.segment (shows.copies.each i f at) } }
   where
     kept : (s : Side) (pos octet : ℕ) → octet_at pos (end_at s p).tcp.recv ≡ Some octet → pos < (end_at (peer s) p).tcp.send.nxt
     kept A = kept_low path u ba ba_holds p.b.tcp.send.finished p.b.tcp.send.nxt p.b.sending.heard p.b.sending.granted shows.b.sender.sent p.a.tcp.recv p.a.tcp.fin_at shows.a.receiver.edge
@@ -156,6 +177,10 @@ path_within path v u c p ab ba shows ab_holds ba_holds = record { kept = kept; h
     copy : (to : Side) (x : PlainSegment) → FlightShows c ab ba to x → EndsWithin (end_at (peer to) p).tcp.send.nxt x
     copy A x h = segment_low path u ba ba_holds p.b.tcp.send.finished p.b.tcp.send.nxt p.b.sending.heard p.b.sending.granted shows.b.sender.sent c B ab.acks x h
     copy B x h = segment_low path v ab ab_holds p.a.tcp.send.finished p.a.tcp.send.nxt p.a.sending.heard p.a.sending.granted shows.a.sender.sent c A ba.acks x h
+
+    empty : (to : Side) (x : PlainSegment) → FlightShows c ab ba to x → IsBareBefore (end_at (peer to) p).tcp.send.nxt x
+    empty A x h = segment_bare path u ba ba_holds p.b.tcp.send.finished p.b.tcp.send.nxt p.b.sending.heard p.b.sending.granted shows.b.sender.sent c B ab.acks x h
+    empty B x h = segment_bare path v ab ab_holds p.a.tcp.send.finished p.a.tcp.send.nxt p.a.sending.heard p.a.sending.granted shows.a.sender.sent c A ba.acks x h
 
 -- on each path
 pub record AllSentWithin (w : WorldState Carried) : Type 0 where

@@ -77,9 +77,12 @@ Patience = Script → PathLine → List ℕ → List ℕ → ℕ → ℕ
 -- 10,800 rounds, 23 for each full segment of either file, and 3,150 for each segment that is harmed. A harm may cost a wait for a timer of 60,000
 -- ticks as the path opens, and four afterwards, with what is sent behind them. Of the 10,800 rounds 3,055 are for the opening, and 7,590 for three
 -- such harms, though no segment is harmed: the end of a stream may be overtaken by its last bytes, and what is told as the path opens may not be heard.
+abbrev pub patient_rounds : ℕ → ℕ → ℕ → ℕ → ℕ
+patient_rounds mss length_a length_b harmed = 10800 + 23 * (segments mss length_a + segments mss length_b) + 3150 * harmed
+
+-- of a script by its path
 abbrev pub patience : Patience
-patience script path file_a file_b harmed =
-    10800 + 23 * (segments path.mss (length file_a) + segments path.mss (length file_b)) + 3150 * harmed
+patience script path file_a file_b harmed = patient_rounds path.mss (length file_a) (length file_b) harmed
 
 -- how many rounds end by these turns
 abbrev pub rounds_in : List Turn → ℕ

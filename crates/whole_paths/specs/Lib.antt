@@ -152,6 +152,9 @@ pub mod ToldStays
 pub mod PatientPaths
 pub mod WindowKinds
 pub mod WindowsHeld
+pub mod CalmWindows
+pub mod ToldRounds
+pub mod ToldSince
 pub mod QuietOpenings
 pub mod ShortWaits
 pub mod Rising
@@ -174,8 +177,14 @@ pub mod AnswersSoon
 pub mod Opened
 pub mod SignPieces
 pub mod EarlyRecords
+pub mod EarlyCopies
 pub mod ProbeWaits
 pub mod WindowStalls
 pub mod Holders
 pub mod GivenBack
 pub mod HolderWaits
+pub mod BookNews
+pub mod Refusals
+pub mod QuietTexts
+pub mod FewTexts
+pub mod FirstMissing

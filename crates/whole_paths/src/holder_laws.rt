@@ -3,9 +3,12 @@ ghost use Rattle.path_core.specs.Octets.{octets};
 ghost use Rattle.path_core.specs.Values.{values};
 ghost use Rattle.world_laws.specs.Laws.{Always};
 ghost use Rattle.world_laws.specs.Promises.{HoldsAnyway, HoldsAnywayOfOctets};
+ghost use Rattle.whole_paths.specs.BookNews.{BookNewsIsBounded, BookNewsNeverFalls, EachByteCounts, WhatIsGivenBackCounts};
+ghost use Rattle.whole_paths.specs.FirstMissing.{EachMissingByteIsHeld};
 ghost use Rattle.whole_paths.specs.GivenBack.{EachReturnCounts, GivenBackIsBounded, GivenBackNeverFalls};
 ghost use Rattle.whole_paths.specs.HolderWaits.{HoldersLetGo};
 ghost use Rattle.whole_paths.specs.Holders.{HoldersLive, WhatIsTriedIsAwaited};
+ghost use Rattle.whole_paths.specs.Refusals.{WhoAsksIsRefused};
 
 /// A law: a byte that a path tried and that isn't acknowledged stands in a piece that the path's end waits for, whatever the links do, over any number of
 /// paths (RFC 8684, section 3.3.6).
@@ -44,4 +47,37 @@ pub fn what_is_given_back_counts()
 /// does.
 pub fn holders_let_go()
     ensures { HoldersLetGo }
+{}
+
+/// A law: how far the bytes of a side's stream are, as one number, never falls by any turns, and is bounded by the side's file and the number of paths.
+///
+/// Each byte counts as it is acknowledged, and for each path as that tries it, and as it lets it go. So the number rises where a byte that a path might
+/// have taken is acknowledged, or granted to it or to another path (`rises`), and where a path gives back a byte (`returns`).
+pub fn each_byte_counts()
+    ensures octets { BookNewsNeverFalls octets }
+    ensures values { BookNewsNeverFalls values }
+    ensures rises_octets { EachByteCounts octets }
+    ensures rises { EachByteCounts values }
+    ensures returns_octets { WhatIsGivenBackCounts octets }
+    ensures returns { WhatIsGivenBackCounts values }
+    ensures bounded { BookNewsIsBounded }
+{}
+
+/// A law: in each round, in whatever order the actors go, where a path's turn is over, an end that may ask for bytes, with room in its window for a full
+/// segment, was granted what it might have taken as the round began, as far as the window reaches (RFC 8684, sections 3.3.5 and 3.3.8).
+///
+/// Of each byte that was free for the path as the round began: something became of it, or of another byte of the stream (`each_byte_counts`); or the byte
+/// isn't before the edge of the window as the round began, and the end knows that the window is shut; or the path was on standby when it asked last. It is
+/// said of a side that isn't stopped, and whose stream isn't given to one path alone.
+pub fn who_asks_is_refused()
+    ensures octets { WhoAsksIsRefused octets }
+    ensures values { WhoAsksIsRefused values }
+{}
+
+/// A law: where all turns of a round are over, a byte that isn't acknowledged is held, or may be taken, whichever path is asked (RFC 8684, section 3.3.6).
+///
+/// The path tried the byte, so that a piece that its end waits for has it; or another path holds it, and gives it back within a minute
+/// (`holders_let_go`); or the path may take it. So it is over any number of paths, whatever the links do.
+pub fn each_missing_byte_is_held()
+    ensures { EachMissingByteIsHeld }
 {}

@@ -3,8 +3,12 @@ ghost use Rattle.whole_paths.specs.AnswersSoon.{EachSynAckIsAnsweredSoon};
 ghost use Rattle.whole_paths.specs.Clear.{AHasTheKeyFirst};
 ghost use Rattle.path_core.specs.Octets.{octets};
 ghost use Rattle.path_core.specs.Values.{values};
+ghost use Rattle.whole_paths.specs.EarlyCopies.{OpensLosingFew, came_early};
 ghost use Rattle.whole_paths.specs.EarlyRecords.{EarlyNeverFalls, EarlyOverOctets, OpensOwingRecords};
 ghost use Rattle.whole_paths.specs.FirstPiecesSoon.{EachFirstPieceComesSoon};
+ghost use Rattle.whole_paths.specs.OnePathScripts.{NeverFalls};
+ghost use Rattle.whole_paths.specs.QuietOpenings.{OpensOwingFew, lost_early};
+ghost use Rattle.whole_paths.specs.QuietTexts.{NothingComesEarlyByText};
 ghost use Rattle.whole_paths.specs.SignPieces.{EachSignPieceComes};
 ghost use Rattle.whole_paths.specs.SynsSoon.{EachSynComesSoon};
 
@@ -57,4 +61,26 @@ pub fn paths_open_owing_records()
     ensures early_values { EarlyNeverFalls values }
     ensures early_octets { EarlyNeverFalls octets }
     ensures over_octets { EarlyOverOctets }
+{}
+
+/// A law: as path 0 opens no more of A's records may be lost than segments were harmed, and copies with octets came to B's end before that might
+/// send a DSS (RFC 8684, section 3.1).
+///
+/// B's end has no key of A's then, and drops their payload. Until it has, each record of A's that was sent is under way, or was harmed, or a copy
+/// of it came (`loses`; `count`: how many came never falls). So no more is owed along either direction than that, nor more than A's end has records
+/// besides what was harmed (`owes`; `fewer`: that never falls).
+pub fn paths_open_owing_few()
+    ensures loses { OpensLosingFew }
+    ensures count { NeverFalls came_early }
+    ensures owes { OpensOwingFew }
+    ensures fewer { NeverFalls lost_early }
+{}
+
+/// A law: where no line of the script moves a segment of A's, none with octets comes to B's end before that may send a DSS, over the only path of a
+/// mild connection (RFC 8684, section 3.1).
+///
+/// A's copies come in the order in which they were sent. The first one that acknowledges B's SYN has no octet, and shows both keys. It is said of fewer
+/// than 2^64 - 1 turns by which no end died, over a path of 400 ticks at most.
+pub fn nothing_comes_early_by_text()
+    ensures { NothingComesEarlyByText }
 {}

@@ -1,0 +1,115 @@
+-- Where a script's text tells that few segments are lost, and none of A's, both files are delivered in time; until then the connection goes on.
+use Rattle.std.proofs.Common.{◌≡◌, refl, subst, ap, ◌∙◌, ◌⊎◌, inl, inr, ℕ, zero, suc, ◌≤◌, arith, Bool, true, false, ◌&&◌, List, [], ◌∷◌, Some}
+use Rattle.std.specs.Prelude.{All}
+use Rattle.std.specs.List.{slice_get}
+use Rattle.std.proofs.lemmas.List.Elements.{All-head}
+use Rattle.std.proofs.lemmas.Option.{same_Some}
+use Rattle.sides.specs.declared.side.Side.TheVariants.{A, B}
+use Rattle.link_script.specs.Scripts.{IsPath}
+use Rattle.link_script.specs.declared.script.PathLine.{PathLine}
+use Rattle.link_script.specs.declared.script.Script.{Script}
+use Rattle.subflow_tcp.specs.States.{is_dead}
+use Rattle.path_core.specs.Events.{is_dead_or_listening}
+use Rattle.path_core.specs.Octets.{octets}
+use Rattle.path_core.specs.Start.{waiting_path}
+use Rattle.path_core.specs.Steps.{begins_turn}
+use Rattle.path_core.specs.Values.{Carried, values}
+use Rattle.world_laws.specs.declared.outcome.Outcome.TheVariants.{Delivered, Going}
+use Rattle.world_laws.specs.Actors.{ActorCrew}
+use Rattle.world_laws.specs.Openings.{PathPlan, Start, opened_world, path_begins, plan_of, start_of}
+use Rattle.world_laws.specs.Outcomes.{are_all_dead, is_no_live_path, notes_of, outcome_by, outcome_of, tells_abort, tells_end, was_told}
+use Rattle.world_laws.specs.RoundDone.{reached}
+use Rattle.world_laws.specs.Worlds.{Turn, AreLawful}
+use Rattle.whole_paths.specs.FewTexts.{FewTextsFinish, FewTextsGoOn, LosesFew}
+use Rattle.whole_paths.specs.Finish.{AnEndDied, IsBrief, harmed, harms_to, opened, patience, rounds_in}
+use Rattle.whole_paths.specs.OnePathScripts.{BeginsWithOnePath}
+use Rattle.whole_paths.specs.QuietOpenings.{lost_early}
+use Rattle.whole_paths.proofs.AckedData.{opened_here}
+use Rattle.whole_paths.proofs.Deliveries.{never_aborted}
+use Rattle.whole_paths.proofs.FewLossesDeliver.{few_losses_end_none}
+use Rattle.whole_paths.proofs.Harmed.{harms_use_lines}
+use Rattle.whole_paths.proofs.OnePathScripts.{mild_scripts_begin_with_one_path}
+use Rattle.whole_paths.proofs.OpeningEnds.{LaterPath, later_path}
+use Rattle.whole_paths.proofs.OverOctets.{as_far}
+use Rattle.whole_paths.proofs.PatientPaths.{few_losses_finish_patiently_in_octets}
+use Rattle.whole_paths.proofs.QuietTexts.{nothing_comes_early_by_text}
+
+-- a path lives
+lives : (crew : List (ActorCrew Carried)) (i : ℕ) (c : ActorCrew Carried) → slice_get crew i ≡ Some c → is_no_live_path c.member ≡ false → are_all_dead crew ≡ false
+lives [] i c there alive = cc
+lives (d ∷ crew) zero c there alive = ap (λ b. b && are_all_dead crew) (ap (λ (e : ActorCrew Carried). is_no_live_path e.member) (same_Some d c there) ∙ alive)
+lives (d ∷ crew) (suc i) c there alive = ap (λ b. is_no_live_path d.member && b) (lives crew i c there alive) ∙ never (is_no_live_path d.member)
+  where
+    never : (b : Bool) → b && false ≡ false
+    never true = refl
+    never false = refl
+
+module _ (script : Script) (path : PathLine) (file_a file_b : List ℕ) (turns : List Turn) (h : LosesFew script path file_a file_b) (brief : IsBrief script turns) where
+  abbrev start : Start
+  start = start_of script file_a file_b
+
+  abbrev plan : PathPlan
+  plan = plan_of script 0 path
+
+  one : BeginsWithOnePath start plan
+  one = mild_scripts_begin_with_one_path script path file_a file_b h.mild
+
+  uses : harmed octets 0 turns (opened script file_a file_b) ≤ harms_to 0 script
+  uses = harms_use_lines script file_a file_b 0 turns h.mild.ranges h.directions
+
+  few_values : harmed values 0 turns (opened script file_a file_b) ≤ 4
+  few_values = let same = (as_far script path file_a file_b h.mild turns).harms 0 in let low = uses in let most = h.few in omega (arith, same, low, most)
+
+  living : AnEndDied 0 (reached values start turns) → ⊥
+  living died = few_losses_end_none script path file_a file_b turns h.mild brief h.harmless few_values died
+
+  short : plan.delay ≤ 400
+  short = let most = (All-head IsPath path [] (subst (λ (ps : List PathLine). All IsPath ps) h.mild.one h.mild.ranges.paths)).delay.most in omega (arith, most)
+
+  none_early : lost_early start turns ≡ 0
+  none_early = nothing_comes_early_by_text start plan turns one short h.none_of_a brief.few living
+
+  finishes : AreLawful octets turns (opened script file_a file_b) → patience script path file_a file_b (harms_to 0 script) ≤ rounds_in turns
+      → outcome_of (reached octets start turns).crew ≡ Delivered
+  finishes lawful many = few_losses_finish_patiently_in_octets script path file_a file_b turns h.mild brief h.harmless (let low = uses in let most = h.few in omega (arith, low, most)) lawful
+      (let none = none_early in let low = uses in omega (arith, none, low, many))
+
+  -- ---- until then
+
+  last_path : LaterPath (opened_world start) (reached values start turns) (begins_turn (waiting_path (path_begins start 0 plan) start.lines))
+  last_path = later_path (opened_world start) turns (begins_turn (waiting_path (path_begins start 0 plan) start.lines)) (opened_here start plan one)
+
+  none_dead : are_all_dead (reached values start turns).crew ≡ false
+  none_dead = lives (reached values start turns).crew 2 last_path.here.crew last_path.here.there (ap is_no_live_path last_path.here.is ∙ ap (λ b. b && is_dead_or_listening last_path.path.b.tcp.state) a_lives)
+    where
+      a_lives : is_dead last_path.path.a.tcp.state ≡ false
+      a_lives = by (is_dead last_path.path.a.tcp.state) refl
+        where
+          by : (b : Bool) → is_dead last_path.path.a.tcp.state ≡ b → is_dead last_path.path.a.tcp.state ≡ false
+          by false is = is
+          by true is = absurd (living (record { path = last_path.path; here = last_path.here; side = A; dead = is }))
+
+  goes_on : (outcome_of (reached octets start turns).crew ≡ Going) ⊎ (outcome_of (reached octets start turns).crew ≡ Delivered)
+  goes_on = by told refl
+    where
+      crew : List (ActorCrew Carried)
+      crew = (reached values start turns).crew
+
+      told : Bool
+      told = was_told tells_end (notes_of A crew) && was_told tells_end (notes_of B crew)
+
+      is : outcome_of (reached octets start turns).crew ≡ outcome_by false false told false
+      is = (as_far script path file_a file_b h.mild turns).outcome
+          ∙ ap (λ b. outcome_by b (was_told tells_abort (notes_of B crew)) told (are_all_dead crew)) (never_aborted start turns one.mild A)
+          ∙ ap (λ b. outcome_by false b told (are_all_dead crew)) (never_aborted start turns one.mild B)
+          ∙ ap (λ b. outcome_by false false told b) none_dead
+
+      by : (b : Bool) → told ≡ b → (outcome_of (reached octets start turns).crew ≡ Going) ⊎ (outcome_of (reached octets start turns).crew ≡ Delivered)
+      by true all = inr (is ∙ ap (λ b. outcome_by false false b false) all)
+      by false missing = inl (is ∙ ap (λ b. outcome_by false false b false) missing)
+
+pub few_texts_finish : FewTextsFinish
+few_texts_finish script path file_a file_b turns h brief lawful many = finishes script path file_a file_b turns h brief lawful many
+
+pub few_texts_go_on : FewTextsGoOn
+few_texts_go_on script path file_a file_b turns h brief lawful = goes_on script path file_a file_b turns h brief
