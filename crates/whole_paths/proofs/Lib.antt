@@ -315,3 +315,4 @@ pub mod FewTexts
 pub mod BriefRuns
 pub mod FirstMissing
 pub mod GrantReasons
+pub mod MissingBytes

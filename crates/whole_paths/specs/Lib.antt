@@ -187,3 +187,4 @@ pub mod Refusals
 pub mod QuietTexts
 pub mod FewTexts
 pub mod FirstMissing
+pub mod MissingBytes

@@ -8,6 +8,7 @@ ghost use Rattle.whole_paths.specs.FirstMissing.{EachMissingByteIsHeld};
 ghost use Rattle.whole_paths.specs.GivenBack.{EachReturnCounts, GivenBackIsBounded, GivenBackNeverFalls};
 ghost use Rattle.whole_paths.specs.HolderWaits.{HoldersLetGo};
 ghost use Rattle.whole_paths.specs.Holders.{HoldersLive, WhatIsTriedIsAwaited};
+ghost use Rattle.whole_paths.specs.MissingBytes.{WhatIsMissingIsAwaited};
 ghost use Rattle.whole_paths.specs.Refusals.{WhoAsksIsRefused};
 
 /// A law: a byte that a path tried and that isn't acknowledged stands in a piece that the path's end waits for, whatever the links do, over any number of
@@ -80,4 +81,14 @@ pub fn who_asks_is_refused()
 /// (`holders_let_go`); or the path may take it. So it is over any number of paths, whatever the links do.
 pub fn each_missing_byte_is_held()
     ensures { EachMissingByteIsHeld }
+{}
+
+/// A law: as a round of a mild connection is over, a byte that was written as it began and isn't acknowledged is waited for, whichever path is asked that
+/// may ask for bytes (RFC 8684, sections 3.3.5, 3.3.6 and 3.3.8).
+///
+/// The path's end waits for a piece that has the byte; or another path holds it, and gives it back within a minute (`holders_let_go`); or the end knows that
+/// the window is shut, which didn't reach past the byte as the round began; or something became of a byte of the stream in the round
+/// (`each_byte_counts`). Or the path was on standby when it asked last.
+pub fn what_is_missing_is_awaited()
+    ensures { WhatIsMissingIsAwaited }
 {}

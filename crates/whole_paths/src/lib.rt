@@ -66,7 +66,7 @@ pub use expiry_laws::{
 };
 pub use holder_laws::{
     each_byte_counts, each_missing_byte_is_held, holders_let_go, holders_live, what_is_given_back_counts,
-    what_is_tried_is_awaited, who_asks_is_refused,
+    what_is_missing_is_awaited, what_is_tried_is_awaited, who_asks_is_refused,
 };
 pub use laws::{
     a_copy_leaves_by_arriving, clear_ends_are_past, copies_arrive_as_sent,
