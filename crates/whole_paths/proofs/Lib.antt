@@ -316,3 +316,4 @@ pub mod BriefRuns
 pub mod FirstMissing
 pub mod GrantReasons
 pub mod MissingBytes
+pub mod ReturnWaits

@@ -188,3 +188,4 @@ pub mod QuietTexts
 pub mod FewTexts
 pub mod FirstMissing
 pub mod MissingBytes
+pub mod ReturnWaits

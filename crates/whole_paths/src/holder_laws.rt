@@ -10,6 +10,7 @@ ghost use Rattle.whole_paths.specs.HolderWaits.{HoldersLetGo};
 ghost use Rattle.whole_paths.specs.Holders.{HoldersLive, WhatIsTriedIsAwaited};
 ghost use Rattle.whole_paths.specs.MissingBytes.{WhatIsMissingIsAwaited};
 ghost use Rattle.whole_paths.specs.Refusals.{WhoAsksIsRefused};
+ghost use Rattle.whole_paths.specs.ReturnWaits.{AllNewsIsBounded, ReturnsAreAwaitedAlways};
 
 /// A law: a byte that a path tried and that isn't acknowledged stands in a piece that the path's end waits for, whatever the links do, over any number of
 /// paths (RFC 8684, section 3.3.6).
@@ -91,4 +92,14 @@ pub fn each_missing_byte_is_held()
 /// (`each_byte_counts`). Or the path was on standby when it asked last.
 pub fn what_is_missing_is_awaited()
     ensures { WhatIsMissingIsAwaited }
+{}
+
+/// A law: how far a connection over any number of paths is, as one number, never falls, and is bounded by files, buffers, paths and lines; and a wait for
+/// a byte that another path holds ends with news.
+///
+/// The number is that of `news_never_falls` and, of both streams, that of `each_byte_counts` (`bounded`). A byte that a path holds is waited for, for a
+/// minute from the round's end on; by any turn the wait goes on, or the number rises; and no round whose turns are over ends past its tick (`awaited`).
+pub fn returns_are_awaited_always()
+    ensures bounded { AllNewsIsBounded }
+    ensures awaited { ReturnsAreAwaitedAlways }
 {}
