@@ -71,7 +71,7 @@ module _ (script : Script) (path : PathLine) (file_a file_b : List ℕ) (turns :
 
   finishes : AreLawful octets turns (opened script file_a file_b) → patience script path file_a file_b (harms_to 0 script) ≤ rounds_in turns
       → outcome_of (reached octets start turns).crew ≡ Delivered
-  finishes lawful many = few_losses_finish_patiently_in_octets script path file_a file_b turns h.mild h.fits brief h.harmless (let low = uses in let most = h.few in omega (arith, low, most)) lawful
+  finishes lawful many = few_losses_finish_patiently_in_octets script path file_a file_b turns h.mild brief h.harmless (let low = uses in let most = h.few in omega (arith, low, most)) lawful
       (let none = none_early in let low = uses in omega (arith, none, low, many))
 
   -- ---- until then

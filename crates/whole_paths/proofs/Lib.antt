@@ -195,6 +195,7 @@ pub mod WellOctets
 pub mod WindowRoom
 pub mod WindowWaits
 pub mod Wanted
+pub mod EdgeStands
 pub mod WindowsHeard
 pub mod Writers
 pub mod Endings

@@ -1,8 +1,7 @@
 -- Where no line moves a segment of A's the first one that acknowledges B's SYN comes to B before any with octets, and shows it both keys.
-use Rattle.std.proofs.Common.{◌≡◌, refl, sym, subst, ap, ◌∙◌, ◌⊎◌, inl, inr, ⊎_elim, ℕ, zero, suc, ◌+◌, ◌-◌, ◌^◌, ◌<◌, ◌≤◌, le_refl, arith, nat_lt, nat_le, ◌&&◌, ◌||◌, ◌==◌, Bool, true, false, true≢false, cond, if◌then◌else◌, Option, Some, None, IfSome, List, [], ◌∷◌, ◌++◌, length}
-use Rattle.std.specs.Prelude.{is_some, min, not, option_map}
+use Rattle.std.proofs.Common.{◌≡◌, refl, sym, subst, ap, ◌∙◌, ◌⊎◌, inl, inr, ⊎_elim, ℕ, zero, suc, ◌+◌, ◌-◌, ◌^◌, ◌<◌, ◌≤◌, le_refl, arith, min, nat_lt, nat_le, ◌&&◌, ◌||◌, ◌==◌, Bool, true, false, true≢false, cond, if◌then◌else◌, Option, Some, None, IfSome, List, [], ◌∷◌, ◌++◌, length}
+use Rattle.std.specs.Prelude.{is_some, not, option_map}
 use Rattle.std.specs.List.{AllByRecursion, list_all, list_any, slice_get}
-use Rattle.std.proofs.Math.Nat.{zero-min}
 use Rattle.std.proofs.lemmas.Bool.{and_from, and_parts, both_ways, cases_lt, eq-eqb, le-leb, le-ltb, not-true}
 use Rattle.std.proofs.lemmas.List.{append_assoc, length-append}
 use Rattle.std.proofs.lemmas.Option.{same_Some}
@@ -69,7 +68,6 @@ use Rattle.world_laws.proofs.Worlds.Finding.{one_side}
 use Rattle.world_laws.proofs.Writes.Steps.{begins_lasts, settled_lasts}
 use Rattle.whole_paths.specs.AgendaSteps.{is_silent}
 use Rattle.whole_paths.specs.Came.{AcksWhatCame}
-use Rattle.whole_paths.specs.EarlyRecords.{early}
 use Rattle.whole_paths.specs.Answered.{AcksGoFirst, HasAnswered, IsBareAck}
 use Rattle.whole_paths.specs.Answered.{IsBareAck as bare_by}
 use Rattle.whole_paths.specs.Answered.{IsDone as done}
@@ -767,7 +765,7 @@ module _ (start : Start) (plan : PathPlan) (one : BeginsWithOnePath start plan) 
           by_agenda (d ∷ ds) = refl
 
       quiet : IsAlive p → IsFew p → p.b.modes.clear ≡ false → comes_early p ≡ false
-      quiet alive few unsure_now = by_keys unsure_now ((keys_at turns p here).keys_first alive few)
+      quiet alive few unsure = by_keys unsure ((keys_at turns p here).keys_first alive few)
         where
           by_keys : p.b.modes.clear ≡ false → KeysFirst p → octets_next p.agenda p ≡ false
           by_keys unsure (confirmed (sure.clear is)) = absurd (both_ways p.b.modes.clear unsure is)
@@ -784,32 +782,39 @@ module _ (start : Start) (plan : PathPlan) (one : BeginsWithOnePath start plan) 
 
     early_none : (turns : List Turn) → length turns < 2 ^ 64 - 1 → ((p : PathState Carried) → IsPathAt 0 (reached values start turns) p → IsAlive p)
         → may_send_at (slice_get (reached values start turns).crew 2) ≡ false → early_at (slice_get (reached values start turns).crew 2) ≡ false
-    early_none turns few alive = by_crew (slice_get (reached values start turns).crew 2) refl
+    early_none turns few alive unsure = by_crew (slice_get (reached values start turns).crew 2) refl unsure
       where
-        by_member : (c : ActorCrew Carried) → slice_get (reached values start turns).crew 2 ≡ Some c → (m : Actor Carried) → c.member ≡ m
-            → of_kind (λ app. false) (λ p. p.b.modes.clear) m ≡ false → of_kind (λ app. false) comes_early m ≡ false
-        by_member c there (App a) is unsure = refl
-        by_member c there (Path p) is unsure =
+        by_member : (c : ActorCrew Carried) → slice_get (reached values start turns).crew 2 ≡ Some c → (m : Actor Carried) → c.member ≡ m → of_kind (λ app. false) (λ p. p.b.modes.clear) m ≡ false
+            → of_kind (λ app. false) comes_early m ≡ false
+        by_member c there (App a) is none = refl
+        by_member c there (Path p) is none =
             let here : IsPathAt 0 (reached values start turns) p = record { crew = c; there = there; is = is } in
             quiet turns p here (alive p here)
-            (λ s. let sent = subst (SentAtMost (length turns)) is (each_turn_sends_one_at_most values start turns 2 c there) s in omega (arith, sent, few)) unsure
+            (λ s. let sent = subst (SentAtMost (length turns)) is (each_turn_sends_one_at_most values start turns 2 c there) s in omega (arith, sent, few)) none
 
         by_crew : (o : Option (ActorCrew Carried)) → slice_get (reached values start turns).crew 2 ≡ o → may_send_at o ≡ false → early_at o ≡ false
-        by_crew None there unsure = refl
-        by_crew (Some c) there unsure = by_member c there c.member refl unsure
+        by_crew None there none = refl
+        by_crew (Some c) there none = by_member c there c.member refl none
 
-    none_came : (before more : List Turn) → length (before ++ more) < 2 ^ 64 - 1 → (AnEndDied 0 (reached values start (before ++ more)) → ⊥)
-        → came_from 0 more (reached values start before) ≡ 0
-    none_came before [] few living = if_none (may_send_at (slice_get (reached values start before).crew 2))
+    none_counted : (u v : WorldState Carried) → early_at (slice_get u.crew 2) ≡ false → counted_by 0 u v ≡ 0
+    none_counted u v none = elim (nat_lt (expiries_at (slice_get u.crew 2)) (expiries_at (slice_get v.crew 2))) as (λ b. (if b then min (0 + one_if (early_at (slice_get u.crew 2))) 1 else 0 + one_if (early_at (slice_get u.crew 2))) ≡ 0) [
+      | true ↦ let is = ap one_if none in omega (arith, is)
+      | false ↦ let is = ap one_if none in omega (arith, is)
+    ]
+
+    some_none : (before more : List Turn) → length (before ++ more) < 2 ^ 64 - 1 → (AnEndDied 0 (reached values start (before ++ more)) → ⊥) → came_from 0 more (reached values start before) ≡ 0
+    some_none before [] few living = zero_so (may_send_at (slice_get (reached values start before).crew 2))
       where
-        if_none : (m : Bool) → ◌≡◌ {A = ℕ} (if m then 0 else 0) 0
-        if_none true = refl
-        if_none false = refl
-    none_came before (turn ∷ more) few living = if_unsure (may_send_at (slice_get (reached values start before).crew 2)) refl
-        (subst (λ (u : WorldState Carried). came_from 0 more u ≡ 0) (run_append values before (turn ∷ []) (opened_world start))
-        (none_came (before ++ turn ∷ []) more (subst (λ ts. length ts < 2 ^ 64 - 1) (sym (append_assoc before (turn ∷ []) more)) few)
-        (subst (λ ts. AnEndDied 0 (reached values start ts) → ⊥) (sym (append_assoc before (turn ∷ []) more)) living)))
+        zero_so : (b : Bool) → ◌≡◌ {A = ℕ} (if b then 0 else 0) 0
+        zero_so true = refl
+        zero_so false = refl
+    some_none before (turn ∷ more) few living = by (may_send_at (slice_get w.crew 2)) refl
+        (some_none (before ++ turn ∷ []) more (subst (λ ts. length ts < 2 ^ 64 - 1) (sym (append_assoc before (turn ∷ []) more)) few)
+        (subst (λ ts. AnEndDied 0 (reached values start ts) → ⊥) (sym (append_assoc before (turn ∷ []) more)) living))
       where
+        w : WorldState Carried
+        w = reached values start before
+
         alive : (p : PathState Carried) → IsPathAt 0 (reached values start before) p → IsAlive p
         alive p here = record { living = λ s. by s (is_dead (end_at s p).tcp.state) refl }
           where
@@ -818,24 +823,13 @@ module _ (start : Start) (plan : PathPlan) (one : BeginsWithOnePath start plan) 
             by s true is = absurd (living (subst (λ (u : WorldState Carried). AnEndDied 0 u) (sym (run_append values before (turn ∷ more) (opened_world start)))
                 (died_stays (reached values start before) (turn ∷ more) (record { path = p; here = here; side = s; dead = is }))))
 
-        next : WorldState Carried
-        next = after_turn values turn (reached values start before)
-
-        counts : (m b : Bool) → m ≡ false → (if b then min (0 + one_if m) 1 else 0 + one_if m) ≡ 0
-        counts true b is = absurd (true≢false is)
-        counts false true is = refl
-        counts false false is = refl
-
-        none_counts : may_send_at (slice_get (reached values start before).crew 2) ≡ false → counted_by 0 (reached values start before) next ≡ 0
-        none_counts unsure = counts (early_at (slice_get (reached values start before).crew 2))
-            (nat_lt (expiries_at (slice_get (reached values start before).crew 2)) (expiries_at (slice_get next.crew 2)))
-            (early_none before (let sum = length-append before (turn ∷ more) in omega (arith, sum, few)) alive unsure)
-
-        if_unsure : (m : Bool) → may_send_at (slice_get (reached values start before).crew 2) ≡ m → came_from 0 more next ≡ 0
-            → (if m then 0 else came_from (counted_by 0 (reached values start before) next) more next) ≡ 0
-        if_unsure true is later = refl
-        if_unsure false is later = ap (λ n. came_from n more next) (none_counts is) ∙ later
+        by : (b : Bool) → may_send_at (slice_get w.crew 2) ≡ b → came_from 0 more (reached values start (before ++ turn ∷ [])) ≡ 0
+            → (if b then 0 else came_from (counted_by 0 w (after_turn values turn w)) more (after_turn values turn w)) ≡ 0
+        by true may rest = refl
+        by false unsure rest =
+            ap (λ n. came_from n more (after_turn values turn w)) (none_counted w (after_turn values turn w) (early_none before (let sum = length-append before (turn ∷ more) in omega (arith, sum, few)) alive unsure))
+            ∙ subst (λ (u : WorldState Carried). came_from 0 more u ≡ 0) (run_append values before (turn ∷ []) (opened_world start)) rest
 
 pub nothing_comes_early_by_text : NothingComesEarlyByText
 nothing_comes_early_by_text start plan turns one short none few living =
-    ap (λ n. min n (early values start turns)) (none_came start plan one short none [] turns few living) ∙ zero-min (early values start turns)
+    let is = some_none start plan one short none [] turns few living in omega (arith, is)

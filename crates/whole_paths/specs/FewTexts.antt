@@ -7,18 +7,15 @@ use Rattle.stream_lanes.specs.Words.{Every}
 use Rattle.path_core.specs.Octets.{octets}
 use Rattle.world_laws.specs.declared.outcome.Outcome.{Outcome}
 use Rattle.world_laws.specs.declared.outcome.Outcome.TheVariants.{Delivered, Going}
-use Rattle.world_laws.specs.Openings.{plan_of, start_of}
 use Rattle.world_laws.specs.Outcomes.{outcome_of}
 use Rattle.world_laws.specs.Worlds.{Turn, AreLawful}
 use Rattle.whole_paths.specs.Finish.{IsBrief, IsMild, harms_to, is_harmless_to_ends, is_on_direction, opened, patience, rounds_in, run_of}
-use Rattle.whole_paths.specs.PatientPaths.{FitFirstWindows}
 use Rattle.whole_paths.specs.QuietTexts.{MovesNoneOfA}
 
 -- The script is mild, and has one path. No line lets that die, takes back its address, or speaks of a whole direction; none moves a segment of A's; and
--- by four lines at most a segment of B's is lost or late. The files fit the first windows.
+-- by four lines at most a segment of B's is lost or late.
 pub record LosesFew (script : Script) (path : PathLine) (file_a file_b : List ℕ) : Type 0 where
   pub mild : IsMild script path file_a file_b
-  pub fits : FitFirstWindows (start_of script file_a file_b) (plan_of script 0 path)
   pub harmless : list_all is_harmless_to_ends script.lines ≡ true
   pub directions : list_all (λ line. not (is_on_direction line)) script.lines ≡ true
   pub none_of_a : MovesNoneOfA script.lines

@@ -108,6 +108,7 @@ pub mod Waits
 pub mod WindowRoom
 pub mod WindowWaits
 pub mod Wanted
+pub mod EdgeStands
 pub mod WindowsHeard
 pub mod BareSegments
 pub mod FinsComing
