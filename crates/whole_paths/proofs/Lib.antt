@@ -318,3 +318,4 @@ pub mod FirstMissing
 pub mod GrantReasons
 pub mod MissingBytes
 pub mod ReturnWaits
+pub mod CountedCourses

@@ -190,3 +190,4 @@ pub mod FewTexts
 pub mod FirstMissing
 pub mod MissingBytes
 pub mod ReturnWaits
+pub mod CountedCourses

@@ -4,6 +4,7 @@ ghost use Rattle.path_core.specs.Values.{values};
 ghost use Rattle.world_laws.specs.Laws.{Always};
 ghost use Rattle.world_laws.specs.Promises.{HoldsAnyway, HoldsAnywayOfOctets};
 ghost use Rattle.whole_paths.specs.BookNews.{BookNewsIsBounded, BookNewsNeverFalls, EachByteCounts, WhatIsGivenBackCounts};
+ghost use Rattle.whole_paths.specs.CountedCourses.{PathsAreCounted};
 ghost use Rattle.whole_paths.specs.FirstMissing.{EachMissingByteIsHeld};
 ghost use Rattle.whole_paths.specs.GivenBack.{EachReturnCounts, GivenBackIsBounded, GivenBackNeverFalls};
 ghost use Rattle.whole_paths.specs.HolderWaits.{HoldersLetGo};
@@ -102,4 +103,12 @@ pub fn what_is_missing_is_awaited()
 pub fn returns_are_awaited_always()
     ensures bounded { AllNewsIsBounded }
     ensures awaited { ReturnsAreAwaitedAlways }
+{}
+
+/// A law: how far a connection over any number of paths is, with the harmed segments of one path, never falls, and is bounded by what is harmed.
+///
+/// So a connection in which something is waited for as each round begins, for so long, and in which what is waited for is counted, is over after rounds
+/// enough for all that can be counted.
+pub fn paths_are_counted()
+    ensures { PathsAreCounted }
 {}
