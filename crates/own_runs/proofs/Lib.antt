@@ -58,6 +58,7 @@ mod KnownKeys
 mod LanePlaces
 mod LateJoins
 mod Learning
+mod Lines
 mod MapKept
 mod MapPlaces
 mod MapPositions
