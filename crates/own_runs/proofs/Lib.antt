@@ -56,9 +56,11 @@ mod KeysSent
 mod KeysShown
 mod KnownKeys
 mod LanePlaces
+mod LastLanes
 mod LateJoins
 mod Learning
 mod Lines
+mod LinesKept
 mod MapKept
 mod MapPlaces
 mod MapPositions

@@ -117,7 +117,7 @@ module _ (start : Start) (calm : Bool) (Fails : Type 0) (never : calm ≡ true �
     payload = s.segment.payload
 
     -- its payload, if it has one
-    borne : ((length payload ≡ 0) ⊎ (position + length payload < 2 ^ 31)) × Bears (λ q. content start x.from (place_at (lane_of last x.path x.from) q)) position payload
+    pub borne : ((length payload ≡ 0) ⊎ (position + length payload < 2 ^ 31)) × Bears (λ q. content start x.from (place_at (lane_of last x.path x.from) q)) position payload
     borne = by s.also.1
       where
         by : Carries (Bearing start Fails last x.path) x.from s.segment
@@ -125,10 +125,10 @@ module _ (start : Start) (calm : Bool) (Fails : Type 0) (never : calm ≡ true �
         by (inl none) = let empty : length payload ≡ 0 = ap (λ (xs : List ℕ). length xs) none in (inl empty, λ j below. absurd (omega (arith, empty, below)))
         by (inr is) = (inr is.0.0, is.0.1)
 
-    abbrev own : IsOwn (drawn start) (seen_of (Tells start Fails last) start x s short)
+    abbrev pub own : IsOwn (drawn start) (seen_of (Tells start Fails last) start x s short)
     own = is_own (Tells start Fails last) start x s short
 
-    good : Good (seen_of (Tells start Fails last) start x s short)
+    pub good : Good (seen_of (Tells start Fails last) start x s short)
     good = record {
       own = own;
       at = position;
@@ -154,6 +154,23 @@ module _ (start : Start) (calm : Bool) (Fails : Type 0) (never : calm ≡ true �
 
         Wells : ℕ → ℕ → Side → List OptionValue → Type 0
         Wells = λ p path from values. All (OptionTells (first_number (own_key (drawn start) from)) (file_len start from) (content start from) (where_in last path from) p) values
+
+    -- by its path, its sender, its position and its options
+    pub good_path : good.own.path ≡ x.path
+    unfolding good
+    good_path = path_is (Tells start Fails last) start x s short
+
+    pub good_from : good.own.from ≡ x.from
+    unfolding good
+    good_from = from_is (Tells start Fails last) start x s short
+
+    pub good_at : good.at ≡ s.segment.position
+    unfolding good
+    good_at = refl
+
+    pub good_values : good.own.values ≡ map (said_option (path_begins start x.path s.plan).profile.spelling x.from) s.segment.options
+    unfolding good
+    good_values = values_are (Tells start Fails last) start x s short
 
     packet_good : Fit (packet_for x)
     packet_good = subst (λ (o : Option Seen). IfSome o Good) (sym (found (Tells start Fails last) start x s short)) good

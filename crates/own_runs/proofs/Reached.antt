@@ -3,7 +3,6 @@ use Rattle.std.proofs.Common.{◌≡◌, refl, sym, ◌∙◌, subst, List, [], 
 use Rattle.path_core.specs.Values.{Carried, values}
 use Rattle.stream_lanes.proofs.Duos.{any_held}
 use Rattle.stream_lanes.specs.Duo.{Duo, after_events}
-use Rattle.stream_lanes.specs.Holding.{Holds}
 use Rattle.world_laws.proofs.Lanes.Beginning.{opened_reached}
 use Rattle.world_laws.proofs.Lanes.EveryTurn.{each_turn_shows}
 use Rattle.world_laws.proofs.Lanes.OfAWorld.{Carries, IsSteady, Reached, RunIsFirm, Shown, TurnIsFirm, events_append, first_duo, turn_events, turn_is, WorldShows}
@@ -95,14 +94,18 @@ module _ (start : Start) (can : Carries start) where
   EachReaches turns last = (more later : List Turn) → more ++ later ≡ turns
       → (q : Reached can.links start (world_run values more (opened_world start))) × Grows (duo_at (world_run values more (opened_world start)) q) last
 
-  pub run_reaches : (turns : List Turn) → RunIsFirm can.links turns (opened_world start) → (last : Duo) × EachReaches turns last × Holds last
+  -- these lanes are those behind them all
+  abbrev pub EndsAs : List Turn → Duo → Type 0
+  EndsAs turns last = (q : Reached can.links start (world_run values turns (opened_world start))) × (duo_at (world_run values turns (opened_world start)) q ≡ last)
+
+  pub run_reaches : (turns : List Turn) → RunIsFirm can.links turns (opened_world start) → (last : Duo) × EachReaches turns last × EndsAs turns last
   run_reaches turns firm =
       let all = reaches {X = WorldState Carried} (after_turn values) HasReached duo_at turns (opened_world start) (opened_reached start can)
       (all_go turns (opened_world start) firm (always_steady start)) in
       (
         all.0,
         λ more later is. moment all.0 more (all.2 more later is),
-        subst Holds all.3.1 (any_held can.links.alters can.links.checked (length start.paths) start.buffer start.buffer all.3.0.events),
+        subst (λ (w : WorldState Carried). (q : HasReached w) × (duo_at w q ≡ all.0)) (steps_are turns (opened_world start)) all.3,
       )
     where
       moment : (last : Duo) (more : List Turn) → (q : HasReached (runs more (opened_world start))) × Grows (duo_at (runs more (opened_world start)) q) last

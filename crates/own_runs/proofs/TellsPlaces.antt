@@ -1,11 +1,11 @@
 -- What each segment of a trace maps and bears, whatever its script does: each finite mapping lies within its side's file, gives its positions the places
 -- that they have at the end of the run, and has the checksum of the octets of these places, and each payload has these octets. So does an infinite mapping
 -- give the positions behind it their places, or it stands behind the FIN (RFC 8684, section 3.7).
-use Rattle.std.proofs.Common.{◌≡◌, refl, sym, ap, ◌∙◌, subst, ℕ, suc, ◌+◌, ◌-◌, ◌≤◌, ◌<◌, ◌^◌, ◌⊎◌, ◌||◌, not, inl, inr, ⊎_elim, Bool, true, false, if◌then◌else◌, Option, Some, None, List, [], ◌++◌, length, length-append, take, drop, arith}
+use Rattle.std.proofs.Common.{◌≡◌, refl, sym, ap, ◌∙◌, subst, ℕ, suc, ◌+◌, ◌-◌, ◌≤◌, ◌<◌, ◌^◌, ◌⊎◌, not, inl, inr, ⊎_elim, Bool, true, false, if◌then◌else◌, Option, Some, None, List, [], ◌++◌, length, length-append, take, drop, arith}
 use Rattle.std.specs.Prelude.{get_or}
 use Rattle.std.specs.Option.{IfSome}
 use Rattle.std.specs.List.{slice_get}
-use Rattle.std.proofs.lemmas.Bool.{both_ways, false≢true}
+use Rattle.std.proofs.lemmas.Bool.{false≢true}
 use Rattle.std.proofs.lemmas.List.{get_or-drop, get_or-take}
 use Rattle.actor_desk.specs.Books.{books_in}
 use Rattle.actor_desk.specs.Desk.{SixBooks}
@@ -27,10 +27,10 @@ use Rattle.send_book.specs.State.{Sending}
 use Rattle.sides.specs.declared.side.Side.TheVariants.{A, B}
 use Rattle.sides.specs.declared.side.Side.{Side}
 use Rattle.stream_lanes.proofs.Duos.{any_held}
-use Rattle.stream_lanes.proofs.Lists.{in_map, item_at}
+use Rattle.stream_lanes.proofs.Lists.{in_map}
 use Rattle.stream_lanes.specs.Duo.{Duo, flags_ab, flags_ba}
 use Rattle.stream_lanes.specs.Holding.{Holds, LaneHolds}
-use Rattle.stream_lanes.specs.Lane.{Cell, Lane, Pair}
+use Rattle.stream_lanes.specs.Lane.{Lane}
 use Rattle.stream_lanes.specs.View.{View, end_of, view_of}
 use Rattle.stream_lanes.specs.Words.{Every}
 use Rattle.subflow_send.specs.Records.{Record}
@@ -57,7 +57,8 @@ use Rattle.world_laws.specs.declared.member.Member.TheVariants.{App, Path}
 use Rattle.own_runs.proofs.Bearing.{Carries, RecordsCarry, first_carries}
 use Rattle.own_runs.proofs.EndMaps.{IsMapped, LineAt, LineOn, content, end_told, file_len, kind_so, known_so, lane_of, upto_of}
 use Rattle.own_runs.proofs.FineMoments.{BorneOn, IsBorne}
-use Rattle.own_runs.proofs.MapPlaces.{first_at, place_in, place_on, sits}
+use Rattle.own_runs.proofs.LastLanes.{AtLast, alone_so, at_last, either_plain, fin_line, pair_line, plain_line}
+use Rattle.own_runs.proofs.MapPlaces.{first_at, place_on, sits}
 use Rattle.own_runs.proofs.MapPositions.{Bears}
 use Rattle.own_runs.proofs.Moments.{MemberAlso, PathAlso, WorldAlso, end_shown, first_same}
 use Rattle.own_runs.proofs.Offering.{AllFine, EndFine, PlainFine, first_fine_sent}
@@ -79,51 +80,11 @@ module _ (start : Start) (Fails : Type 0) (last : Duo) where
   abbrev pub Tells : ℕ → Side → PlainSegment → Type 0
   Tells path s sg = AllFine (file_len start) (IsMapped start last path) (LineAt last path) Fails s sg.options × Carries (Bearing path) s sg
 
--- ---- infinite mappings on the lanes of the last moment
-
--- the cell of a position
-cell_there : (cells : List Cell) (p : ℕ) → 1 ≤ p → p ≤ length cells → (c : Cell) × (slice_get cells (p - 1) ≡ Some c)
-cell_there cells p some most = item_at cells (p - 1) (omega (arith, some, most))
-
--- one that was sent
-pair_line : (v : View) (n : ℕ) (l : Lane) → LaneHolds v n l → (i : ℕ) (m : Pair) → slice_get l.pairs i ≡ Some m → LineOn (Some l) m.place (suc m.pos)
-pair_line v n l hold i m there = (omega arith, λ p low most.
-    let cell = cell_there l.sent p (omega (arith, low)) most in
-    let place = (hold.pairs.told.each i m there).places (p - 1) cell.0 (omega (arith, low)) cell.1 in
-    ap place_in cell.1 ∙ omega (arith, place, low))
-
--- one behind the FIN
-fin_line : (v : View) (n : ℕ) (l : Lane) → LaneHolds v n l → (i k : ℕ) → slice_get l.fins i ≡ Some k → (place position : ℕ) → suc k ≡ position - 1 → LineOn (Some l) place position
-fin_line v n l hold i k there place position is =
-    let last = (hold.fins.each i k there).last in (omega (arith, is), λ p low most. absurd (omega (arith, last, is, low, most)))
-
--- in plain TCP that of a position
-plain_line : (v : View) (n : ℕ) (l : Lane) → LaneHolds v n l → v.alone ≡ true → (position : ℕ) → 1 ≤ position → LineOn (Some l) (position - 1) position
-plain_line v n l hold alone position some = (some, λ p low most.
-    let cell = cell_there l.sent p (omega (arith, low, some)) most in
-    let place = (hold.alone alone).identity.each (p - 1) (p - 1) cell.0 (omega arith) cell.1 in
-    ap place_in cell.1 ∙ omega (arith, place, low, some))
-
--- where a side fell back to plain TCP no join was ever answered
-alone_so : (d : Duo) → Holds d → (d.modes.plain_a ≡ true) ⊎ (d.modes.plain_b ≡ true) → not d.modes.answered ≡ true
-alone_so d h fell = by d.modes.answered refl
-  where
-    begun : d.modes.answered ≡ true → d.modes.plain_a ≡ true → ⊥
-    begun answered plain = both_ways d.modes.begun (h.modes.a plain) (h.modes.answered answered)
-
-    by : (b : Bool) → d.modes.answered ≡ b → not b ≡ true
-    by false is = refl
-    by true is = absurd (⊎_elim (begun is) (λ plain. both_ways d.modes.answered (h.modes.b plain) is) fell)
-
-either_plain : (a b : Bool) → a || b ≡ true → (a ≡ true) ⊎ (b ≡ true)
-either_plain true b is = inl refl
-either_plain false b is = inr is
-
 -- ---- a path at a moment
 
 -- links that alter payload only where MP_FAIL may be told
 module _ (start : Start) (can : MayCarry start) (Fails : Type 0) (failing : can.links.alters ≡ true → Fails) (turns : List Turn) (size : HasRoom start) (fit : NumbersFit start) (last : Duo)
-    (q : Reached can.links start (world_run values turns (opened_world start))) (grown : Grows (duo_at start can (world_run values turns (opened_world start)) q) last) (ended : Holds last) where
+    (q : Reached can.links start (world_run values turns (opened_world start))) (grown : Grows (duo_at start can (world_run values turns (opened_world start)) q) last) (ended : AtLast start last) where
   abbrev v : WorldState Carried
   v = world_run values turns (opened_world start)
 
@@ -211,21 +172,21 @@ module _ (start : Start) (can : MayCarry start) (Fails : Type 0) (failing : can.
           )
 
       -- its infinite mappings
-      at_last : (place position : ℕ) → LineOn (Some later) place position → LineAt last n s place position
-      at_last place position is = subst (λ (o : Option Lane). LineOn o place position) (sym later_there) is
+      on_last : (place position : ℕ) → LineOn (Some later) place position → LineAt last n s place position
+      on_last place position is = subst (λ (o : Option Lane). LineOn o place position) (sym later_there) is
 
       told_line : (place position : ℕ) → PairTold out.pairs out.fins place position → LineAt last n s place position
       told_line place position (inl has) =
           let line = pair_line view_last n later hold_last has.at has.item (longer.says.pairs has.at has.item has.there) in
-          at_last place position (subst (λ (q : ℕ). LineOn (Some later) place q) has.holds.position_is (subst (λ (q : ℕ). LineOn (Some later) q (suc has.item.pos)) has.holds.place_is line))
-      told_line place position (inr has) = at_last place position (fin_line view_last n later hold_last has.at has.item (longer.says.fins has.at has.item has.there) place position has.holds)
+          on_last place position (subst (λ (q : ℕ). LineOn (Some later) place q) has.holds.position_is (subst (λ (q : ℕ). LineOn (Some later) q (suc has.item.pos)) has.holds.place_is line))
+      told_line place position (inr has) = on_last place position (fin_line view_last n later hold_last has.at has.item (longer.says.fins has.at has.item has.there) place position has.holds)
 
       own_line : (o : Option InfiniteMapping) → IfSome o (OwnIs out.pair out.pairs out.fins out.alters) → IfSome o (λ m. LineAt last n s m.place m.position)
       own_line None is = tt
       own_line (Some m) is = told_line m.place m.position is.told
 
       plain_at : e.modes.identity ≡ true → (position : ℕ) → 1 ≤ position → LineAt last n s (position - 1) position
-      plain_at fell position some = at_last (position - 1) position (plain_line view_last n later hold_last (alone fell) position some)
+      plain_at fell position some = on_last (position - 1) position (plain_line view_last n later hold_last (alone fell) position some)
 
       record_line : (kind : RecordKind) (r : Record) → KindShows c s out.alters out.sent out.datas out.fins kind r → PlainFine (file_len start) (IsMapped start last n) (LineAt last n) Fails s e.modes.identity kind r
       record_line Syn r is fell not_syn = absurd (false≢true (sym not_syn))
@@ -289,13 +250,13 @@ module _ (start : Start) (can : MayCarry start) (Fails : Type 0) (failing : can.
 
     -- the lanes of the last moment
     last_ab : (later : Lane) → slice_get last.ab.lanes n ≡ Some later → LaneHolds (view_of (flags_ab last.modes) last.ab.send last.ab.arrived) n later
-    last_ab later at = ended.ab.lanes.each n n later (omega arith) at
+    last_ab later at = ended.holds.ab.lanes.each n n later (omega arith) at
 
     last_ba : (later : Lane) → slice_get last.ba.lanes n ≡ Some later → LaneHolds (view_of (flags_ba last.modes) last.ba.send last.ba.arrived) n later
-    last_ba later at = ended.ba.lanes.each n n later (omega arith) at
+    last_ba later at = ended.holds.ba.lanes.each n n later (omega arith) at
 
     fell_so : (duo.modes.plain_a ≡ true) ⊎ (duo.modes.plain_b ≡ true) → not last.modes.answered ≡ true
-    fell_so fell = alone_so last ended (⊎_elim (λ a. inl (grows.plain.a a)) (λ b. inr (grows.plain.b b)) fell)
+    fell_so fell = alone_so last ended.holds (⊎_elim (λ a. inl (grows.plain.a a)) (λ b. inr (grows.plain.b b)) fell)
 
     swapped : (duo.modes.plain_b ≡ true) ⊎ (duo.modes.plain_a ≡ true) → (duo.modes.plain_a ≡ true) ⊎ (duo.modes.plain_b ≡ true)
     swapped (inl b) = inr b
@@ -371,15 +332,17 @@ module _ (start : Start) (Fails : Type 0) (last : Duo) where
 
 -- at each moment of a run, by its last lanes
 abbrev pub RunTells : Start → Type 0 → List Turn → Type 0
-RunTells start Fails turns = (last : Duo) × ((more later : List Turn) → more ++ later ≡ turns → WorldAlso (Tells start Fails last) (world_run octets more (opened_world start)))
+RunTells start Fails turns =
+    (last : Duo) × ((more later : List Turn) → more ++ later ≡ turns → WorldAlso (Tells start Fails last) (world_run octets more (opened_world start))) × AtLast start last
 
 module _ (start : Start) (can : MayCarry start) (free : NoneIsFirm can.links) (Fails : Type 0) (failing : can.links.alters ≡ true → Fails) (size : HasRoom start) (fit : NumbersFit start) where
   tells_by : (turns : List Turn) → RunTells start Fails turns
   tells_by turns =
       let reached = run_reaches start can turns (free_run can.links free turns (opened_world start)) in
-      (reached.0, λ more later is. moment reached.0 reached.2 more (reached.1 more later is))
+      let ended = at_last start can turns reached.0 reached.2 in
+      (reached.0, λ more later is. moment reached.0 ended more (reached.1 more later is), ended)
     where
-      moment : (last : Duo) → Holds last → (more : List Turn) → (q : Reached can.links start (world_run values more (opened_world start))) × Grows (duo_at start can (world_run values more (opened_world start)) q) last
+      moment : (last : Duo) → AtLast start last → (more : List Turn) → (q : Reached can.links start (world_run values more (opened_world start))) × Grows (duo_at start can (world_run values more (opened_world start)) q) last
           → WorldAlso (Tells start Fails last) (world_run octets more (opened_world start))
       moment last ended more r =
           subst (λ (w : WorldState (List ℕ)). WorldAlso (Tells start Fails last) w) (sym (run_fresh start more size fit))
