@@ -23,7 +23,7 @@ use Rattle.subflow_send.specs.Records.{Record}
 use Rattle.subflow_send.specs.declared.record.RecordKind.TheVariants.{Syn, Data, Fin}
 use Rattle.subflow_send.specs.declared.record.RecordKind.{RecordKind}
 use Rattle.world_laws.proofs.Lanes.Answering.{BeginsFirst}
-use Rattle.world_laws.proofs.Lanes.Showing.{EndShows, HasMapping, IsPiece, IsSummed, KindShows}
+use Rattle.world_laws.proofs.Lanes.Showing.{EndShows, HasFin, HasMapping, IsPiece, IsSummed, KindShows}
 use Rattle.world_laws.proofs.Numbers.TellSmall.{RecordKindTells}
 use Rattle.world_laws.specs.Openings.{PathPlan, Start, path_begins}
 use Rattle.own_runs.proofs.MapPlaces.{octet_in, place_on, sits, stretch, written_within}
@@ -68,12 +68,19 @@ abbrev pub upto_of : Option Lane → ℕ
 upto_of None = 0
 upto_of (Some l) = length l.sent
 
--- an infinite mapping: its positions from this one on have the places from this one on
-abbrev pub LineOn : Option Lane → ℕ → ℕ → Type 0
-LineOn lane place position = (1 ≤ position) × ((p : ℕ) → position ≤ p → p ≤ upto_of lane → place_at lane p ≡ place + (p - position))
+-- its FIN stands at this position
+abbrev pub FinOn : Option Lane → ℕ → Type 0
+FinOn None p = ⊥
+FinOn (Some l) p = HasFin l.fins p
 
-abbrev pub LineAt : Duo → ℕ → Side → ℕ → ℕ → Type 0
-LineAt last path s place position = LineOn (lane_of last path s) place position
+-- an infinite mapping: the lane's positions from this one on have the places from this one on, and a FIN there stands at the end of so many octets
+abbrev pub LineOn : Option Lane → ℕ → ℕ → ℕ → Type 0
+LineOn lane limit place position =
+    (1 ≤ position) × ((p : ℕ) → position ≤ p → p ≤ upto_of lane → place_at lane p ≡ place + (p - position))
+    × ((p : ℕ) → FinOn lane p → position ≤ p → place + (p - position) ≡ limit)
+
+abbrev pub LineAt : Start → Duo → ℕ → Side → ℕ → ℕ → Type 0
+LineAt start last path s place position = LineOn (lane_of last path s) (file_len start s) place position
 
 -- ---- an end of a path
 

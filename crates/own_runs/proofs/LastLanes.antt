@@ -13,10 +13,12 @@ use Rattle.sides.specs.declared.side.Side.TheVariants.{A, B}
 use Rattle.sides.specs.declared.side.Side.{Side}
 use Rattle.stream_lanes.proofs.Duos.{any_held}
 use Rattle.stream_lanes.proofs.Lists.{item_at}
+use Rattle.stream_lanes.proofs.MarkLists.{new_count}
 use Rattle.stream_lanes.proofs.Promises.{paths_short}
 use Rattle.stream_lanes.specs.Duo.{Duo, flags_ab, flags_ba}
 use Rattle.stream_lanes.specs.Holding.{Holds, LaneHolds}
 use Rattle.stream_lanes.specs.Lane.{Cell, Lane, Pair}
+use Rattle.stream_lanes.specs.Moves.{place_by}
 use Rattle.stream_lanes.specs.View.{View, end_of}
 use Rattle.world_laws.proofs.Lanes.OfAWorld.{Carries as MayCarry, WorldShows}
 use Rattle.world_laws.proofs.Worlds.CastLifting.{writes_the_files}
@@ -101,24 +103,49 @@ module _ (start : Start) (can : MayCarry start) (turns : List Turn) (last : Duo)
 cell_there : (cells : List Cell) (p : ℕ) → 1 ≤ p → p ≤ length cells → (c : Cell) × (slice_get cells (p - 1) ≡ Some c)
 cell_there cells p some most = item_at cells (p - 1) (omega (arith, some, most))
 
--- one that was sent
-pub pair_line : (v : View) (n : ℕ) (l : Lane) → LaneHolds v n l → (i : ℕ) (m : Pair) → slice_get l.pairs i ≡ Some m → LineOn (Some l) m.place (suc m.pos)
-pair_line v n l hold i m there = (omega arith, λ p low most.
-    let cell = cell_there l.sent p (omega (arith, low)) most in
-    let place = (hold.pairs.told.each i m there).places (p - 1) cell.0 (omega (arith, low)) cell.1 in
-    ap place_in cell.1 ∙ omega (arith, place, low))
+-- one that was sent; a FIN stands at the end of the file, as then all of it was granted to the path
+pub pair_line : (v : View) (n : ℕ) (l : Lane) → LaneHolds v n l → (limit : ℕ) → length v.written ≤ limit → ((k : ℕ) → v.end ≡ Some k → k ≡ limit)
+    → (i : ℕ) (m : Pair) → slice_get l.pairs i ≡ Some m → LineOn (Some l) limit m.place (suc m.pos)
+pair_line v n l hold limit most closed i m there = (
+  omega arith,
+  λ p low below.
+      let cell = cell_there l.sent p (omega (arith, low)) below in
+      let place = (hold.pairs.told.each i m there).places (p - 1) cell.0 (omega (arith, low)) cell.1 in
+      ap place_in cell.1 ∙ omega (arith, place, low),
+  λ p fin low.
+      let endless = hold.pairs.told.each i m there in
+      let is = hold.fins.each fin.at fin.item fin.there in
+      let at = fin.holds in
+      let last = is.last in
+      let whole = closed is.left.0 is.left.1 in
+      let all = is.left.2 in
+      let few = new_count n (place_by m (length l.sent)) v.marks endless.rest in
+      let upto = endless.upto in
+      let within = endless.within in
+      omega (arith, at, last, whole, all, few, upto, within, most, low),
+)
 
 -- one behind the FIN
-pub fin_line : (v : View) (n : ℕ) (l : Lane) → LaneHolds v n l → (i k : ℕ) → slice_get l.fins i ≡ Some k → (place position : ℕ) → suc k ≡ position - 1 → LineOn (Some l) place position
-fin_line v n l hold i k there place position is =
-    let last = (hold.fins.each i k there).last in (omega (arith, is), λ p low most. absurd (omega (arith, last, is, low, most)))
+pub fin_line : (v : View) (n : ℕ) (l : Lane) → LaneHolds v n l → (limit i k : ℕ) → slice_get l.fins i ≡ Some k → (place position : ℕ) → suc k ≡ position - 1
+    → LineOn (Some l) limit place position
+fin_line v n l hold limit i k there place position is =
+    let last = (hold.fins.each i k there).last in (
+      omega (arith, is),
+      λ p low below. absurd (omega (arith, last, is, low, below)),
+      λ p fin low. let other = (hold.fins.each fin.at fin.item fin.there).last in let at = fin.holds in absurd (omega (arith, last, is, low, other, at)),
+    )
 
 -- in plain TCP that of a position
-pub plain_line : (v : View) (n : ℕ) (l : Lane) → LaneHolds v n l → v.alone ≡ true → (position : ℕ) → 1 ≤ position → LineOn (Some l) (position - 1) position
-plain_line v n l hold alone position some = (some, λ p low most.
-    let cell = cell_there l.sent p (omega (arith, low, some)) most in
-    let place = (hold.alone alone).identity.each (p - 1) (p - 1) cell.0 (omega arith) cell.1 in
-    ap place_in cell.1 ∙ omega (arith, place, low, some))
+pub plain_line : (v : View) (n : ℕ) (l : Lane) → LaneHolds v n l → (limit : ℕ) → ((k : ℕ) → v.end ≡ Some k → k ≡ limit) → v.alone ≡ true → (position : ℕ) → 1 ≤ position
+    → LineOn (Some l) limit (position - 1) position
+plain_line v n l hold limit closed alone position some = (
+  some,
+  λ p low below.
+      let cell = cell_there l.sent p (omega (arith, low, some)) below in
+      let place = (hold.alone alone).identity.each (p - 1) (p - 1) cell.0 (omega arith) cell.1 in
+      ap place_in cell.1 ∙ omega (arith, place, low, some),
+  λ p fin low. let whole = closed fin.item ((hold.fins.each fin.at fin.item fin.there).ends alone) in let at = fin.holds in omega (arith, whole, at, low, some),
+)
 
 -- where a side fell back to plain TCP no join was ever answered
 pub alone_so : (d : Duo) → Holds d → (d.modes.plain_a ≡ true) ⊎ (d.modes.plain_b ≡ true) → not d.modes.answered ≡ true

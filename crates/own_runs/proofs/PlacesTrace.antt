@@ -62,7 +62,7 @@ module _ (start : Start) (Fails : Type 0) (last : Duo) (path : ℕ) (plan : Path
   Well p option = OptionTells (first_number (own_key (drawn start) s)) (file_len start s) (content start s) (where_in last path s) p option
 
   module _ (key at octets p : ℕ) (same : p % 2 ^ 32 ≡ at % 2 ^ 32) (short : (octets ≡ 0) ⊎ (at + octets < 2 ^ 31)) where
-    tells_so : (o : PlainOption) → PlacedIn key at octets o → OptionFine (file_len start) (IsMapped start last path) (LineAt last path) Fails s o → IsSmall (path_begins start path plan).profile s o
+    tells_so : (o : PlainOption) → PlacedIn key at octets o → OptionFine (file_len start) (IsMapped start last path) (LineAt start last path) Fails s o → IsSmall (path_begins start path plan).profile s o
         → Well p (said_option spelling s o)
     tells_so (Dss next None) placed is small = tt
     tells_so (Dss next (Some (Bytes place from len fin checksum))) placed is small =
@@ -77,7 +77,7 @@ module _ (start : Start) (Fails : Type 0) (last : Duo) (path : ℕ) (plan : Path
     tells_so (Capable flag_a flag_c (Both sender receiver)) placed is small = tt
     tells_so _ placed is small = tt
 
-    all_tell : (options : List PlainOption) → Every (PlacedIn key at octets) options → AllFine (file_len start) (IsMapped start last path) (LineAt last path) Fails s options
+    all_tell : (options : List PlainOption) → Every (PlacedIn key at octets) options → AllFine (file_len start) (IsMapped start last path) (LineAt start last path) Fails s options
         → All (IsSmall (path_begins start path plan).profile s) options → All (Well p) (map (said_option spelling s) options)
     all_tell [] placed each small = All-nil (Well p)
     all_tell (o ∷ options) placed each small =
@@ -88,13 +88,13 @@ module _ (start : Start) (Fails : Type 0) (last : Duo) (path : ℕ) (plan : Path
 
   -- where MP_FAIL may not be told
   module _ (never : Fails → ⊥) where
-    calm_so : (o : PlainOption) → OptionFine (file_len start) (IsMapped start last path) (LineAt last path) Fails s o → TellsNoFail (said_option spelling s o)
+    calm_so : (o : PlainOption) → OptionFine (file_len start) (IsMapped start last path) (LineAt start last path) Fails s o → TellsNoFail (said_option spelling s o)
     calm_so (Fail place) is = never is
     calm_so (Capable flag_a flag_c keys) is = tt
     calm_so (Dss next mapping) is = tt
     calm_so _ is = tt
 
-    calmly : (options : List PlainOption) → AllFine (file_len start) (IsMapped start last path) (LineAt last path) Fails s options → All TellsNoFail (map (said_option spelling s) options)
+    calmly : (options : List PlainOption) → AllFine (file_len start) (IsMapped start last path) (LineAt start last path) Fails s options → All TellsNoFail (map (said_option spelling s) options)
     calmly [] each = All-nil TellsNoFail
     calmly (o ∷ options) each =
         All-cons TellsNoFail (said_option spelling s o) (map (said_option spelling s) options) (calm_so o (each.each 0 o refl))

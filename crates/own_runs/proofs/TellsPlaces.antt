@@ -78,7 +78,7 @@ module _ (start : Start) (Fails : Type 0) (last : Duo) where
 
   -- each option of a segment maps such, an infinite mapping, too, and MP_FAIL is told where so much holds
   abbrev pub Tells : ℕ → Side → PlainSegment → Type 0
-  Tells path s sg = AllFine (file_len start) (IsMapped start last path) (LineAt last path) Fails s sg.options × Carries (Bearing path) s sg
+  Tells path s sg = AllFine (file_len start) (IsMapped start last path) (LineAt start last path) Fails s sg.options × Carries (Bearing path) s sg
 
 -- ---- a path at a moment
 
@@ -141,7 +141,8 @@ module _ (start : Start) (can : MayCarry start) (Fails : Type 0) (failing : can.
         (begins : IsPrefix view.written (pick s start.file_a start.file_b)) (ends : (k : ℕ) → view.end ≡ Some k → k ≡ file_len start s)
         (later : Lane) (later_there : lane_of last n s ≡ Some later) (longer : Longer out later) (first_is : BeginsFirst s e out)
         (pieces : Every (IsPart c s (pick s start.file_a start.file_b)) e.tcp.send.records) (alters : out.alters ≡ can.links.alters)
-        (view_last : View) (hold_last : LaneHolds view_last n later) (alone : e.modes.identity ≡ true → view_last.alone ≡ true) where
+        (view_last : View) (hold_last : LaneHolds view_last n later) (most : length view_last.written ≤ file_len start s) (closed : (k : ℕ) → view_last.end ≡ Some k → k ≡ file_len start s)
+        (alone : e.modes.identity ≡ true → view_last.alone ≡ true) where
       abbrev first : ℕ
       first = first_number (own_key (drawn start) s)
 
@@ -172,23 +173,23 @@ module _ (start : Start) (can : MayCarry start) (Fails : Type 0) (failing : can.
           )
 
       -- its infinite mappings
-      on_last : (place position : ℕ) → LineOn (Some later) place position → LineAt last n s place position
-      on_last place position is = subst (λ (o : Option Lane). LineOn o place position) (sym later_there) is
+      on_last : (place position : ℕ) → LineOn (Some later) (file_len start s) place position → LineAt start last n s place position
+      on_last place position is = subst (λ (o : Option Lane). LineOn o (file_len start s) place position) (sym later_there) is
 
-      told_line : (place position : ℕ) → PairTold out.pairs out.fins place position → LineAt last n s place position
+      told_line : (place position : ℕ) → PairTold out.pairs out.fins place position → LineAt start last n s place position
       told_line place position (inl has) =
-          let line = pair_line view_last n later hold_last has.at has.item (longer.says.pairs has.at has.item has.there) in
-          on_last place position (subst (λ (q : ℕ). LineOn (Some later) place q) has.holds.position_is (subst (λ (q : ℕ). LineOn (Some later) q (suc has.item.pos)) has.holds.place_is line))
-      told_line place position (inr has) = on_last place position (fin_line view_last n later hold_last has.at has.item (longer.says.fins has.at has.item has.there) place position has.holds)
+          let line = pair_line view_last n later hold_last (file_len start s) most closed has.at has.item (longer.says.pairs has.at has.item has.there) in
+          on_last place position (subst (λ (q : ℕ). LineOn (Some later) (file_len start s) place q) has.holds.position_is (subst (λ (q : ℕ). LineOn (Some later) (file_len start s) q (suc has.item.pos)) has.holds.place_is line))
+      told_line place position (inr has) = on_last place position (fin_line view_last n later hold_last (file_len start s) has.at has.item (longer.says.fins has.at has.item has.there) place position has.holds)
 
-      own_line : (o : Option InfiniteMapping) → IfSome o (OwnIs out.pair out.pairs out.fins out.alters) → IfSome o (λ m. LineAt last n s m.place m.position)
+      own_line : (o : Option InfiniteMapping) → IfSome o (OwnIs out.pair out.pairs out.fins out.alters) → IfSome o (λ m. LineAt start last n s m.place m.position)
       own_line None is = tt
       own_line (Some m) is = told_line m.place m.position is.told
 
-      plain_at : e.modes.identity ≡ true → (position : ℕ) → 1 ≤ position → LineAt last n s (position - 1) position
-      plain_at fell position some = on_last (position - 1) position (plain_line view_last n later hold_last (alone fell) position some)
+      plain_at : e.modes.identity ≡ true → (position : ℕ) → 1 ≤ position → LineAt start last n s (position - 1) position
+      plain_at fell position some = on_last (position - 1) position (plain_line view_last n later hold_last (file_len start s) closed (alone fell) position some)
 
-      record_line : (kind : RecordKind) (r : Record) → KindShows c s out.alters out.sent out.datas out.fins kind r → PlainFine (file_len start) (IsMapped start last n) (LineAt last n) Fails s e.modes.identity kind r
+      record_line : (kind : RecordKind) (r : Record) → KindShows c s out.alters out.sent out.datas out.fins kind r → PlainFine (file_len start) (IsMapped start last n) (LineAt start last n) Fails s e.modes.identity kind r
       record_line Syn r is fell not_syn = absurd (false≢true (sym not_syn))
       record_line Data r is fell not_syn = plain_at fell r.pos (let at = is.octets.holds.position_is in omega (arith, at))
       record_line Fin r is fell not_syn = plain_at fell r.pos (let at = is.1.holds in omega (arith, at))
@@ -204,17 +205,17 @@ module _ (start : Start) (can : MayCarry start) (Fails : Type 0) (failing : can.
       may_fail None is = tt
       may_fail (Some x) is = failing (sym alters ∙ is)
 
-      end_so : EndFine (file_len start) (IsMapped start last n) (LineAt last n) Fails c s e
+      end_so : EndFine (file_len start) (IsMapped start last n) (LineAt start last n) Fails c s e
       end_so = record {
         fins = λ fell. plain_at fell (fin_position e.tcp.send) behind_first;
         infinite = own_line e.modes.own_infinite shown.pairs.0;
         told = may_fail e.modes.failed_mapping shown.pairs.4;
         telling = may_fail e.treated.failed_mapping shown.pairs.5;
-        known = known_so start last n there.plan s e out back view shown hold begins ends later later_there longer first_is (LineAt last n) Fails;
-        ends = λ place is. end_told start last n there.plan s e out back view shown hold begins ends later later_there longer first_is (LineAt last n) Fails place;
+        known = known_so start last n there.plan s e out back view shown hold begins ends later later_there longer first_is (LineAt start last n) Fails;
+        ends = λ place is. end_told start last n there.plan s e out back view shown hold begins ends later later_there longer first_is (LineAt start last n) Fails place;
         records = record {
           each = λ i r there_one. (
-            kind_so start last n there.plan s e out back view shown hold begins ends later later_there longer first_is (LineAt last n) Fails r.kind r (shown.sender.pieces.each i r there_one)
+            kind_so start last n there.plan s e out back view shown hold begins ends later later_there longer first_is (LineAt start last n) Fails r.kind r (shown.sender.pieces.each i r there_one)
                 (tells.sender.records.each i r there_one).mapped,
             record_line r.kind r (shown.sender.pieces.each i r there_one),
           );
@@ -272,38 +273,38 @@ module _ (start : Start) (can : MayCarry start) (Fails : Type 0) (failing : can.
         let hold = holds.ba.lanes.each n n there.ba (omega arith) there.ba_there in
         fell_so (swapped (either_plain duo.modes.plain_b duo.modes.plain_a (hold.modes.sender (there.shows.b.sender.plain ∙ is))))
 
-    fine : (s : Side) → EndFine (file_len start) (IsMapped start last n) (LineAt last n) Fails c s (end_at s p) × RecordsCarry (Bearing start Fails last n) c s (end_at s p)
+    fine : (s : Side) → EndFine (file_len start) (IsMapped start last n) (LineAt start last n) Fails c s (end_at s p) × RecordsCarry (Bearing start Fails last n) c s (end_at s p)
     fine A =
         let hold = holds.ab.lanes.each n n there.ab (omega arith) there.ab_there in
         let later = grows.ab n there.ab there.ab_there in (
           end_so A p.a there.ab there.ba _ there.shows.a hold told.a writes_a.prefix (closed_so start.file_a six.send_a writes_a.whole) later.0 later.1 later.2 first_a (own_pieces A)
-              hold.link.alters_is (view_of (flags_ab last.modes) last.ab.send last.ab.arrived) (last_ab later.0 later.1) alone_a,
+              hold.link.alters_is (view_of (flags_ab last.modes) last.ab.send last.ab.arrived) (last_ab later.0 later.1) (ended.written A) (ended.closed A) alone_a,
           bears_so A p.a there.ab there.ba _ there.shows.a hold told.a writes_a.prefix (closed_so start.file_a six.send_a writes_a.whole) later.0 later.1 later.2 first_a (own_pieces A)
-              hold.link.alters_is (view_of (flags_ab last.modes) last.ab.send last.ab.arrived) (last_ab later.0 later.1) alone_a,
+              hold.link.alters_is (view_of (flags_ab last.modes) last.ab.send last.ab.arrived) (last_ab later.0 later.1) (ended.written A) (ended.closed A) alone_a,
         )
     fine B =
         let hold = holds.ba.lanes.each n n there.ba (omega arith) there.ba_there in
         let later = grows.ba n there.ba there.ba_there in (
           end_so B p.b there.ba there.ab _ there.shows.b hold told.b writes_b.prefix (closed_so start.file_b six.send_b writes_b.whole) later.0 later.1 later.2
-              (λ own unclear place len has. absurd (false≢true own)) (own_pieces B) hold.link.alters_is (view_of (flags_ba last.modes) last.ba.send last.ba.arrived) (last_ba later.0 later.1) alone_b,
+              (λ own unclear place len has. absurd (false≢true own)) (own_pieces B) hold.link.alters_is (view_of (flags_ba last.modes) last.ba.send last.ba.arrived) (last_ba later.0 later.1) (ended.written B) (ended.closed B) alone_b,
           bears_so B p.b there.ba there.ab _ there.shows.b hold told.b writes_b.prefix (closed_so start.file_b six.send_b writes_b.whole) later.0 later.1 later.2
-              (λ own unclear place len has. absurd (false≢true own)) (own_pieces B) hold.link.alters_is (view_of (flags_ba last.modes) last.ba.send last.ba.arrived) (last_ba later.0 later.1) alone_b,
+              (λ own unclear place len has. absurd (false≢true own)) (own_pieces B) hold.link.alters_is (view_of (flags_ba last.modes) last.ba.send last.ba.arrived) (last_ba later.0 later.1) (ended.written B) (ended.closed B) alone_b,
         )
 
     offers : PathAlso (Tells start Fails last) p
     offers = subst (λ (k : ℕ). IfSome (first_sends p.agenda p) (λ t. Tells start Fails last k t.from (segment_sent p t))) (sym there.numbered) (by (first_sends p.agenda p) maps carries)
       where
-        maps : IfSome (first_sends p.agenda p) (λ t. AllFine (file_len start) (IsMapped start last n) (LineAt last n) Fails t.from (segment_sent p t).options)
+        maps : IfSome (first_sends p.agenda p) (λ t. AllFine (file_len start) (IsMapped start last n) (LineAt start last n) Fails t.from (segment_sent p t).options)
         maps =
-            first_fine_sent (file_len start) (IsMapped start last n) (LineAt last n) Fails p
-            (λ s. subst (λ (d : Profile). EndFine (file_len start) (IsMapped start last n) (LineAt last n) Fails d s (end_at s p)) (sym there.shows.profile) (fine s).0) p.agenda
+            first_fine_sent (file_len start) (IsMapped start last n) (LineAt start last n) Fails p
+            (λ s. subst (λ (d : Profile). EndFine (file_len start) (IsMapped start last n) (LineAt start last n) Fails d s (end_at s p)) (sym there.shows.profile) (fine s).0) p.agenda
 
         carries : IfSome (first_sends p.agenda p) (λ t. Carries (Bearing start Fails last n) t.from (segment_sent p t))
         carries =
             first_carries (Bearing start Fails last n) p
             (λ s. subst (λ (d : Profile). RecordsCarry (Bearing start Fails last n) d s (end_at s p)) (sym there.shows.profile) (fine s).1) p.agenda
 
-        by : (o : Option ToSend) → IfSome o (λ t. AllFine (file_len start) (IsMapped start last n) (LineAt last n) Fails t.from (segment_sent p t).options)
+        by : (o : Option ToSend) → IfSome o (λ t. AllFine (file_len start) (IsMapped start last n) (LineAt start last n) Fails t.from (segment_sent p t).options)
             → IfSome o (λ t. Carries (Bearing start Fails last n) t.from (segment_sent p t)) → IfSome o (λ t. Tells start Fails last n t.from (segment_sent p t))
         by None one other = tt
         by (Some t) one other = (one, other)
