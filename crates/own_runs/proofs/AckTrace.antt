@@ -83,7 +83,7 @@ use Rattle.own_runs.proofs.Values.{drawn}
 
 -- ---- facts of one segment, by another way to say whose it is
 
-behind_for : (U T V W : Type 0) (d : Drawn) (seen : Seen) (own other : IsOwn d seen) → other.path ≡ own.path → other.from ≡ own.from → IsBehind U T V W d seen own → IsBehind U T V W d seen other
+pub behind_for : (U T V W : Type 0) (d : Drawn) (seen : Seen) (own other : IsOwn d seen) → other.path ≡ own.path → other.from ≡ own.from → IsBehind U T V W d seen own → IsBehind U T V W d seen other
 behind_for U T V W d seen own other path from h = record {
   acks = λ of_b syn. h.acks (sym from ∙ of_b) syn;
   late = h.late;

@@ -61,6 +61,7 @@ mod LateJoins
 mod Learning
 mod Lines
 mod LinesKept
+mod LinesTrace
 mod MapKept
 mod MapPlaces
 mod MapPositions

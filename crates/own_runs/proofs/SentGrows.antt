@@ -29,7 +29,7 @@ pub record Longer (l m : Lane) : Type 0 where
   pub edge : l.edge ≤ m.edge
   pub says : SaysMore l m
 
-no_more : (l m : Lane) → m.pairs ≡ l.pairs → m.fins ≡ l.fins → SaysMore l m
+pub no_more : (l m : Lane) → m.pairs ≡ l.pairs → m.fins ≡ l.fins → SaysMore l m
 no_more l m pairs fins = record { pairs = λ i x at. ap (λ (ps : List Pair). slice_get ps i) pairs ∙ at; fins = λ i n at. ap (λ (ns : List ℕ). slice_get ns i) fins ∙ at }
 
 one_pair : (l m : Lane) (x : Pair) → m.pairs ≡ l.pairs ++ x ∷ [] → m.fins ≡ l.fins → SaysMore l m
