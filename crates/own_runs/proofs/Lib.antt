@@ -61,6 +61,7 @@ mod LateJoins
 mod Learning
 mod Lines
 mod LinesKept
+mod LinesTimes
 mod LinesTrace
 mod MapKept
 mod MapPlaces
