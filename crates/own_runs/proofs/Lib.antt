@@ -25,6 +25,8 @@ mod EndMarks
 mod EndPaths
 mod EndRuns
 mod FateWords
+mod FinRuns
+mod FinSays
 mod FineMoments
 mod FinePositions
 mod Fitting

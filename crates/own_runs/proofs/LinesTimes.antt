@@ -22,6 +22,7 @@ use Rattle.seen_streams.specs.State.{StreamValue}
 use Rattle.sides.specs.declared.side.Side.TheVariants.{A, B}
 use Rattle.sides.specs.declared.side.Side.{Side}
 use Rattle.stream_lanes.specs.Duo.{Duo}
+use Rattle.world_laws.proofs.Lanes.OfAWorld.{anyhow}
 use Rattle.world_laws.specs.Openings.{Start, opened_world}
 use Rattle.world_laws.specs.Promises.{HasRoom, NumbersFit}
 use Rattle.world_laws.specs.Worlds.{Turn, WorldState, after_turn, world_run}
@@ -31,7 +32,8 @@ use Rattle.own_runs.specs.Traces.{FitsCapture, packet_for}
 use Rattle.own_runs.proofs.AckMoments.{Sends, one_turn}
 use Rattle.own_runs.proofs.BearsPlain.{BearsPlain, bears_at}
 use Rattle.own_runs.proofs.ComesTimes.{Answered, Opened, comes_keyed}
-use Rattle.own_runs.proofs.EndMaps.{content, file_len}
+use Rattle.own_runs.proofs.EndMaps.{FinOn, content, file_len, lane_of}
+use Rattle.own_runs.proofs.FinRuns.{fin_stands}
 use Rattle.own_runs.proofs.Fitting.{traces_fit}
 use Rattle.own_runs.proofs.InTime.{OpensAt, ResetsPath, Sending, SynsAt, SynsPath, WasReset, WasSaid, turn_sending, was_last, was_more, was_split}
 use Rattle.own_runs.proofs.Kept.{same_judged}
@@ -45,7 +47,7 @@ use Rattle.own_runs.proofs.Moments.{IsSpoken, WorldAlso, world_speaks}
 use Rattle.own_runs.proofs.NextTrace.{octets_append}
 use Rattle.own_runs.proofs.OwnTrace.{found, seen_of}
 use Rattle.own_runs.proofs.ShownAcks.{both_worlds}
-use Rattle.own_runs.proofs.TellsPlaces.{RunTells, Tells, run_tells}
+use Rattle.own_runs.proofs.TellsPlaces.{RunTells, Tells, run_told}
 use Rattle.own_runs.proofs.TimeRuns.{OpensSo, opens_so}
 use Rattle.own_runs.proofs.Traces.{traces_are}
 
@@ -281,6 +283,14 @@ module _ (start : Start) (ends : Bool) (turns : List Turn) (size : HasRoom start
         by (Some book) e some =
             subst (λ (x : StreamValue). broke r x ≡ false) (some_same (stream_at s book) stream some) ((all_lined start ends told.0 fit told.2 at trace all_known room connection book e s).untold r is)
 
--- where only octets are asked
-pub no_run_breaks : (r : Rule) → is_line false r ≡ true → NoRunBreaks r
-no_run_breaks r is start turns size fit run = breaks_none start false turns size fit (run_tells start turns size fit) (λ before later turn split y sends asked. absurd (false≢true asked)) run r is
+-- whatever its script does
+pub no_run_breaks : (r : Rule) → is_line true r ≡ true → NoRunBreaks r
+no_run_breaks r is start turns size fit run =
+    let told = run_told start turns size fit in
+    breaks_none start true turns size fit (told.0, told.1, told.2)
+    (λ before later turn split y sends asked fin.
+    let it = fin_stands start (anyhow start size) size fit turns told.0 told.3 before later turn split y sends fin in
+    (it.0, subst (FinOn (lane_of told.0 y.path y.from)) (at_end y.segment.position y.segment.payload it.1) it.2)) run r is
+  where
+    at_end : (position : ℕ) (payload : List ℕ) → payload ≡ [] → position ≡ position + length payload
+    at_end position payload none = let empty : length payload ≡ 0 = ap (λ (xs : List ℕ). length xs) none in omega (arith, empty)

@@ -64,7 +64,7 @@ use Rattle.own_runs.proofs.Moments.{MemberAlso, PathAlso, WorldAlso, end_shown, 
 use Rattle.own_runs.proofs.Offering.{AllFine, EndFine, PlainFine, first_fine_sent}
 use Rattle.own_runs.proofs.Own.{own_key}
 use Rattle.own_runs.proofs.PiecesTold.{IsPart, PieceOf, always_pieces}
-use Rattle.own_runs.proofs.Reached.{duo_at, run_reaches}
+use Rattle.own_runs.proofs.Reached.{EachReaches, duo_at, run_reaches}
 use Rattle.own_runs.proofs.SentGrows.{Grows, Longer}
 use Rattle.own_runs.proofs.Speaking.{ToSend}
 use Rattle.own_runs.proofs.Values.{drawn}
@@ -336,12 +336,18 @@ abbrev pub RunTells : Start → Type 0 → List Turn → Type 0
 RunTells start Fails turns =
     (last : Duo) × ((more later : List Turn) → more ++ later ≡ turns → WorldAlso (Tells start Fails last) (world_run octets more (opened_world start))) × AtLast start last
 
+-- and how these lanes were reached
+abbrev pub RunTold : (start : Start) → MayCarry start → Type 0 → List Turn → Type 0
+RunTold start can Fails turns =
+    (last : Duo) × ((more later : List Turn) → more ++ later ≡ turns → WorldAlso (Tells start Fails last) (world_run octets more (opened_world start))) × AtLast start last
+    × EachReaches start can turns last
+
 module _ (start : Start) (can : MayCarry start) (free : NoneIsFirm can.links) (Fails : Type 0) (failing : can.links.alters ≡ true → Fails) (size : HasRoom start) (fit : NumbersFit start) where
-  tells_by : (turns : List Turn) → RunTells start Fails turns
-  tells_by turns =
+  told_by : (turns : List Turn) → RunTold start can Fails turns
+  told_by turns =
       let reached = run_reaches start can turns (free_run can.links free turns (opened_world start)) in
       let ended = at_last start can turns reached.0 reached.2 in
-      (reached.0, λ more later is. moment reached.0 ended more (reached.1 more later is), ended)
+      (reached.0, λ more later is. moment reached.0 ended more (reached.1 more later is), ended, reached.1)
     where
       moment : (last : Duo) → AtLast start last → (more : List Turn) → (q : Reached can.links start (world_run values more (opened_world start))) × Grows (duo_at start can (world_run values more (opened_world start)) q) last
           → WorldAlso (Tells start Fails last) (world_run octets more (opened_world start))
@@ -352,9 +358,15 @@ module _ (start : Start) (can : MayCarry start) (free : NoneIsFirm can.links) (F
           subst (λ (y : ActorCrew (List ℕ)). MemberAlso (Tells start Fails last) y.member) found.2
           (member_shown start Fails last found.0.member (valued start can Fails failing more size fit last r.0 r.1 ended i found.0 found.1)))
 
+  tells_by : (turns : List Turn) → RunTells start Fails turns
+  tells_by turns = let told = told_by turns in (told.0, told.1, told.2)
+
 -- whatever the script does
 pub run_tells : (start : Start) (turns : List Turn) → HasRoom start → NumbersFit start → RunTells start (Unit {0}) turns
 run_tells start turns size fit = tells_by start (anyhow start size) (anyhow_free start size) (Unit {0}) (λ is. tt) size fit turns
+
+pub run_told : (start : Start) (turns : List Turn) (size : HasRoom start) → NumbersFit start → RunTold start (anyhow start size) (Unit {0}) turns
+run_told start turns size fit = told_by start (anyhow start size) (anyhow_free start size) (Unit {0}) (λ is. tt) size fit turns
 
 -- no MP_FAIL where it alters no payload
 pub plain_tells : (start : Start) (turns : List Turn) → IsPlain start → NumbersFit start → RunTells start ⊥ turns

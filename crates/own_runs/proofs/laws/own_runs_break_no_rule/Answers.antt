@@ -1,5 +1,5 @@
 use Rattle.std.proofs.Common.{refl}
-use Rattle.judge_rules.specs.declared.finding.Rule.TheVariants.{AddressHmac, DssSum, Fail, FastCloseKey, Form, JoinHmac, Keys, Mapping, PlaceContent, Token, Within}
+use Rattle.judge_rules.specs.declared.finding.Rule.TheVariants.{AddressHmac, DataFin, DssSum, Fail, FastCloseKey, Form, JoinHmac, Keys, Mapping, PlaceContent, Token, Within}
 use Rattle.own_runs.proofs.Kept.{no_run_breaks}
 use Rattle.own_runs.proofs.LinesTimes as lines
 use Rattle.own_runs.proofs.PlacesTrace as places
@@ -34,6 +34,9 @@ returns-clause-dss_sum c = places.no_run_breaks DssSum refl
 
 pub returns-clause-place_content : goal.returns-clause-place_content
 returns-clause-place_content c = lines.no_run_breaks PlaceContent refl
+
+pub returns-clause-data_fin : goal.returns-clause-data_fin
+returns-clause-data_fin c = lines.no_run_breaks DataFin refl
 
 pub returns-clause-fail : goal.returns-clause-fail
 returns-clause-fail c = places.no_plain_run_breaks Fail refl
