@@ -1,9 +1,8 @@
 -- Where each FIN of a trace stands: behind the turn that sends it, its lane has it.
-use Rattle.std.proofs.Common.{◌≡◌, refl, sym, ap, ◌∙◌, subst, ℕ, zero, suc, ◌+◌, ◌-◌, ◌≤◌, Bool, true, false, if◌then◌else◌, Option, Some, None, option_map, List, [], ◌∷◌, ◌++◌, append_assoc, length, arith}
+use Rattle.std.proofs.Common.{◌≡◌, refl, sym, ap, ◌∙◌, subst, ℕ, suc, ◌+◌, ◌-◌, Bool, true, false, if◌then◌else◌, Option, Some, None, option_map, List, [], ◌∷◌, ◌++◌, append_assoc, arith}
 use Rattle.std.specs.List.{slice_get}
 use Rattle.std.specs.Option.{IfSome}
-use Rattle.std.proofs.Math.ListN.{set}
-use Rattle.std.proofs.lemmas.Bool.{and_parts, both_ways, false≢true}
+use Rattle.std.proofs.lemmas.Bool.{and_parts, false≢true}
 use Rattle.actor_desk.specs.Books.{books_in}
 use Rattle.actor_desk.specs.Words.{pick}
 use Rattle.actor_desk.specs.declared.ask.Ask.{Ask}
@@ -48,7 +47,7 @@ use Rattle.world_laws.proofs.Worlds.CastLifting.{each_actor, path_actor}
 use Rattle.world_laws.proofs.Worlds.Casts.{Walker, walking}
 use Rattle.world_laws.proofs.Writes.Paths.{passes_no_more}
 use Rattle.world_laws.proofs.Writes.Steps.{Lasts, both_ends, settled_lasts, unwritten}
-use Rattle.world_laws.specs.Actors.{Actor, ActorCrew, member_asks, member_takes}
+use Rattle.world_laws.specs.Actors.{Actor, ActorCrew, member_asks}
 use Rattle.world_laws.specs.Fresh.{shown_crew, shown_member}
 use Rattle.world_laws.specs.Openings.{Start, opened_world, path_begins}
 use Rattle.world_laws.specs.Promises.{HasRoom, NumbersFit}

@@ -2,7 +2,7 @@
 -- positions behind it the places that they have, or it stands behind the FIN.
 use Rattle.std.proofs.Common.{◌≡◌, refl, sym, ap, ◌∙◌, subst, ℕ, suc, ◌-◌, ◌≤◌, ◌⊎◌, ◌||◌, not, inl, inr, ⊎_elim, Bool, true, false, if◌then◌else◌, Option, Some, None, List, length, length-append, arith}
 use Rattle.std.specs.List.{slice_get}
-use Rattle.std.proofs.lemmas.Bool.{both_ways, false≢true}
+use Rattle.std.proofs.lemmas.Bool.{both_ways}
 use Rattle.actor_desk.specs.Books.{books_in}
 use Rattle.actor_desk.specs.Desk.{SixBooks}
 use Rattle.actor_desk.specs.Words.{pick}
@@ -15,7 +15,7 @@ use Rattle.stream_lanes.proofs.Duos.{any_held}
 use Rattle.stream_lanes.proofs.Lists.{item_at}
 use Rattle.stream_lanes.proofs.MarkLists.{new_count}
 use Rattle.stream_lanes.proofs.Promises.{paths_short}
-use Rattle.stream_lanes.specs.Duo.{Duo, flags_ab, flags_ba}
+use Rattle.stream_lanes.specs.Duo.{Duo}
 use Rattle.stream_lanes.specs.Holding.{Holds, LaneHolds}
 use Rattle.stream_lanes.specs.Lane.{Cell, Lane, Pair}
 use Rattle.stream_lanes.specs.Moves.{place_by}

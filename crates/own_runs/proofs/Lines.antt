@@ -1,7 +1,7 @@
 -- Where each infinite mapping of a side's segments gives the positions behind it the places that they have (RFC 8684, section 3.7), and all payload stands
 -- among the positions of its lane, what comes to a place is its octet: none of them breaks `place-content`. Where a FIN stands so that the infinite
 -- mapping gives it the end of the stream, none breaks `data-fin`.
-use Rattle.std.proofs.Common.{◌≡◌, refl, sym, ap, ◌∙◌, subst, ℕ, ℤ, zero, suc, ◌⊎◌, inl, inr, ⊎_elim, ◌+◌, ◌-◌, ◌<◌, ◌≤◌, ◌^◌, ◌==◌, ◌&&◌, ◌||◌, max, pos, nat_le, nat_lt, Bool, true, false, if◌then◌else◌, Option, Some, None, is_some, Result, Ok, Err, List, [], ◌∷◌, ◌++◌, length, drop, arith}
+use Rattle.std.proofs.Common.{◌≡◌, refl, sym, ap, ◌∙◌, subst, ℕ, ℤ, zero, suc, ◌⊎◌, inl, inr, ⊎_elim, ◌+◌, ◌-◌, ◌<◌, ◌≤◌, ◌^◌, ◌==◌, ◌&&◌, ◌||◌, max, pos, nat_le, nat_lt, Bool, true, false, if◌then◌else◌, Option, Some, None, is_some, Result, Ok, Err, List, [], ◌∷◌, ◌++◌, drop, arith}
 use Rattle.std.specs.Prelude.{All, IfSome, get_or, int_lt, slice_get}
 use Rattle.std.specs.Int.{from_bool}
 use Rattle.std.specs.Option.{option_map, option_or}
@@ -35,7 +35,7 @@ use Rattle.seen_streams.specs.Mapped as mapped
 use Rattle.seen_streams.specs.Mapped.{Mapped, against_infinite, by_rule, fin_after, finite, finite_at, finite_by, finite_fault, infinite_by, line_fault, lowest_line, mapped_at, octets_fault, one_more, placed_fault, told_mapping}
 use Rattle.seen_streams.specs.Positions.{with_fin}
 use Rattle.seen_streams.specs.Same.{same_mapping}
-use Rattle.seen_streams.specs.State.{FaultValue, Found, LaneValue, StreamValue, counted, line_place, place_of, with_broken, with_found}
+use Rattle.seen_streams.specs.State.{FaultValue, Found, LaneValue, StreamValue, line_place, place_of, with_broken, with_found}
 use Rattle.seen_streams.specs.Sums.{is_whole, sum_fault, summed_by, tried_if_whole, tried_sum, tried_sums, with_sums}
 use Rattle.seen_streams.specs.declared.told.Broke.{Broke}
 use Rattle.seen_streams.specs.declared.told.Teller.{Teller}

@@ -2,7 +2,6 @@
 -- each segment that isn't a reset stands low, its position is that of its number. A reset maps nothing, and nothing but resets comes behind it.
 use Rattle.std.proofs.Common.{◌≡◌, refl, sym, ap, ◌∙◌, subst, ℕ, suc, ◌+◌, ◌%◌, ◌^◌, ◌<◌, ◌≤◌, ◌⊎◌, inl, inr, ⊎_elim, max, Bool, true, false, if◌then◌else◌, Option, Some, None, is_some, List, [], ◌∷◌, map, arith}
 use Rattle.std.specs.Prelude.{All, IfSome}
-use Rattle.std.specs.List.{slice_get}
 use Rattle.std.specs.Option.{option_map}
 use Rattle.std.proofs.lemmas.Bool.{false≢true}
 use Rattle.std.proofs.lemmas.List.Elements.{All-cons, All-head, All-nil, All-tail}
@@ -31,7 +30,6 @@ use Rattle.seen_streams.specs.State.{Found, LaneValue, StreamValue, empty_lane}
 use Rattle.sides.specs.Side.{peer}
 use Rattle.sides.specs.declared.side.Side.TheVariants.{A, B}
 use Rattle.sides.specs.declared.side.Side.{Side}
-use Rattle.judge_rules.specs.declared.acks.ToldPlace.{ToldPlace}
 use Rattle.own_runs.proofs.FinePositions.{TellsNoFail, position_so}
 use Rattle.own_runs.proofs.KeptOptions.{kept_so}
 use Rattle.own_runs.proofs.LanePlaces.{LanePlaced, OptionTells, StreamPlaced, at_so as placed_so, is_place}
@@ -39,7 +37,7 @@ use Rattle.own_runs.proofs.Lines.{InfiniteLined, LaneLined, OptionLined, StreamL
 use Rattle.own_runs.proofs.MapKept.{alike}
 use Rattle.own_runs.proofs.MapPositions.{Bears, OfferIs}
 use Rattle.own_runs.proofs.OpenFlows.{OpensBy}
-use Rattle.own_runs.proofs.Own.{Drawn, IsOwn, ValueIs, is_a, own_initial, own_key}
+use Rattle.own_runs.proofs.Own.{Drawn, IsOwn, ValueIs, is_a, own_key}
 use Rattle.own_runs.proofs.OwnFlows.{FlowOn, KeysOwn, NonceIs}
 use Rattle.own_runs.proofs.OwnOptions.{IsOf, key_is, options_so, readable_so}
 use Rattle.own_runs.proofs.OwnPackets.{AllHold, IsLeft, SegmentsKeep, opens_so, sender_so}

@@ -1,8 +1,7 @@
 -- In the capture of a run, whatever its script does, no place has two octets, and the DATA_FIN stands at one place.
-use Rattle.std.proofs.Common.{◌≡◌, refl, sym, ap, ◌∙◌, subst, ℕ, ◌+◌, ◌<◌, ◌≤◌, ◌⊎◌, inl, inr, ⊎_elim, Bool, true, false, Option, Some, None, option_map, Ok, Result, List, [], ◌∷◌, ◌++◌, append-nil, append_assoc, length, map, arith}
+use Rattle.std.proofs.Common.{◌≡◌, refl, sym, ap, ◌∙◌, subst, ℕ, ◌+◌, ◌<◌, ◌≤◌, ◌⊎◌, inl, inr, ⊎_elim, Bool, true, false, Option, Some, None, option_map, Ok, Result, List, [], ◌∷◌, ◌++◌, append_assoc, length, map, arith}
 use Rattle.std.specs.Prelude.{All}
 use Rattle.std.specs.List.{slice_get}
-use Rattle.std.proofs.lemmas.Bool.{false≢true}
 use Rattle.std.proofs.lemmas.List.Elements.{All-cons, All-head, All-nil, All-tail}
 use Rattle.std.proofs.lemmas.Option.{slice_get_within}
 use Rattle.capture_reader.specs.Captured.{Captured}
@@ -45,7 +44,7 @@ use Rattle.own_runs.proofs.LinesTrace.{EndIn, LineKnown, LinesAt, as_told, begin
 use Rattle.own_runs.proofs.MapTrace.{few}
 use Rattle.own_runs.proofs.Moments.{IsSpoken, WorldAlso, world_speaks}
 use Rattle.own_runs.proofs.NextTrace.{octets_append}
-use Rattle.own_runs.proofs.OwnTrace.{found, seen_of}
+use Rattle.own_runs.proofs.OwnTrace.{found}
 use Rattle.own_runs.proofs.ShownAcks.{both_worlds}
 use Rattle.own_runs.proofs.TellsPlaces.{RunTells, Tells, run_told}
 use Rattle.own_runs.proofs.TimeRuns.{OpensSo, opens_so}

@@ -1,5 +1,5 @@
 -- Behind each segment of a run's capture, whatever its script does, what came to each place is its octet, by an infinite mapping, too.
-use Rattle.std.proofs.Common.{◌≡◌, refl, sym, ap, ◌∙◌, subst, ℕ, ℤ, zero, suc, ◌+◌, ◌-◌, ◌%◌, ◌^◌, ◌<◌, ◌≤◌, ◌⊎◌, inl, inr, ⊎_elim, ◌||◌, pos, negsuc, ltb, Bool, true, false, if◌then◌else◌, Option, Some, None, is_some, List, [], ◌∷◌, length, map, arith}
+use Rattle.std.proofs.Common.{◌≡◌, refl, sym, ap, ◌∙◌, subst, ℕ, ℤ, suc, ◌+◌, ◌-◌, ◌%◌, ◌^◌, ◌<◌, ◌≤◌, ◌⊎◌, inl, inr, ⊎_elim, ◌||◌, pos, negsuc, ltb, Bool, true, false, if◌then◌else◌, Option, Some, None, List, [], ◌∷◌, length, map, arith}
 use mir.Val.{sel}
 use Rattle.std.specs.Prelude.{All, IfSome, int_lt, ◌+ℤ◌, ◌-ℤ◌}
 use Rattle.std.specs.List.{list_any, slice_get}
@@ -7,7 +7,7 @@ use Rattle.std.proofs.lemmas.Bool.{both_ways, false≢true, ltb-false, ltb-true,
 use Rattle.std.proofs.lemmas.Int.{ints}
 use Rattle.std.proofs.lemmas.List.Elements.{All-cons, All-head, All-nil, All-tail}
 use Rattle.capture_reader.specs.Seen.{Seen}
-use Rattle.judge_rules.specs.Mappings.{natural, offer_of, place_on_line, position_near}
+use Rattle.judge_rules.specs.Mappings.{natural, place_on_line, position_near}
 use Rattle.judge_rules.specs.Numbers.{first_number}
 use Rattle.judge_rules.specs.declared.mappings.Line.{Line}
 use Rattle.link_trace.specs.declared.sent.Sent.{Sent}
@@ -16,13 +16,12 @@ use Rattle.mptcp_options.specs.declared.capable.CapableKeys.TheVariants.{Both, N
 use Rattle.path_segments.specs.Options.{PlainOption, relative_number, said_option}
 use Rattle.path_segments.specs.Spelled.{PlainSegment}
 use Rattle.path_segments.specs.declared.segment.PathMapping.TheVariants.{Bytes, End, Infinite}
-use Rattle.path_segments.specs.declared.segment.PathOption.TheVariants.{Capable, Dss, Fail}
+use Rattle.path_segments.specs.declared.segment.PathOption.TheVariants.{Capable, Dss}
 use Rattle.path_segments.specs.declared.spelling.Spelling.{Spelling}
 use Rattle.path_core.specs.Profile.{Profile}
 use Rattle.rule_book.specs.Judged.{judged, nothing_judged}
 use Rattle.rule_book.specs.State.{BookValue, JudgedValue, LanesValue}
 use Rattle.seen_connections.specs.Connections.{taken}
-use Rattle.seen_connections.specs.declared.flow.Opening.{Opening}
 use Rattle.segment_wire.specs.declared.head.Head.{Head}
 use Rattle.sides.specs.Side.{peer}
 use Rattle.sides.specs.declared.side.Side.TheVariants.{A, B}
@@ -40,7 +39,7 @@ use Rattle.own_runs.proofs.InTime.{ResetsPath, SynsPath, has_octets}
 use Rattle.own_runs.proofs.LastLanes.{AtLast, upto_short}
 use Rattle.own_runs.proofs.LateJoins.{ComesBehind, Says}
 use Rattle.own_runs.proofs.Learning.{IsAlone, IsAnswer}
-use Rattle.own_runs.proofs.Lines.{InfiniteLined, LineIs, OptionLined}
+use Rattle.own_runs.proofs.Lines.{LineIs, OptionLined}
 use Rattle.own_runs.proofs.LinesKept.{BookLined, IsLined, LanesLined, OffersNone, keep, later_holds, new_lined}
 use Rattle.own_runs.proofs.MapTrace.{few, well_so, where_in}
 use Rattle.own_runs.proofs.Moments.{IsSpoken}
@@ -51,10 +50,9 @@ use Rattle.own_runs.proofs.OpenCounts.{AreCounted, judged_counted}
 use Rattle.own_runs.proofs.OpenFlows.{OpensBy, opens_only}
 use Rattle.own_runs.proofs.Own.{IsOwn, own_key}
 use Rattle.own_runs.proofs.OwnFlows.{Each}
-use Rattle.own_runs.proofs.OwnPackets.{AllHold, NewBook, segment_so}
+use Rattle.own_runs.proofs.OwnPackets.{AllHold, segment_so}
 use Rattle.own_runs.proofs.OwnTrace.{from_is, heads_are, is_own, path_is, payload_same, seen_of}
 use Rattle.own_runs.proofs.OwnUntold.{BookUntold, tell}
-use Rattle.own_runs.proofs.OwnPositions.{same_position}
 use Rattle.own_runs.proofs.PlacesKept.{IsTelling}
 use Rattle.own_runs.proofs.PlacesTrace.{borne, good, good_at, good_from, good_path, good_values}
 use Rattle.own_runs.proofs.Placing.{PlacedIn}
