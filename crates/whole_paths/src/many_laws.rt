@@ -3,6 +3,7 @@ ghost use Rattle.path_core.specs.Octets.{octets};
 ghost use Rattle.path_core.specs.Values.{values};
 ghost use Rattle.whole_paths.specs.EdgeStands.{NothingIsTriedPastTheEdge, ShutEndsStayShut};
 ghost use Rattle.whole_paths.specs.Wanted.{WhatIsWantedIsTold};
+ghost use Rattle.whole_paths.specs.WindowWaits.{ShutEndsAreAwaited};
 
 /// A law: what a side's reassembly book wants next, each of its ends tells from its path's next turn on (RFC 8684, section 3.3.2).
 ///
@@ -21,4 +22,13 @@ pub fn what_is_wanted_is_told()
 pub fn shut_ends_stay_shut()
     ensures stays { ShutEndsStayShut }
     ensures untried { NothingIsTriedPastTheEdge }
+{}
+
+/// A law: a wait for the window of an end that is shut out there goes on by each turn until something is counted, and it is never late, over any number of
+/// paths (RFC 9293, section 3.8.6.1).
+///
+/// As a round begins, such a wait begins at an end of path 0 without a record, for a minute and 800 ticks, where the peer's book takes 32 bytes past the
+/// edge: probes ask for the window meanwhile. Path 0 is open, and it doesn't stand by.
+pub fn shut_ends_are_awaited()
+    ensures { ShutEndsAreAwaited }
 {}
