@@ -765,3 +765,10 @@ module _ (start : Start) (plan : PathPlan) (one : start.paths ≡ plan ∷ []) (
   edge_at turns p here alive met over = ⊎_elim (λ next. absurd (let both = sym over ∙ next.first in cc)) (λ low. low)
       (((subst (Of (Unshut (books_at turns))) here.is
       ((each_booked values start (GoesOn start s least small some) goes_so Unshut opened_unshut (λ turns turn steps p q here there on h alive. on (before_at turns p here) alive h) turns).each here.crew here.there)) alive).told met)
+
+  -- and where it asks for bytes
+  pub edge_asks : (turns : List Turn) (p : PathState Carried) → IsPathAt 0 (reached values start turns) p → IsAlive p → 2 ≤ stage (end_at s p).tcp.state → (others : List Duty)
+      → p.agenda ≡ duties.Step (step_duties.Data s) ∷ others → least ≤ (written_by s (reached values start turns)).edge
+  edge_asks turns p here alive met others asks = ⊎_elim (λ next. absurd (let both = sym asks ∙ next.first in cc)) (λ low. low)
+      (((subst (Of (Unshut (books_at turns))) here.is
+      ((each_booked values start (GoesOn start s least small some) goes_so Unshut opened_unshut (λ turns turn steps p q here there on h alive. on (before_at turns p here) alive h) turns).each here.crew here.there)) alive).told met)

@@ -241,6 +241,7 @@ pub mod ReadSegments
 pub mod EndRounds
 pub mod UnitRounds
 pub mod PatientPaths
+pub mod PatientTexts
 pub mod WindowKinds
 pub mod WindowsHeld
 pub mod CalmWindows
@@ -298,6 +299,8 @@ pub mod Opened
 pub mod SignPieces
 pub mod EarlyRecords
 pub mod EarlyCopies
+pub mod WrittenAtOnce
+pub mod FewRecords
 pub mod ProbeWaits
 pub mod EachLane
 pub mod WindowStalls
@@ -316,3 +319,6 @@ pub mod FewTexts
 pub mod BriefRuns
 pub mod FirstMissing
 pub mod GrantReasons
+pub mod MissingBytes
+pub mod ReturnWaits
+pub mod CountedCourses

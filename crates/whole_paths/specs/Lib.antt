@@ -150,6 +150,7 @@ pub mod UnitRounds
 pub mod RisesOwed
 pub mod ToldStays
 pub mod PatientPaths
+pub mod PatientTexts
 pub mod WindowKinds
 pub mod WindowsHeld
 pub mod CalmWindows
@@ -178,6 +179,8 @@ pub mod Opened
 pub mod SignPieces
 pub mod EarlyRecords
 pub mod EarlyCopies
+pub mod WrittenAtOnce
+pub mod FewRecords
 pub mod ProbeWaits
 pub mod WindowStalls
 pub mod Holders
@@ -188,3 +191,6 @@ pub mod Refusals
 pub mod QuietTexts
 pub mod FewTexts
 pub mod FirstMissing
+pub mod MissingBytes
+pub mod ReturnWaits
+pub mod CountedCourses

@@ -13,7 +13,7 @@ use Rattle.whole_paths.specs.OnePathScripts.{AnEndDiedEarly, Count, harms_alone}
 use Rattle.whole_paths.specs.QuietOpenings.{lost_early}
 
 -- What is paid for: each segment that is harmed; and each copy with octets that comes to B's end before that may send a DSS, but no more of them than
--- A's end has records as it may first.
+-- A's end has records as it may first, nor than A's file has full segments, where that fits the first window.
 abbrev pub harms_and_early : {C : Type 0} → Codec C → Count
 harms_and_early k start turns = lost_early start turns + harms_alone k start turns
 
