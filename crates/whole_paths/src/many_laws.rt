@@ -2,6 +2,7 @@
 ghost use Rattle.path_core.specs.Octets.{octets};
 ghost use Rattle.path_core.specs.Values.{values};
 ghost use Rattle.whole_paths.specs.EdgeStands.{NothingIsTriedPastTheEdge, ShutEndsStayShut};
+ghost use Rattle.whole_paths.specs.ManyWaits.{EachMissingByteIsWaitedFor};
 ghost use Rattle.whole_paths.specs.Wanted.{WhatIsWantedIsTold};
 ghost use Rattle.whole_paths.specs.WindowWaits.{ShutEndsAreAwaited};
 
@@ -31,4 +32,13 @@ pub fn shut_ends_stay_shut()
 /// edge: probes ask for the window meanwhile. Path 0 is open, and it doesn't stand by.
 pub fn shut_ends_are_awaited()
     ensures { ShutEndsAreAwaited }
+{}
+
+/// A law: where not all bytes are acknowledged as a round is over that a side had written as it began, its end of path 0 waits for a record, an answer, a
+/// window, or for a byte that another path holds, or something was counted in the round (RFC 8684, section 3.3.2).
+///
+/// So it is in a mild connection over any number of paths, with buffers of 32 bytes at least, where path 0 is open, the end may still send its FIN, and
+/// the path doesn't stand by. The wait is for a minute and 800 ticks. What is counted is what is over one path, and what became of the bytes of each stream.
+pub fn each_missing_byte_is_waited_for()
+    ensures { EachMissingByteIsWaitedFor }
 {}
