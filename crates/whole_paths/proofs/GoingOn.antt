@@ -149,7 +149,7 @@ module _ (start : Start) where
       let harms = harmed_append values 0 turns more (opened_world start) in
       omega (arith, up, harms)
 
-  sides_far : (turns more : List Turn) (s : Side) → IsSideAsFar s (books_in (at turns).books) (books_in (at (turns ++ more)).books)
+  pub sides_far : (turns more : List Turn) (s : Side) → IsSideAsFar s (books_in (at turns).books) (books_in (at (turns ++ more)).books)
   sides_far turns more s = subst (λ (w : WorldState Carried). IsSideAsFar s (books_in (at turns).books) (books_in w.books)) (sym (runs turns more)) ((goes_on_so values (at turns) more).sides s)
 
   -- with all of a stream that is there at last
