@@ -322,3 +322,4 @@ pub mod GrantReasons
 pub mod MissingBytes
 pub mod ReturnWaits
 pub mod CountedCourses
+pub mod ManyGoingOn

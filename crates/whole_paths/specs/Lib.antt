@@ -194,3 +194,4 @@ pub mod FirstMissing
 pub mod MissingBytes
 pub mod ReturnWaits
 pub mod CountedCourses
+pub mod ManyGoingOn
