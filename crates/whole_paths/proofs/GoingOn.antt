@@ -231,7 +231,7 @@ path_at start plan one turns =
 
 -- ---- as a round ends
 
-same_books : (w : WorldState Carried) → (end_round w).books ≡ w.books
+pub same_books : (w : WorldState Carried) → (end_round w).books ≡ w.books
 same_books w = elim (all_over w.crew) as (λ b. (if b then record w { crew = map (begins (greatest 0 w.crew)) w.crew } else w).books ≡ w.books) [ true ↦ refl | false ↦ refl ]
 
 nil_so : (ds : List Duty) → is_nil ds ≡ true → ds ≡ []
