@@ -111,6 +111,7 @@ mod RecordsKept
 mod ResetTrace
 mod RoundShown
 mod Sayings
+mod SeenFiles
 mod Segments
 mod SentGrows
 mod ShortOctets

@@ -1,5 +1,5 @@
 -- In the capture of a run, whatever its script does, no place has two octets, and the DATA_FIN stands at one place.
-use Rattle.std.proofs.Common.{◌≡◌, refl, sym, ap, ◌∙◌, subst, ℕ, ◌+◌, ◌<◌, ◌≤◌, ◌⊎◌, inl, inr, ⊎_elim, Bool, true, false, Option, Some, None, option_map, Ok, Result, List, [], ◌∷◌, ◌++◌, append_assoc, length, map, arith}
+use Rattle.std.proofs.Common.{◌≡◌, refl, sym, ap, ◌∙◌, subst, ℕ, ◌+◌, ◌<◌, ◌^◌, ◌≤◌, ◌⊎◌, inl, inr, ⊎_elim, Bool, true, false, Option, Some, None, option_map, Ok, Result, List, [], ◌∷◌, ◌++◌, append_assoc, length, map, arith}
 use Rattle.std.specs.Prelude.{All}
 use Rattle.std.specs.List.{slice_get}
 use Rattle.std.proofs.lemmas.List.Elements.{All-cons, All-head, All-nil, All-tail}
@@ -9,7 +9,7 @@ use Rattle.capture_reader.specs.Seen.{Seen, segment_in_packet}
 use Rattle.capture_reader.specs.Steps.{◌>>=◌}
 use Rattle.capture_verdict.specs.Judging.{judged_capture, judged_if_seen, judged_packets}
 use Rattle.judge_laws.proofs.Standing.{some_same}
-use Rattle.judge_laws.specs.GoesOn.{broke, stream_in}
+use Rattle.judge_laws.specs.GoesOn.{stream_in}
 use Rattle.judge_rules.specs.declared.finding.Rule.{Rule}
 use Rattle.link_trace.specs.declared.sent.Sent.{Sent}
 use Rattle.path_core.specs.Octets.{octets}
@@ -257,9 +257,10 @@ module _ (start : Start) (ends : Bool) (turns : List Turn) (size : HasRoom start
         known_rest turns [] refl ⊥ ⊥ (λ n. ⊥) (λ n t. ⊥)
         (record { opened = λ is. none_said (OpensAt 0) is; answered = λ is. none_said Keyed is; syn = λ n no. absurd no; reset = λ n t no. absurd no })
 
-    pub breaks_none : RunFits start turns → (r : Rule) → is_line ends r ≡ true → (side : Side) (at : Option Side) (judged : JudgedValue) → judged_capture at true (capture_of start turns side) ≡ Ok judged
-        → (connection : ℕ) (s : Side) (stream : StreamValue) → stream_in judged connection s ≡ Some stream → broke r stream ≡ false
-    breaks_none run r is side at judged read connection s stream there = by (slice_get all_judged.books connection) refl (ap (λ (j : JudgedValue). stream_in j connection s) same ∙ there)
+    -- what the judge finds of a side
+    pub stands_so : RunFits start turns → (side : Side) (at : Option Side) (judged : JudgedValue) → judged_capture at true (capture_of start turns side) ≡ Ok judged
+        → (connection : ℕ) (s : Side) (stream : StreamValue) → stream_in judged connection s ≡ Some stream → StreamLined ends (file_len start s) (few start told.0 fit s) (content start s) stream
+    stands_so run side at judged read connection s stream there = by (slice_get all_judged.books connection) refl (ap (λ (j : JudgedValue). stream_in j connection s) same ∙ there)
       where
         trace : List Sent
         trace = trace_of turns (opened_world start)
@@ -277,19 +278,28 @@ module _ (start : Start) (ends : Bool) (turns : List Turn) (size : HasRoom start
             (sym (ap (λ (m : Result (List Captured) ℕ). m >>= λ packets. Ok (judged_packets at true nothing_judged 1 packets))
             (traces_are side (length start.paths) trace (omega (arith, few_paths)) (paths_are start ends told.0 fit told.2 trace _ _ _ _ all_known) room)) ∙ read)
 
-        by : (o : Option BookValue) → slice_get all_judged.books connection ≡ o → option_map (stream_at s) o ≡ Some stream → broke r stream ≡ false
+        by : (o : Option BookValue) → slice_get all_judged.books connection ≡ o → option_map (stream_at s) o ≡ Some stream
+            → StreamLined ends (file_len start s) (few start told.0 fit s) (content start s) stream
         by None e none = cc
         by (Some book) e some =
-            subst (λ (x : StreamValue). broke r x ≡ false) (some_same (stream_at s book) stream some) ((all_lined start ends told.0 fit told.2 at trace all_known room connection book e s).untold r is)
+            subst (StreamLined ends (file_len start s) (few start told.0 fit s) (content start s)) (some_same (stream_at s book) stream some) (all_lined start ends told.0 fit told.2 at trace all_known room connection book e s)
 
 -- whatever its script does
-pub no_run_breaks : (r : Rule) → is_line true r ≡ true → NoRunBreaks r
-no_run_breaks r is start turns size fit run =
-    let told = run_told start turns size fit in
-    breaks_none start true turns size fit (told.0, told.1, told.2)
-    (λ before later turn split y sends asked fin.
-    let it = fin_stands start (anyhow start size) size fit turns told.0 told.3 before later turn split y sends fin in
-    (it.0, subst (FinOn (lane_of told.0 y.path y.from)) (at_end y.segment.position y.segment.payload it.1) it.2)) run r is
+pub run_lined_so : (start : Start) (turns : List Turn) → HasRoom start → NumbersFit start → RunFits start turns
+    → (side : Side) (at : Option Side) (judged : JudgedValue) → judged_capture at true (capture_of start turns side) ≡ Ok judged
+    → (connection : ℕ) (s : Side) (stream : StreamValue) → stream_in judged connection s ≡ Some stream
+    → (small : file_len start s < 2 ^ 31) × StreamLined true (file_len start s) small (content start s) stream
+run_lined_so start turns size fit run side at judged read connection s stream there =
+    let told = run_told start turns size fit in (
+      few start told.0 fit s,
+      stands_so start true turns size fit (told.0, told.1, told.2)
+          (λ before later turn split y sends asked fin.
+          let it = fin_stands start (anyhow start size) size fit turns told.0 told.3 before later turn split y sends fin in
+          (it.0, subst (FinOn (lane_of told.0 y.path y.from)) (at_end y.segment.position y.segment.payload it.1) it.2)) run side at judged read connection s stream there,
+    )
   where
     at_end : (position : ℕ) (payload : List ℕ) → payload ≡ [] → position ≡ position + length payload
     at_end position payload none = let empty : length payload ≡ 0 = ap (λ (xs : List ℕ). length xs) none in omega (arith, empty)
+
+pub no_run_breaks : (r : Rule) → is_line true r ≡ true → NoRunBreaks r
+no_run_breaks r is start turns size fit run side at judged read connection s stream there = (run_lined_so start turns size fit run side at judged read connection s stream there).1.untold r is

@@ -107,13 +107,14 @@ pub fn whole_runs_end_well()
     ensures lines { WholeReportsAreKept }
 {}
 
-/// A law: what the judge finds of a side's stream in the capture of such a run, over all subflows, up to the first octet that isn't there, is a
-/// first part of the side's file (`begins`). Each octet of it that was seen is there, behind a gap, too, and is the file's (`seen`). Its DATA_FIN
-/// stands behind the file's last octet (`ends`, RFC 8684, section 3.3.3), so where all octets before it are there it is the file (`whole`). Else
-/// as in `whole_runs_break_no_rule`. Once such a run is delivered its capture is read, and shows both files whole, each with its DATA_FIN
-/// (`delivered`). Whether it is or not, an application has read nothing that the capture doesn't show: each octet that it has read was seen, in
-/// the other side's stream, at its place (`read`). As a round ends, where each actor's turn is over, each octet that was granted to a path, and
-/// isn't acknowledged, was seen (`tried`).
+/// A law: what the judge finds of a side's stream in the capture of a run, whatever the run's script does, over all subflows, up to the first octet
+/// that isn't there, is a first part of the side's file (`begins`). Each octet of it that was seen is there, behind a gap, too, and is the file's,
+/// also where an infinite mapping gives it its place (`seen`, RFC 8684, section 3.7): links may alter payload and take options away, but what was
+/// sent is the file's. Its DATA_FIN stands behind the file's last octet (`ends`, RFC 8684, section 3.3.3), so where all octets before it are there
+/// it is the file (`whole`). These four hold as `own_runs_break_no_rule` does, the others of runs as in `whole_runs_break_no_rule`. Once such a run
+/// is delivered its capture is read, and shows both files whole, each with its DATA_FIN (`delivered`). Whether it is or not, an application has
+/// read nothing that the capture doesn't show: each octet that it has read was seen, in the other side's stream, at its place (`read`). As a round
+/// ends, where each actor's turn is over, each octet that was granted to a path, and isn't acknowledged, was seen (`tried`).
 pub fn captures_show_the_files()
     ensures begins { StreamsBeginTheFiles }
     ensures seen { SeenOctetsAreTheFiles }

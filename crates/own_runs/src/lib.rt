@@ -5,7 +5,7 @@
 //! carries it (`segments_are_found`). So the capture of a trace has the segments of the trace (`traces_are_their_segments`), and no side of a
 //! run of ours is told to have broken a rule of the judge's, as far as these are named (`own_runs_break_no_rule`). Where the script alters no
 //! payload and takes no options away, none is broken at all (`whole_runs_break_no_rule`), and the judge ends well (`whole_runs_end_well`). And
-//! the streams that the judge finds are first parts of the files (`captures_show_the_files`). What came to a side is in the trace
+//! the streams that the judge finds are of the files, whatever the script does (`captures_show_the_files`). What came to a side is in the trace
 //! (`what_came_was_sent`), all of both files once the run is delivered (`delivered_files_were_sent`). Segments map their payload, and
 //! acknowledge a DATA_FIN that was told (`whole_runs_say_what_they_bear`), and Data ACKs never fall (`data_acks_never_fall`). A path
 //! opens in its order (`paths_open_in_order`), an end that sent a reset sends resets alone (`resets_end_a_path`), and A alone shows both keys
