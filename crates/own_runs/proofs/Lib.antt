@@ -18,6 +18,7 @@ mod CameSent
 mod Carrying
 mod ClearKnows
 mod ComesTimes
+mod ConnectionSeen
 mod Counted
 mod DutiesFew
 mod EndMaps

@@ -1,6 +1,7 @@
 //! What is read in a capture of ours, as clauses of functions that do nothing.
 ghost use Rattle.judge_rules.specs.declared.finding.Rule.TheVariants.{AddressHmac, DataAck, DataFin, DssSum, Fail, FastCloseKey, Form, Infinite, JoinHmac, Keys, Mapping, PlaceContent, Token, Within};
 ghost use Rattle.own_runs.specs.Arrivals.{EachAckIsCarried, EachAckRises, WhatCameWasSent};
+ghost use Rattle.own_runs.specs.Connections.{EachRunIsOneConnection};
 ghost use Rattle.own_runs.specs.Fitting.{TracesFit};
 ghost use Rattle.own_runs.specs.Handshakes.{EachComesInOrder};
 ghost use Rattle.own_runs.specs.KeysShown.{EachComesBehindKeys, EachShowsKeysSo};
@@ -62,6 +63,14 @@ pub fn own_runs_break_no_rule()
     ensures place_content { NoRunBreaks PlaceContent }
     ensures data_fin { NoRunBreaks DataFin }
     ensures fail { NoPlainRunBreaks Fail }
+{}
+
+/// A law: the capture of a run is read, and at most one connection is seen in it, whatever the script does. B's key is that of the start, and A's,
+/// where it was shown; checksums are used where the start says so (RFC 8684, section 3.1). Each subflow runs between the ends of a path, A opened
+/// it, and no two run on the same path. Each join's connection was found (section 3.2), so no line is of a join, and whether the capture ends well
+/// is for the rules of the two sides alone. The premises are those of `own_runs_break_no_rule`.
+pub fn own_runs_are_one_connection()
+    ensures { EachRunIsOneConnection }
 {}
 
 /// A law: where the script alters no payload and takes no options away, no side is told to break a rule on the end of a stream: the DATA_FIN
