@@ -97,7 +97,7 @@ pub use many_laws::{
 pub use opening_laws::{
     a_has_the_key_first, each_first_piece_comes_soon, each_sign_piece_comes,
     each_syn_ack_is_answered_soon, each_syn_comes_soon, nothing_comes_early_by_text,
-    paths_open_owing_few, paths_open_owing_records,
+    paths_open_owing_few, paths_open_owing_records, syns_are_few,
 };
 pub use patience_laws::{
     few_texts_deliver, patient_paths_deliver,
