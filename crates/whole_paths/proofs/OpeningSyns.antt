@@ -30,7 +30,7 @@ use Rattle.subflow_tcp.specs.Expiring.{after_expiry, is_sixth}
 use Rattle.subflow_tcp.specs.Judging.{meaning_of}
 use Rattle.subflow_tcp.specs.Opening.{after_begin}
 use Rattle.subflow_tcp.specs.State.{EndState, has_records}
-use Rattle.subflow_tcp.specs.States.{is_closed_to_segments, is_dead, is_opening, is_past, is_waiting, may_finish}
+use Rattle.subflow_tcp.specs.States.{is_closed_to_segments, is_dead, is_opening, is_waiting, may_finish}
 use Rattle.subflow_tcp.specs.Taking.{after_arrival, after_death, after_hearing, after_payload}
 use Rattle.actor_desk.specs.declared.ask.Reply.{Reply}
 use Rattle.actor_desk.specs.Words.{tail_of}
@@ -77,6 +77,7 @@ use Rattle.world_laws.specs.RoundDone.{reached}
 use Rattle.world_laws.specs.Worlds.{Turn}
 use Rattle.world_laws.specs.Writes.{EndView, EndWrites, Only, OnlyAt, PathView, Writes, nothing, side_of, writes}
 use Rattle.world_laws.proofs.Falls.FailedChecks.{fail_answered_so, infinite_came_so}
+use Rattle.world_laws.proofs.Keys.AreDrawn.{is_past}
 use Rattle.world_laws.proofs.Whole.Ends.{MeansIs, means_so}
 use Rattle.world_laws.proofs.Writes.Paths.{writes_no_more}
 use Rattle.world_laws.proofs.Writes.Steps.{begins_lasts, both_ends, settled_lasts, unwritten}
@@ -203,13 +204,20 @@ rests e = stays (record { records = refl; expiries = refl })
 same : (e f : PathEnd) → f.tcp.send.records ≡ e.tcp.send.records → in_a_row f ≡ in_a_row e → Kept e f
 same e f records expiries = stays (record { records = records; expiries = expiries })
 
-either : (b : Bool) (q r p : PathState Carried) → Kept p.a q.a → Kept p.a r.a → Kept p.a (if b then q else r).a
+-- on a path
+record OnA (p q : PathState Carried) : Type 0 where
+  kept : Kept p.a q.a
+
+either : (b : Bool) (q r p : PathState Carried) → OnA p q → OnA p r → OnA p (if b then q else r)
 either true q r p x y = x
 either false q r p x y = y
 
-side : (s : Side) (e : PathEnd) (p q : PathState Carried) → Kept (end_at s p) e → q.a ≡ (goes_on s e [] p).a → Kept p.a q.a
-side A e p q x is = subst (Kept p.a) (sym is) x
-side B e p q x is = subst (Kept p.a) (sym is) (rests p.a)
+side : (s : Side) (e : PathEnd) (p q : PathState Carried) → Kept (end_at s p) e → q.a ≡ (goes_on s e [] p).a → OnA p q
+side A e p q x is = record { kept = subst (Kept p.a) (sym is) x }
+side B e p q x is = record { kept = subst (Kept p.a) (sym is) (rests p.a) }
+
+both_rest : (p q : PathState Carried) → q.a ≡ p.a → OnA p q
+both_rest p q is = record { kept = subst (Kept p.a) (sym is) (rests p.a) }
 
 only_same : (w : EndWrites) (e f : PathEnd) → w.send ≡ false → w.timing ≡ false → Only w e f → Same e f
 only_same w e f send timing x = record {
@@ -217,19 +225,21 @@ only_same w e f send timing x = record {
   expiries = ap (λ (t : Timing). t.expiries) (unwritten w.timing e.tcp.timing f.tcp.timing timing (ap (λ (v : EndView). v.timing) x.same));
 }
 
-plain : (s : Side) (w : Writes) (p q : PathState Carried) → w.own.send ≡ false → w.own.timing ≡ false → w.other ≡ nothing → OnlyAt s w p q → Kept p.a q.a
-plain s w p q send timing none x = stays (both_ends (λ e f. Same e f) s w p q (λ e f only. only_same w.own e f send timing only) (λ e f only. only_same nothing e f refl refl (subst (λ v. Only v e f) none only)) x).0
+plain : (s : Side) (w : Writes) (p q : PathState Carried) → w.own.send ≡ false → w.own.timing ≡ false → w.other ≡ nothing → OnlyAt s w p q → OnA p q
+plain s w p q send timing none x = record { kept = stays (both_ends (λ e f. Same e f) s w p q (λ e f only. only_same w.own e f send timing only) (λ e f only. only_same nothing e f refl refl (subst (λ v. Only v e f) none only)) x).0 }
 
 -- by a duty of B's end
-other_kept : (d : Duty) (r : Reply) (p : PathState Carried) → is_event d ≡ false → side_of d ≡ B → Kept p.a (answered values d r p).a
-other_kept d r p other own = stays (subst (λ s. Same (end_at (peer s) p) (end_at (peer s) (answered values d r p))) own
-    (only_same nothing (end_at (peer (side_of d)) p) (end_at (peer (side_of d)) (answered values d r p)) refl refl
-    (subst (λ v. Only v (end_at (peer (side_of d)) p) (end_at (peer (side_of d)) (answered values d r p))) (none_other d other) (record { same = ap (λ (v : PathView Carried). v.other) (writes_no_more values d r p).same }))))
+other_kept : (d : Duty) (r : Reply) (p : PathState Carried) → is_event d ≡ false → side_of d ≡ B → OnA p (answered values d r p)
+other_kept d r p other own = record {
+  kept = stays (subst (λ s. Same (end_at (peer s) p) (end_at (peer s) (answered values d r p))) own
+      (only_same nothing (end_at (peer (side_of d)) p) (end_at (peer (side_of d)) (answered values d r p)) refl refl
+      (subst (λ v. Only v (end_at (peer (side_of d)) p) (end_at (peer (side_of d)) (answered values d r p))) (none_other d other) (record { same = ap (λ (v : PathView Carried). v.other) (writes_no_more values d r p).same }))));
+}
 
-break_kept : (s : Side) (reason : ℕ) (r : Reply) (p : PathState Carried) → Kept p.a (answered_break values s reason r p).a
+break_kept : (s : Side) (reason : ℕ) (r : Reply) (p : PathState Carried) → OnA p (answered_break values s reason r p)
 break_kept s reason r p = either (end_at s p).treated.asked _ _ p (side s _ p _ (same _ _ refl refl) refl) (side s (died (end_at s p)) p _ (dies refl) refl)
 
-thing_kept : (s : Side) (item : Heard) (r : Reply) (p : PathState Carried) → Kept p.a (answered_heard values s item r p).a
+thing_kept : (s : Side) (item : Heard) (r : Reply) (p : PathState Carried) → OnA p (answered_heard values s item r p)
 thing_kept s (says.DataAck next window) r p = side s _ p _ (same _ _ refl refl) refl
 thing_kept s (says.Mapping fin) r p = either (is_clash (end_at s p)) _ _ p (break_kept s 1 r p) (side s _ p _ (same _ _ refl refl) refl)
 thing_kept s (says.DataFin place) r p = side s _ p _ (same _ _ refl refl) refl
@@ -237,29 +247,31 @@ thing_kept s (says.InfiniteMapping place position) r p =
     let e = end_at s p in side s _ p _ (infinite_came_so (λ f. Kept e f) place position r e (λ other. same e _ refl refl)) refl
 thing_kept s (says.Keys own peer) r p = side s _ p _ (same _ _ refl refl) refl
 thing_kept s (says.Notice notice) r p = side s _ p _ (same _ _ refl refl) refl
-thing_kept s says.Fail r p = fail_answered_so (λ q. Kept p.a q.a) s r p (side s _ p _ (same _ _ refl refl) refl) (side s _ p _ (same _ _ refl refl) refl)
-thing_kept s _ r p = same p.a _ refl refl
+thing_kept s says.Fail r p = fail_answered_so (OnA p) s r p (side s _ p _ (same _ _ refl refl) refl) (side s _ p _ (same _ _ refl refl) refl)
+thing_kept s _ r p = both_rest p _ refl
 
-things_kept : (s : Side) (item : Option Heard) (r : Reply) (p : PathState Carried) → Kept p.a (answered_item values s item r p).a
-things_kept s None r p = same p.a _ refl refl
+things_kept : (s : Side) (item : Option Heard) (r : Reply) (p : PathState Carried) → OnA p (answered_item values s item r p)
+things_kept s None r p = both_rest p _ refl
 things_kept s (Some item) r p = thing_kept s item r p
 
-begun_kept : (r : Reply) (dead living : List Duty) (p : PathState Carried) → Kept p.a (join_begun r dead living p).a
-begun_kept r dead living p = either (is_never r) (goes_on A (never_joined r p.a) dead p) (goes_on A (opened_by (keys_begun r) p.a) living p) p (dies refl) (opens_kept (keys_begun r))
+begun_kept : (r : Reply) (dead living : List Duty) (p : PathState Carried) → OnA p (join_begun r dead living p)
+begun_kept r dead living p = either (is_never r) (goes_on A (never_joined r p.a) dead p) (goes_on A (opened_by (keys_begun r) p.a) living p) p (record { kept = dies refl }) (record { kept = opens_kept (keys_begun r) })
   where
     opens_kept : (keys : Option KeyPair) → Kept p.a (opened_by keys p.a)
     opens_kept None = rests p.a
     opens_kept (Some keys) = elim (is_waiting p.a.tcp.state) as (λ b. Kept p.a (record p.a { tcp = if b then after_begin p.a.tcp else p.a.tcp; modes = with_keys keys p.a.modes }))
         [ true ↦ same p.a _ refl refl | false ↦ same p.a _ refl refl ]
 
-data_kept : (s : Side) (o : Option Record) (r : Reply) (p : PathState Carried) → data_stands p.profile s (end_at s p) o ≡ true → unsent_sends s o ≡ None → Kept p.a (answered_data values s o r p).a
+data_kept : (s : Side) (o : Option Record) (r : Reply) (p : PathState Carried) → data_stands p.profile s (end_at s p) o ≡ true → unsent_sends s o ≡ None → OnA p (answered_data values s o r p)
 data_kept s (Some u) r p stood none = cc
-data_kept A None r p stood none = goes_past (elim (grant_in r) as (λ o. 2 ≤ stage (answered_grant A o r p).a.tcp.state)
-    [ Some grant ↦ finish_far p.a.tcp.state (and_parts (may_finish p.a.tcp.state) _ stood).0 | None ↦ finish_far p.a.tcp.state (and_parts (may_finish p.a.tcp.state) _ stood).0 ])
-data_kept B None r p stood none = elim (grant_in r) as (λ o. Kept p.a (answered_grant B o r p).a) [ Some grant ↦ same p.a _ refl refl | None ↦ same p.a _ refl refl ]
+data_kept A None r p stood none = elim (grant_in r) as (λ o. OnA p (answered_grant A o r p)) [ Some grant ↦ record { kept = goes_past far } | None ↦ record { kept = goes_past far } ]
+  where
+    far : 2 ≤ stage p.a.tcp.state
+    far = finish_far p.a.tcp.state (and_parts (may_finish p.a.tcp.state) _ stood).0
+data_kept B None r p stood none = elim (grant_in r) as (λ o. OnA p (answered_grant B o r p)) [ Some grant ↦ both_rest p (answered_grant B (Some grant) r p) refl | None ↦ both_rest p (answered_grant B None r p) refl ]
 
 -- by a duty of A's end that sends nothing
-own_kept : (d : Duty) (r : Reply) (p : PathState Carried) → is_event d ≡ false → stands d p ≡ true → duty_sends d p ≡ None → Kept p.a (answered values d r p).a
+own_kept : (d : Duty) (r : Reply) (p : PathState Carried) → is_event d ≡ false → stands d p ≡ true → duty_sends d p ≡ None → OnA p (answered values d r p)
 own_kept (duties.Step step_duties.Events) r p other stood none = absurd (true≢false other)
 own_kept (duties.Ask ask_duties.JoinAgain) r p other stood none = begun_kept r _ _ p
 own_kept (duties.Ask (ask_duties.LeaveNoted s)) r p other stood none = side s (died (end_at s p)) p _ (dies refl) refl
@@ -271,14 +283,14 @@ own_kept (duties.Send d) r p other stood none = absurd (let x = sends_own d in n
   where
     no_some : {X : Type 0} {x : X} → Some x ≡ None → ⊥
     no_some is = cc
-own_kept (duties.Silent d) r p other stood none = same p.a _ refl refl
+own_kept (duties.Silent d) r p other stood none = both_rest p _ refl
 own_kept d r p other stood none = plain (side_of d) (writes d) p _ refl refl refl (writes_no_more values d r p)
 
 -- ---- an event
 
 -- A's end sends no more, by a turn that isn't its expiry
 record Calm (p q : PathState Carried) : Type 0 where
-  kept : Kept p.a q.a
+  kept : OnA p q
   link : segments_sent A q.link ≡ segments_sent A p.link
   agenda : resends q.agenda ≡ 0
 
@@ -343,29 +355,29 @@ module _ (r : Reply) where
           → Calm p (goes_on s (copy_judged joined (held_of p.profile s h) (reset_for p.profile s h) s now h (taken_as (judged_in joined s h (end_at s p))) (end_at s p))
           (template_of joined s (items_of joined s h) (judged_in joined s h (end_at s p))) p)
       by true is = absurd (true≢false is)
-      by false is = record { kept = at s; link = refl; agenda = none_came s (length (items_of false s h)) (meaning_of (copy_of h) (end_at s p).tcp) }
+      by false is = record { kept = record { kept = at s }; link = refl; agenda = none_came s (length (items_of false s h)) (meaning_of (copy_of h) (end_at s p).tcp) }
         where
           at : (s : Side) → Kept p.a (goes_on s (copy_judged false (held_of p.profile s h) (reset_for p.profile s h) s now h (meaning_of (copy_of h) (end_at s p).tcp) (end_at s p)) [] p).a
           at A = judged_kept (held_of p.profile A h) (reset_for p.profile A h) now h p.a sent (meaning_of (copy_of h) p.a.tcp) (means_so (copy_of h) p.a.tcp)
           at B = rests p.a
 
   copy_calm : (s : Side) (o : Option HeardSegment) (p : PathState Carried) → is_joined p.profile ≡ false → p.a.tcp.state ≡ phase.SynSent → Calm p (copy_heard s o p)
-  copy_calm s None p first sent = record { kept = same p.a (copy_heard s None p).a refl refl; link = refl; agenda = refl }
+  copy_calm s None p first sent = record { kept = both_rest p (copy_heard s None p) refl; link = refl; agenda = refl }
   copy_calm s (Some x) p first sent = told_calm p.clock s (options_heard (end_at s p) x) p first sent
 
   line_calm : (action : LineAction) (p : PathState Carried) → (is_dead (after_line action p).a.tcp.state ≡ true) ⊎ Calm p (after_line action p)
   line_calm actions.Die p = inl (died_gone p.a)
-  line_calm (actions.Prio s backup) p = inr (record { kept = side s _ p _ (same _ _ refl refl) refl; link = refl; agenda = refl })
-  line_calm (actions.Announce s id) p = inr (record { kept = same p.a _ refl refl; link = refl; agenda = refl })
-  line_calm (actions.Withdraw s id) p = inr (record { kept = same p.a _ refl refl; link = refl; agenda = refl })
+  line_calm (actions.Prio s backup) p = inr (record { kept = side s _ p (after_line (actions.Prio s backup) p) (same _ _ refl refl) refl; link = refl; agenda = refl })
+  line_calm (actions.Announce s id) p = inr (record { kept = both_rest p (after_line (actions.Announce s id) p) refl; link = refl; agenda = refl })
+  line_calm (actions.Withdraw s id) p = inr (record { kept = both_rest p (after_line (actions.Withdraw s id) p) refl; link = refl; agenda = refl })
 
   -- from the same end, segments and agenda
   from_there : (p x q : PathState Carried) → x.a ≡ p.a → segments_sent A x.link ≡ segments_sent A p.link → Calm x q → Calm p q
-  from_there p x q a link h = record { kept = subst (λ e. Kept e q.a) a h.kept; link = h.link ∙ link; agenda = h.agenda }
+  from_there p x q a link h = record { kept = record { kept = subst (λ e. Kept e q.a) a h.kept.kept }; link = h.link ∙ link; agenda = h.agenda }
 
   event_row : (o : Option Event) (p : PathState Carried) → is_joined p.profile ≡ false → p.a.tcp.state ≡ phase.SynSent → next_event p ≡ o
       → let q = happens_if values o r p in (is_dead q.a.tcp.state ≡ true) ⊎ (Calm p q ⊎ Fires p q)
-  event_row None p first sent next = inr (inl (record { kept = same p.a p.a refl refl; link = refl; agenda = refl }))
+  event_row None p first sent next = inr (inl (record { kept = record { kept = rests p.a }; link = refl; agenda = refl }))
   event_row (Some (happenings.Joins tick)) p first sent next = by (is_never r)
     where
       x : PathState Carried
@@ -373,7 +385,7 @@ module _ (r : Reply) where
 
       by : (b : Bool) → let q = (if b then goes_on A (never_joined r x.a) (leaves A) x else goes_on A (opened_by (keys_begun r) x.a) (emission A) x) in (is_dead q.a.tcp.state ≡ true) ⊎ (Calm p q ⊎ Fires p q)
       by true = inl refl
-      by false = inr (inl (record { kept = opens (keys_begun r); link = refl; agenda = refl }))
+      by false = inr (inl (record { kept = record { kept = opens (keys_begun r) }; link = refl; agenda = refl }))
         where
           opens : (keys : Option KeyPair) → Kept p.a (opened_by keys x.a)
           opens None = same p.a x.a refl refl
@@ -401,8 +413,8 @@ module _ (r : Reply) where
 
       by : (b : Bool) → let q = goes_on B (record p.b { tcp = if b then after_death true p.b.tcp else after_expiry x.clock p.b.tcp }) (if b then expired_for_ever B else expired B) x in
           (is_dead q.a.tcp.state ≡ true) ⊎ (Calm p q ⊎ Fires p q)
-      by true = inr (inl (record { kept = same p.a p.a refl refl; link = refl; agenda = refl }))
-      by false = inr (inl (record { kept = same p.a p.a refl refl; link = refl; agenda = refl }))
+      by true = inr (inl (record { kept = record { kept = rests p.a }; link = refl; agenda = refl }))
+      by false = inr (inl (record { kept = record { kept = rests p.a }; link = refl; agenda = refl }))
 
 -- ---- a duty
 
@@ -410,16 +422,26 @@ same_itself : (s : Side) → same_side s s ≡ true
 same_itself A = refl
 same_itself B = refl
 
--- the link takes a segment of B's
-after_b : (strip alter : Side → Carried → Carried) (s : Side) (carried : Carried) (size now : ℕ) (link : LinkState Carried) → s ≡ B → segments_sent A (after_send strip alter s carried size now link) ≡ segments_sent A link
-after_b strip alter s carried size now link own = subst (λ s. segments_sent A (after_send strip alter s carried size now link) ≡ segments_sent A link) (sym own) refl
+-- the link takes a segment of this side's
+data TakesFrom (s : Side) (p q : PathState Carried) : Type 0 where
+  takes_one : (carried : Carried) (size : ℕ) → q.link ≡ after_send (values.strips p.profile.spelling) (values.alters p.profile.spelling) s carried size p.clock p.link → TakesFrom s p q
+
+of_b : (s : Side) (p q : PathState Carried) → TakesFrom s p q → s ≡ B → segments_sent A q.link ≡ segments_sent A p.link
+of_b A p q t own = cc
+of_b B p q (takes_one carried size is) own = ap (λ l. segments_sent A l) is
+
+one_more : (s : Side) (p q : PathState Carried) → TakesFrom s p q → segments_sent A q.link ≤ suc (segments_sent A p.link)
+one_more A p q (takes_one carried size is) = (let same = ap (λ l. segments_sent A l) is in omega (arith, same))
+one_more B p q (takes_one carried size is) = (let same = ap (λ l. segments_sent A l) is in omega (arith, same))
+
+sent_takes : (d : SendDuty) (p : PathState Carried) → TakesFrom (side_of (duties.Send d)) p (sent_for values d p)
+sent_takes (send_duties.Update s) p = takes_one _ _ refl
+sent_takes d p = takes_one _ _ refl
 
 b_break : (s : Side) (reason : ℕ) (r : Reply) (p : PathState Carried) → s ≡ B → segments_sent A (answered_break values s reason r p).link ≡ segments_sent A p.link
-b_break s reason r p own = by (end_at s p).treated.asked
-  where
-    by : (b : Bool) → segments_sent A (if b then answered_ack_out s r (resets s reason) p else reset_on values s (Some reason) (leaves s) p).link ≡ segments_sent A p.link
-    by true = refl
-    by false = after_b _ _ s _ _ _ _ own
+b_break s reason r p own = elim (end_at s p).treated.asked as
+    (λ b. segments_sent A (if b then answered_ack_out s r (resets s reason) p else reset_on values s (Some reason) (leaves s) p).link ≡ segments_sent A p.link)
+    [ true ↦ refl | false ↦ of_b s p (reset_on values s (Some reason) (leaves s) p) (takes_one _ _ refl) own ]
 
 b_item : (s : Side) (o : Option Heard) (r : Reply) (p : PathState Carried) → s ≡ B → segments_sent A (answered_item values s o r p).link ≡ segments_sent A p.link
 b_item s (Some (says.Mapping fin)) r p own = elim (is_clash (end_at s p)) as
@@ -430,16 +452,12 @@ b_item s None r p own = refl
 b_item s (Some _) r p own = refl
 
 b_data : (s : Side) (o : Option Record) (r : Reply) (p : PathState Carried) → s ≡ B → segments_sent A (answered_data values s o r p).link ≡ segments_sent A p.link
-b_data s (Some u) r p own = after_b _ _ s _ _ _ _ own
+b_data s (Some u) r p own = of_b s p (answered_data values s (Some u) r p) (takes_one _ _ refl) own
 b_data s None r p own = elim (grant_in r) as (λ o. segments_sent A (answered_grant s o r p).link ≡ segments_sent A p.link) [ Some grant ↦ refl | None ↦ refl ]
-
-b_sent : (d : SendDuty) (p : PathState Carried) → side_of (duties.Send d) ≡ B → segments_sent A (sent_for values d p).link ≡ segments_sent A p.link
-b_sent (send_duties.Update s) p own = after_b _ _ s _ _ _ _ own
-b_sent d p own = after_b _ _ (side_of (duties.Send d)) _ _ _ _ own
 
 b_link : (d : Duty) (r : Reply) (p : PathState Carried) → is_event d ≡ false → side_of d ≡ B → segments_sent A (answered values d r p).link ≡ segments_sent A p.link
 b_link (duties.Step step_duties.Events) r p other own = absurd (true≢false other)
-b_link (duties.Send d) r p other own = b_sent d p own
+b_link (duties.Send d) r p other own = of_b (side_of (duties.Send d)) p (sent_for values d p) (sent_takes d p) own
 b_link (duties.Step (step_duties.Data s)) r p other own = b_data s (first_unsent (end_at s p)) r p own
 b_link (duties.Step (step_duties.Heard s index)) r p other own = b_item s (item_of index (end_at s p)) r p own
 b_link (duties.Step (step_duties.PlainAck s)) r p other own = elim (breaks_by_ack p.profile (end_at s p)) as
@@ -453,11 +471,8 @@ abbrev Quiet : PathState Carried → PathState Carried → Type 0
 Quiet p q = (is_dead q.a.tcp.state ≡ true) ⊎ (segments_sent A q.link ≡ segments_sent A p.link)
 
 a_break : (s : Side) (reason : ℕ) (r : Reply) (p : PathState Carried) → s ≡ A → Quiet p (answered_break values s reason r p)
-a_break s reason r p own = subst (λ s. Quiet p (answered_break values s reason r p)) (sym own) (by p.a.treated.asked)
-  where
-    by : (b : Bool) → Quiet p (if b then answered_ack_out A r (resets A reason) p else reset_on values A (Some reason) (leaves A) p)
-    by true = inr refl
-    by false = inl refl
+a_break s reason r p own = subst (λ s. Quiet p (answered_break values s reason r p)) (sym own)
+    (elim p.a.treated.asked as (λ b. Quiet p (if b then answered_ack_out A r (resets A reason) p else reset_on values A (Some reason) (leaves A) p)) [ true ↦ inr refl | false ↦ inl refl ])
 
 a_item : (s : Side) (o : Option Heard) (r : Reply) (p : PathState Carried) → s ≡ A → Quiet p (answered_item values s o r p)
 a_item s (Some (says.Mapping fin)) r p own = elim (is_clash (end_at s p)) as
@@ -471,7 +486,7 @@ a_item s (Some _) r p own = inr refl
 data Kind (d : Duty) (r : Reply) (p : PathState Carried) : Type 0 where
   is_syn : d ≡ duties.Send (send_duties.Syn A) → Kind d r p
   is_again : d ≡ duties.Send (send_duties.Resend A) → Kind d r p
-  is_quiet : Quiet p (answered values d r p) → Kept p.a (answered values d r p).a → Kind d r p
+  is_quiet : Quiet p (answered values d r p) → OnA p (answered values d r p) → Kind d r p
 
 module _ (start : Start) (p : PathState Carried) (m : Moment start p) (r : Reply) where
   impossible : {X : Type 0} (s : Side) → 2 ≤ stage (end_at s p).tcp.state → stage (end_at s p).tcp.state ≤ 1 → X
@@ -481,7 +496,7 @@ module _ (start : Start) (p : PathState Carried) (m : Moment start p) (r : Reply
   late d ds is s marked low = impossible s (m.early.late s (ap (list_any (late_at s)) is ∙ or_left (late_at s d) (list_any (late_at s) ds) marked)) low
 
   dead_end : (d : Duty) (s : Side) → s ≡ A → is_dead (answered values d r p).a.tcp.state ≡ true → Kind d r p
-  dead_end d s own is = is_quiet (inl is) (dies is)
+  dead_end d s own is = is_quiet (inl is) (record { kept = dies is })
 
   kind : (d : Duty) (ds : List Duty) → p.agenda ≡ d ∷ ds → stands d p ≡ true → is_event d ≡ false → side_of d ≡ A → stage (end_at (side_of d) p).tcp.state ≤ 1 → Kind d r p
   kind (duties.Step step_duties.Events) ds is stood other own low = absurd (true≢false other)
@@ -540,13 +555,10 @@ calm_counts p q (stays x) link agenda h = are_few (record {
 calm_counts p q (dies is) link agenda h = dead_now is
 calm_counts p q (goes_past is) link agenda h = past_now is
 
-sent_some : (link : LinkState Carried) (strip alter : Side → Carried → Carried) (carried : Carried) (size now : ℕ) → segments_sent A (after_send strip alter A carried size now link) ≤ suc (segments_sent A link)
-sent_some link strip alter carried size now = omega arith
-
 syn_counts : (ds : List Duty) (r : Reply) (p : PathState Carried) → let x : PathState Carried = with_agenda (duties.Send (send_duties.Syn A) ∷ ds) p in stands (duties.Send (send_duties.Syn A)) x ≡ true → Count x
     → Count (answered values (duties.Send (send_duties.Syn A)) r x)
 syn_counts ds r p stood h = record {
-  sum = (let now_sent = one_is_sent p.clock p.a.tcp.send.records h.one in let more = sent_some p.link _ _ _ _ _ in let was = ap one_if (and_parts (is_opening p.a.tcp.state) (is_some (first_unsent p.a)) stood).1 in let low = h.sum in
+  sum = (let now_sent = one_is_sent p.clock p.a.tcp.send.records h.one in let more = one_more A (with_agenda (duties.Send (send_duties.Syn A) ∷ ds) p) (answered values (duties.Send (send_duties.Syn A)) r (with_agenda (duties.Send (send_duties.Syn A) ∷ ds) p)) (takes_one _ _ refl) in let was = ap one_if (and_parts (is_opening p.a.tcp.state) (is_some (first_unsent p.a)) stood).1 in let low = h.sum in
       omega (arith, now_sent, more, was, low));
   one = (let long = sent_long p.clock p.a.tcp.send.records in let short = h.one in omega (arith, long, short));
 }
@@ -566,7 +578,7 @@ sends_again now e short = elim (has_records e.tcp) as
 
 again_counts : (ds : List Duty) (r : Reply) (p : PathState Carried) → let x : PathState Carried = with_agenda (duties.Send (send_duties.Resend A) ∷ ds) p in Count x → Count (answered values (duties.Send (send_duties.Resend A)) r x)
 again_counts ds r p h = record {
-  sum = (let x = sends_again p.clock p.a h.one in let less = x.0 in let times = x.1.1 in let more = sent_some p.link _ _ _ _ _ in let low = h.sum in omega (arith, less, more, low, times));
+  sum = (let x = sends_again p.clock p.a h.one in let less = x.0 in let times = x.1.1 in let more = one_more A (with_agenda (duties.Send (send_duties.Resend A) ∷ ds) p) (answered values (duties.Send (send_duties.Resend A)) r (with_agenda (duties.Send (send_duties.Resend A) ∷ ds) p)) (takes_one _ _ refl) in let low = h.sum in omega (arith, less, more, low, times));
   one = (let long = (sends_again p.clock p.a h.one).1.0 in let short = h.one in omega (arith, long, short));
 }
 
@@ -595,7 +607,7 @@ module _ (start : Start) (r : Reply) (d : Duty) (ds : List Duty) (p : PathState 
 
         by : Count v → Counts (answered values (duties.Step step_duties.Events) r v)
         by h = ⊎_elim (λ is. dead_now is)
-            (λ rest. ⊎_elim (λ calm. calm_counts v (answered values (duties.Step step_duties.Events) r v) calm.kept calm.link (let none = calm.agenda in omega (arith, none)) h)
+            (λ rest. ⊎_elim (λ calm. calm_counts v (answered values (duties.Step step_duties.Events) r v) calm.kept.kept calm.link (let none = calm.agenda in omega (arith, none)) h)
             (λ fires. fires_then (answered values (duties.Step step_duties.Events) r v) fires) rest)
             (event_row r (next_event v) v m.first.first opens refl)
           where
@@ -621,10 +633,10 @@ module _ (start : Start) (r : Reply) (d : Duty) (ds : List Duty) (p : PathState 
         by (is_syn is) = are_few (subst (λ d. let x : PathState Carried = with_agenda (d ∷ ds) p in stands d x ≡ true → Count x → Count (answered values d r x)) (sym is) (syn_counts ds r p) stood h)
         by (is_again is) = are_few (subst (λ d. let x : PathState Carried = with_agenda (d ∷ ds) p in Count x → Count (answered values d r x)) (sym is) (again_counts ds r p) h)
         by (is_quiet (inl is) kept) = dead_now is
-        by (is_quiet (inr link) kept) = calm_counts x y kept link (agenda_less other) h
+        by (is_quiet (inr link) kept) = calm_counts x y kept.kept link (agenda_less other) h
 
     other_counts : is_event d ≡ false → side_of d ≡ B → Counts y
-    other_counts other own = calm_counts x y (other_kept d r x other own) (b_link d r x other own) (agenda_less other) h
+    other_counts other own = calm_counts x y (other_kept d r x other own).kept (b_link d r x other own) (agenda_less other) h
 
     duty_counts : Counts y
     duty_counts = by (is_event d) refl
