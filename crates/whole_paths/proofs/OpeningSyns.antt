@@ -645,13 +645,13 @@ module _ (start : Start) (r : Reply) (d : Duty) (ds : List Duty) (p : PathState 
         is_events (duties.Step step_duties.Events) is = refl
         is_events d is = absurd (true≢false (sym is))
 
-        by : (b : Bool) → is_event d ≡ b → Counts y
-        by true is = event_counts (is_events d is)
-        by false other = ⊎_elim (λ own. own_counts other own) (λ away. other_counts other away) (a_or_b (side_of d))
-
         a_or_b : (s : Side) → (s ≡ A) ⊎ (s ≡ B)
         a_or_b A = inl refl
         a_or_b B = inr refl
+
+        by : (b : Bool) → is_event d ≡ b → Counts y
+        by true is = event_counts (is_events d is)
+        by false other = ⊎_elim (λ own. own_counts other own) (λ away. other_counts other away) (a_or_b (side_of d))
 
     -- and then duties are passed
     takes_counts : is_dead (takes values r x).a.tcp.state ≡ false → stage (takes values r x).a.tcp.state ≤ 1 → Count (takes values r x)
