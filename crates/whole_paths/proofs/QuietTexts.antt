@@ -129,6 +129,7 @@ use Rattle.whole_paths.proofs.OpeningConfirmed.{signs_are_said}
 use Rattle.whole_paths.proofs.OpeningEnds.{died_stays}
 use Rattle.whole_paths.proofs.OpeningKeys.{ack_options_are}
 use Rattle.whole_paths.proofs.OpeningStates.{ends_go_by_the_handshake}
+use Rattle.whole_paths.proofs.OpeningSyns.{syns_are_few}
 use Rattle.whole_paths.proofs.Owing.{Ahead, Ready, Sends, Stands, StandingMember, copies_are_answered, each_stands}
 use Rattle.whole_paths.proofs.Owing.{Ready as ready}
 use Rattle.whole_paths.proofs.Paying.{AnswersComeSo, GoesSo, answers_come_so}
@@ -988,6 +989,9 @@ pub nothing_comes_early_so : ((start : Start) (plan : PathPlan) (turns : List Tu
     → stage p.a.tcp.state ≤ 1 → segments_sent A p.link ≤ 6) → NothingComesEarlyByText
 nothing_comes_early_so syns start plan turns one short none few living =
     none_lost_early start turns (some_none start plan one (λ turns p here alive low. syns start plan turns one p here alive low) short none [] turns few living)
+
+pub nothing_comes_early_by_text : NothingComesEarlyByText
+nothing_comes_early_by_text = nothing_comes_early_so syns_are_few
 
 -- where no line moves a segment of A's none moves one of its first
 pub none_of_first : (lines : List ScriptLine) → MovesNoneOfA lines → MovesNoneOfFirst 8 lines

@@ -9,6 +9,7 @@ ghost use Rattle.whole_paths.specs.FewRecords.{OpensOwingSegments, RecordsAreFul
 ghost use Rattle.whole_paths.specs.FirstPiecesSoon.{EachFirstPieceComesSoon};
 ghost use Rattle.whole_paths.specs.OnePathScripts.{NeverFalls};
 ghost use Rattle.whole_paths.specs.QuietOpenings.{OpensOwingFew, lost_early};
+ghost use Rattle.whole_paths.specs.OpeningSyns.{SynsAreFew};
 ghost use Rattle.whole_paths.specs.QuietTexts.{NothingComesEarlyByText};
 ghost use Rattle.whole_paths.specs.SignPieces.{EachSignPieceComes};
 ghost use Rattle.whole_paths.specs.SynsSoon.{EachSynComesSoon};
@@ -104,4 +105,12 @@ pub fn records_are_full()
 /// than 2^64 - 1 turns by which no end died, over a path of 400 ticks at most.
 pub fn nothing_comes_early_by_text()
     ensures { NothingComesEarlyByText }
+{}
+
+/// A law: as long as A's end of the only path of a mild connection opens it sends six segments at most: its SYN, and that again for each of five expiries
+/// in a row (RFC 9293, section 3.8.3; RFC 6298, section 5).
+///
+/// Neither end is dead: the sixth expiry in a row would end A's.
+pub fn syns_are_few()
+    ensures { SynsAreFew }
 {}
