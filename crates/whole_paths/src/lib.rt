@@ -223,6 +223,7 @@ pub use opening_laws::nothing_comes_early_by_text;
 pub use opening_laws::paths_open_owing_few;
 pub use opening_laws::paths_open_owing_records;
 pub use opening_laws::records_are_full;
+pub use opening_laws::syns_are_few;
 pub use opening_laws::what_fits_is_written_at_once;
 pub use patience_laws::few_texts_deliver;
 pub use patience_laws::patient_paths_deliver;
