@@ -323,3 +323,4 @@ pub mod MissingBytes
 pub mod ReturnWaits
 pub mod CountedCourses
 pub mod ManyWaits
+pub mod ManyCourses

@@ -195,3 +195,4 @@ pub mod MissingBytes
 pub mod ReturnWaits
 pub mod CountedCourses
 pub mod ManyWaits
+pub mod ManyCourses

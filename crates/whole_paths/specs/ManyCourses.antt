@@ -1,0 +1,30 @@
+-- What a mild connection over any number of paths waits for while path 0 is open and doesn't stand by: all of both streams is there in the end.
+use Rattle.std.specs.Prelude.{ℕ, suc, ◌+◌, ◌*◌, ◌^◌, ◌-◌, ◌≡◌, ◌<◌, ◌≤◌, false, List, ◌++◌}
+use Rattle.sides.specs.declared.side.Side.{Side}
+use Rattle.link_model.specs.Steps.{segments_sent}
+use Rattle.path_core.specs.Values.{Carried, values}
+use Rattle.world_laws.specs.Openings.{Start}
+use Rattle.world_laws.specs.RoundDone.{reached}
+use Rattle.world_laws.specs.RoundNumbers.{last_on_standby, steps_since}
+use Rattle.world_laws.specs.Worlds.{Turn, WorldState, AreLawful}
+use Rattle.whole_paths.specs.CountedCourses.{harms_at}
+use Rattle.whole_paths.specs.Delivery.{AllIsThere}
+use Rattle.whole_paths.specs.Finish.{IsWhole, rounds_in}
+use Rattle.whole_paths.specs.Mild.{IsMildStart}
+use Rattle.whole_paths.specs.ReturnWaits.{most_of_all}
+use Rattle.whole_paths.specs.Rounds.{ticks_for}
+use Rattle.whole_paths.specs.WindowWaits.{DoesNotStandBy}
+
+-- Path 0 stands by at neither end after these turns, nor did it when it asked for bytes last, however many of its steps are left out.
+pub record IsInUse (start : Start) (turns : List Turn) : Type 0 where
+  pub serves : DoesNotStandBy start turns
+  pub asked : (begun : WorldState Carried) (s : Side) → last_on_standby s false (steps_since 2 begun (reached values start turns)) ≡ false
+
+-- From where path 0 is whole to where it still is, with rounds enough for all that can be counted, and for each segment of it that is harmed, all of both
+-- streams is there, whatever becomes of the other paths. Path 0 is never on standby, and took fewer than 2^64 - 1 segments from each side.
+abbrev pub ManyPathsBringAll : Type 0
+ManyPathsBringAll = (start : Start) (before more : List Turn) → IsMildStart start → 32 ≤ start.buffer
+    → AreLawful values more (reached values start before) → IsWhole 0 (reached values start before)
+    → (last : IsWhole 0 (reached values start (before ++ more))) → ((s : Side) → segments_sent s last.path.link < 2 ^ 64 - 1)
+    → ((ts us : List Turn) → ts ++ us ≡ more → IsInUse start (before ++ ts))
+    → ticks_for 61100 (suc (most_of_all start + harms_at start 0 (before ++ more))) < 100 * rounds_in more → AllIsThere (reached values start (before ++ more))
