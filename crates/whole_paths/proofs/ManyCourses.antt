@@ -1,5 +1,5 @@
 -- Each wait of a mild connection over any number of paths goes on, or something is counted, so that all of both streams is there in the end.
-use Rattle.std.proofs.Common.{◌≡◌, refl, sym, subst, ap, ◌∙◌, ◌⊎◌, ⊎_elim, inl, inr, ℕ, zero, suc, ◌+◌, ◌*◌, ◌<◌, ◌≤◌, arith, Bool, true, false, List, [], ◌∷◌, ◌++◌, length}
+use Rattle.std.proofs.Common.{◌≡◌, refl, sym, subst, ap, ◌∙◌, ◌⊎◌, ⊎_elim, inl, inr, ℕ, zero, suc, ◌+◌, ◌*◌, ◌<◌, ◌≤◌, arith, Bool, true, false, List, [], ◌∷◌, ◌++◌, length, ◌-◌, ◌^◌, length-append}
 use Rattle.std.specs.List.{slice_get}
 use Rattle.std.proofs.lemmas.Bool.{both_ways, cases_lt}
 use Rattle.std.proofs.lemmas.List.{append-nil, append_assoc}
@@ -22,7 +22,7 @@ use Rattle.world_laws.specs.Openings.{Start, opened_world}
 use Rattle.world_laws.specs.Promises.{arrived_at, written_by}
 use Rattle.world_laws.specs.RoundDone.{reached}
 use Rattle.world_laws.specs.RoundNumbers.{BeginsRound, after_steps, last_on_standby, steps_since}
-use Rattle.world_laws.specs.Worlds.{Turn, WorldState, all_over, end_round, world_run}
+use Rattle.world_laws.specs.Worlds.{Turn, WorldState, all_over, end_round, world_run, AreLawful}
 use Rattle.world_laws.proofs.Promises.Made.{keep_their_word}
 use Rattle.world_laws.proofs.Rounds.Lifting.{all_over_each}
 use Rattle.world_laws.proofs.Weaving.WholeRounds.{run_append}
@@ -34,7 +34,7 @@ use Rattle.whole_paths.specs.Delivery.{AllIsThere, FinishedIsThere, HasFinished,
 use Rattle.whole_paths.specs.EdgeStands.{IsShutOutAt}
 use Rattle.whole_paths.specs.GoingOn.{steps_of}
 use Rattle.whole_paths.specs.KnownEnds.{ClosedIsAcknowledged, WaitsForNoEnd}
-use Rattle.whole_paths.specs.ManyCourses.{IsInUse, ManyPathsBringAll}
+use Rattle.whole_paths.specs.ManyCourses.{IsInUse, ManyPathsBringAll, ManyPathsDeliver, StaysInUse}
 use Rattle.whole_paths.specs.ManyWaits.{WaitsForAByte}
 use Rattle.whole_paths.specs.ManyWaits.{WaitsForAByte as waits}
 use Rattle.whole_paths.specs.Mild.{EndsGoByMappings, IsMildStart}
@@ -48,20 +48,29 @@ use Rattle.whole_paths.specs.Writers.{GoesOnWriting}
 use Rattle.whole_paths.proofs.AnswerWaits.{answers_are_awaited}
 use Rattle.whole_paths.proofs.CountedCourses.{counted_courses_end, paths_are_counted}
 use Rattle.whole_paths.proofs.Courses.{round_next, round_step}
-use Rattle.whole_paths.proofs.Delivery.{what_is_there_stays}
+use Rattle.whole_paths.proofs.Delivery.{what_is_there_stays, all_there_is_delivered}
 use Rattle.whole_paths.proofs.FinishedThere.{each_finished_is_there}
 use Rattle.whole_paths.proofs.GoingOn.{gains_count, one_more, open_behind, plain_none, same_books, there_counts, there_or}
 use Rattle.whole_paths.proofs.InTime.{nil_so}
 use Rattle.whole_paths.proofs.KnownEnds.{what_is_closed_is_acknowledged}
 use Rattle.whole_paths.proofs.ManyWaits.{counts_too, each_missing_byte_is_waited_for, news_up}
 use Rattle.whole_paths.proofs.Mild.{mapping_is_kept}
-use Rattle.whole_paths.proofs.OpenCourses.{holds_along}
+use Rattle.whole_paths.proofs.OpenCourses.{holds_along, lawful_parts}
 use Rattle.whole_paths.proofs.RecordWaits.{records_are_awaited_always}
 use Rattle.whole_paths.proofs.ReturnWaits.{returns_are_awaited_always}
 use Rattle.whole_paths.proofs.ShutWindows.{not_going}
 use Rattle.whole_paths.proofs.Unstopped.{sides_are_never_stopped}
 use Rattle.whole_paths.proofs.WindowWaits.{shut_ends_are_awaited}
 use Rattle.whole_paths.proofs.Writers.{writers_go_on}
+use Rattle.link_model.specs.Steps.{segments_sent}
+use Rattle.world_laws.specs.declared.outcome.Outcome.TheVariants.{Delivered}
+use Rattle.world_laws.specs.Outcomes.{outcome_of}
+use Rattle.whole_paths.specs.Finish.{IsWhole, rounds_in}
+use Rattle.whole_paths.specs.Rounds.{ticks_for}
+use Rattle.whole_paths.proofs.SentByTurns.{each_turn_sends_one_at_most}
+use Rattle.whole_paths.proofs.StayingWhole.{whole_paths_stay_whole}
+use Rattle.whole_paths.proofs.ThereInTime.{LastRounds, dead_not_whole, last_rounds}
+use Rattle.whole_paths.specs.SentByTurns.{SentAtMost}
 
 abbrev at : Start → List Turn → WorldState Carried
 at start turns = reached values start turns
@@ -353,11 +362,52 @@ module _ (start : Start) (mild : IsMildStart start) (buffer : 32 ≤ start.buffe
     begins = begins_so;
   }
 
+-- ---- from where path 0 is whole to where it still is
+
+sent_few : (start : Start) (turns : List Turn) → length turns < 2 ^ 64 - 1 → (last : IsWhole 0 (at start turns)) → (s : Side) → segments_sent s last.path.link < 2 ^ 64 - 1
+sent_few start turns short last s =
+    let sent = subst (SentAtMost (length turns)) last.here.is (each_turn_sends_one_at_most values start turns 2 last.here.crew last.here.there) s in omega (arith, sent, short)
+
 pub many_paths_bring_all : ManyPathsBringAll
-many_paths_bring_all start before more mild buffer lawful whole last few used enough =
+many_paths_bring_all start before more most mild buffer h enough =
     counted_courses_end values start (harms_at start 0) (counted_with start 0) (IsOpenInUse start) most 61100 (most_of_all start + most) (λ turns. AllIsThere (at start turns)) (IsAwaited start)
     (waits_by_count start mild buffer most) (of_counts start mild buffer most).harms (of_counts start mild buffer most).counts (λ turns low. (of_counts start mild buffer most).few most turns low)
-    before more lawful (λ ts us is. record { opened = holds_along start mild before more whole last few ts us is; used = used ts us is }) (omega arith) enough
+    before more h.lawful (λ ts us is. record { opened = holds_along start mild before more h.first h.last (sent_few start (before ++ more) h.short h.last) ts us is; used = h.used ts us is }) h.few enough
+
+-- the last three rounds
+module _ (start : Start) (before first rest : List Turn) (most : ℕ) (mild : IsMildStart start) (buffer : 32 ≤ start.buffer) (h : StaysInUse start before (first ++ rest) most) where
+  same : (before ++ first) ++ rest ≡ before ++ (first ++ rest)
+  same = append_assoc before first rest
+
+  then : at start (before ++ first) ≡ world_run values first (at start before)
+  then = run_append values before first (opened_world start)
+
+  lawful : AreLawful values first (at start before) × AreLawful values rest (world_run values first (at start before))
+  lawful = lawful_parts first rest (at start before) h.lawful
+
+  still : IsWhole 0 (world_run values first (at start before))
+  still = ⊎_elim (λ whole. whole)
+      (λ died. absurd (dead_not_whole values (world_run values first (at start before)) rest died
+      (subst (IsWhole 0) (ap (at start) (sym same) ∙ run_append values (before ++ first) rest (opened_world start) ∙ ap (world_run values rest) then) h.last)))
+      (whole_paths_stay_whole values (at start before) 0 first h.first)
+
+  first_part : StaysInUse start before first most
+  first_part = record {
+    lawful = lawful.0;
+    short = (let long = ap length same in let sum = length-append (before ++ first) rest in let short = h.short in omega (arith, long, sum, short));
+    first = h.first;
+    last = subst (IsWhole 0) (sym then) still;
+    used = λ ts us is. h.used ts (us ++ rest) (sym (append_assoc ts us rest) ∙ ap (λ xs. xs ++ rest) is);
+    few = (let low = h.few in let up = (of_counts start mild buffer most).harms (before ++ first) rest in let all = ap (harms_at start 0) same in omega (arith, low, up, all));
+  }
+
+  delivered : 3 ≤ rounds_in rest → ticks_for 61100 (suc (most_of_all start + most)) < 100 * rounds_in first → outcome_of (at start (before ++ (first ++ rest))).crew ≡ Delivered
+  delivered three enough = subst (λ ts. outcome_of (at start ts).crew ≡ Delivered) same
+      (all_there_is_delivered start (before ++ first) rest mild (many_paths_bring_all start before first most mild buffer first_part enough) (subst (AreLawful values rest) (sym then) lawful.1) three)
+
+pub many_paths_deliver : ManyPathsDeliver
+many_paths_deliver start before more most mild buffer h enough = subst (λ ts. outcome_of (at start (before ++ ts)).crew ≡ Delivered) (sym parts.is)
+    (delivered start before parts.first parts.rest most mild buffer (subst (λ ts. StaysInUse start before ts most) parts.is h) (let three = parts.last in omega (arith, three)) (let all = parts.all in omega (arith, all, enough)))
   where
-    most : ℕ
-    most = harms_at start 0 (before ++ more)
+    parts : LastRounds 3 more
+    parts = last_rounds 3 more (omega (arith, enough))
