@@ -197,3 +197,4 @@ pub mod ReturnWaits
 pub mod CountedCourses
 pub mod ManyWaits
 pub mod ManyGoingOn
+pub mod ManyCourses
