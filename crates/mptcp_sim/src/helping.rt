@@ -55,6 +55,22 @@ fn put_help_of_words(
     }
 }
 
+/// Puts what helps where these words, behind `enough`, have ended so.
+fn put_help_of_enough(
+    text: &mut String,
+    rt: &HostRuntime,
+    words: &[String],
+    status: &Status,
+) -> Result<(), AllocError> {
+    match (words, *status) {
+        ([script, ..], Status::Script { line, kind }) => {
+            let mut outside = FileOutside::new(rt, false);
+            put_script_help(text, rt.alloc(), &mut outside, script.as_str(), line, kind)
+        }
+        _ => Ok(()),
+    }
+}
+
 /// Puts what helps where a run has ended so: of a script or a log that is refused, where the line leaves its form and what stands there, what
 /// the kind means, or why the turn can't be made.
 pub fn put_help(
@@ -66,6 +82,9 @@ pub fn put_help(
     match words {
         [first, others @ ..] if first.as_str() == "messages" => {
             put_help_of_words(text, rt, others, true, status)
+        }
+        [first, others @ ..] if first.as_str() == "enough" => {
+            put_help_of_enough(text, rt, others, status)
         }
         _ => put_help_of_words(text, rt, words, false, status),
     }
