@@ -55,17 +55,17 @@ fn put_help_of_words(
     }
 }
 
-/// Puts what helps where these words, behind `enough`, have ended so.
-fn put_help_of_enough(
+/// Puts what helps where `enough` has ended so for a script of this name.
+fn put_help_of_script(
     text: &mut String,
     rt: &HostRuntime,
-    words: &[String],
+    script: &str,
     status: &Status,
 ) -> Result<(), AllocError> {
-    match (words, *status) {
-        ([script, ..], Status::Script { line, kind }) => {
+    match *status {
+        Status::Script { line, kind } => {
             let mut outside = FileOutside::new(rt, false);
-            put_script_help(text, rt.alloc(), &mut outside, script.as_str(), line, kind)
+            put_script_help(text, rt.alloc(), &mut outside, script, line, kind)
         }
         _ => Ok(()),
     }
@@ -83,8 +83,8 @@ pub fn put_help(
         [first, others @ ..] if first.as_str() == "messages" => {
             put_help_of_words(text, rt, others, true, status)
         }
-        [first, others @ ..] if first.as_str() == "enough" => {
-            put_help_of_enough(text, rt, others, status)
+        [first, script, ..] if first.as_str() == "enough" => {
+            put_help_of_script(text, rt, script.as_str(), status)
         }
         _ => put_help_of_words(text, rt, words, false, status),
     }

@@ -57,8 +57,8 @@ struct Ran {
 
 /// The line of a fault, where these are the words.
 fn line_of(alloc: Global, words: &[String], status: &Status) -> Result<String, AllocError> {
-    match (words, status) {
-        ([first, ..], Status::Usage) if first.as_str() == "enough" => {
+    match words {
+        [first, ..] if first.as_str() == "enough" && matches!(status, Status::Usage) => {
             String::from_str(alloc, "mptcp_sim: usage: enough SCRIPT FILE_A FILE_B")
         }
         _ => fault_text(alloc, status),
@@ -110,18 +110,24 @@ fn end_of_many(rt: &HostRuntime, words: &[String]) -> End {
     end_of_listed(rt, words, &many, outside.into_fault())
 }
 
+/// An end of which nothing is told but its exit status.
+fn quiet_end(alloc: Global, code: u8) -> End {
+    End {
+        code,
+        line: String::new(alloc),
+        help: String::new(alloc),
+        fault: None,
+    }
+}
+
 /// Tells how many rounds are enough for what stands behind the first word.
 fn end_of_enough(rt: &HostRuntime, words: &[String], others: &[String]) -> End {
     let mut outside = FileOutside::new(rt, has_output(rt));
     let told = tell_enough(rt.alloc(), others, &mut outside);
     let fault = outside.into_fault();
     match told {
-        Ok(enough) => End {
-            code: u8::from(enough.is_none()),
-            line: String::new(rt.alloc()),
-            help: String::new(rt.alloc()),
-            fault: None,
-        },
+        Ok(Some(_)) => quiet_end(rt.alloc(), 0),
+        Ok(None) => quiet_end(rt.alloc(), 1),
         Err(status) => end_of(rt, words, Ran { status, fault }),
     }
 }
