@@ -324,3 +324,4 @@ pub mod ReturnWaits
 pub mod CountedCourses
 pub mod ManyWaits
 pub mod ManyCourses
+pub mod ManyGoingOn

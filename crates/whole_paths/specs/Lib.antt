@@ -196,3 +196,4 @@ pub mod ReturnWaits
 pub mod CountedCourses
 pub mod ManyWaits
 pub mod ManyCourses
+pub mod ManyGoingOn
