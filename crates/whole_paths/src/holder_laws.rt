@@ -13,6 +13,7 @@ ghost use Rattle.whole_paths.specs.ManyGoingOn.{PathsGoOn};
 ghost use Rattle.whole_paths.specs.MissingBytes.{WhatIsMissingIsAwaited};
 ghost use Rattle.whole_paths.specs.Refusals.{WhoAsksIsRefused};
 ghost use Rattle.whole_paths.specs.ReturnWaits.{AllNewsIsBounded, ReturnsAreAwaitedAlways};
+ghost use Rattle.whole_paths.specs.Serving.{WhoServesAsksSo};
 
 /// A law: a byte that a path tried and that isn't acknowledged stands in a piece that the path's end waits for, whatever the links do, over any number of
 /// paths (RFC 8684, section 3.3.6).
@@ -122,4 +123,12 @@ pub fn paths_are_counted()
 /// application writes or closes in the next round.
 pub fn paths_go_on()
     ensures { PathsGoOn }
+{}
+
+/// A law: a path whose ends stand by at no moment never asks for bytes on standby, over any number of paths (RFC 8684, section 3.3.8).
+///
+/// So it isn't refused as a backup. `many_paths_bring_all` asks for no more of path 0.
+pub fn who_serves_asks_so()
+    ensures values { WhoServesAsksSo values }
+    ensures octets { WhoServesAsksSo octets }
 {}
