@@ -326,3 +326,4 @@ pub mod Serving
 pub mod ManyWaits
 pub mod ManyCourses
 pub mod ManyGoingOn
+pub mod ManyPaths
