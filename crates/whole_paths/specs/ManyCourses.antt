@@ -41,3 +41,16 @@ ManyPathsBringAll = (start : Start) (before more : List Turn) (most : ℕ) → I
 abbrev pub ManyPathsDeliver : Type 0
 ManyPathsDeliver = (start : Start) (before more : List Turn) (most : ℕ) → IsMildStart start → 32 ≤ start.buffer → StaysInUse start before more most
     → ticks_for 61100 (suc (most_of_all start + most)) + 300 < 100 * rounds_in more → outcome_of (reached values start (before ++ more)).crew ≡ Delivered
+
+-- Path 0 is whole by each of these lawful turns, and its ends stand by at no moment of the connection.
+pub record NeverStandsBy (start : Start) (before more : List Turn) : Type 0 where
+  pub lawful : AreLawful values more (reached values start before)
+  pub short : length (before ++ more) < 2 ^ 64 - 1
+  pub first : IsWhole 0 (reached values start before)
+  pub last : IsWhole 0 (reached values start (before ++ more))
+  pub serves : (ts us : List Turn) → ts ++ us ≡ before ++ more → DoesNotStandBy start ts
+
+-- then both files are delivered as well
+abbrev pub ServingPathsDeliver : Type 0
+ServingPathsDeliver = (start : Start) (before more : List Turn) → IsMildStart start → 32 ≤ start.buffer → NeverStandsBy start before more
+    → ticks_for 61100 (suc (most_of_all start + harms_at start 0 (before ++ more))) + 300 < 100 * rounds_in more → outcome_of (reached values start (before ++ more)).crew ≡ Delivered
