@@ -191,3 +191,6 @@ pub mod Refusals
 pub mod QuietTexts
 pub mod FewTexts
 pub mod FirstMissing
+pub mod MissingBytes
+pub mod ReturnWaits
+pub mod CountedCourses
