@@ -91,16 +91,28 @@ module _ (start : Start) (plan : PathPlan) (one : BeginsWithOnePath start plan) 
   clears : (u : Side) → Clears u p.agenda (end_at u p)
   clears = (subst MemberClears before.here.is ((each_clears values start turns).each 2 before.here.crew before.here.there)) before.is_open.first
 
+  never_refused : IsToRefuse t p.agenda → ⊥
+  never_refused (refuse.refuses rest is) = true≢false (sym (ap (λ ds. list_any is_harsh ds) is) ∙ (unbroken_p start one.mild turns turn before after before.is_open.first).duties)
+  never_refused (refuse.answers rest is) = never_refuses p t clears (before.is_open.living t) rest is
+
+  -- what the end sends is no reset
+  pub no_reset : (x : ToSend) → first_sends p.agenda p ≡ Some x → x.from ≡ t → (d : Duty) (others : List Duty) → p.agenda ≡ d ∷ others → sends_on d ≡ true → side_of d ≡ t → (segment_sent p x).rst ≡ false
+  no_reset x sends own d others first on side = by (resets_by d) refl
+    where
+      speaks_so : Speaks (end_at t p) (segment_sent p x) → (segment_sent p x).rst ≡ false
+      speaks_so (spoken.acks acks rst) = rst
+      speaks_so (spoken.syns state none) = absurd (not_opening (end_at t p).tcp.state (before.is_open.past t) state)
+
+      by : (b : Bool) → resets_by d ≡ b → (segment_sent p x).rst ≡ false
+      by true may = absurd (never_refused (refusing d t others p.agenda on may side first))
+      by false none = speaks_so (subst (λ u. Speaks (end_at u p) (segment_sent p x)) own (subst (λ (o : Option ToSend). AllSpeak o p) (sym (ap (λ ds. first_sends ds p) first) ∙ sends) (duty_speaks d p none)))
+
   module _ (due : (end_at t p).tcp.due.ack ≡ true) (edge : ℕ) (offered : OffersUpTo six t (edge + 31) p) where
     abbrev Goes : Type 0
     Goes = ((end_at t q).tcp.due.ack ≡ true) ⊎ ((is_harmed t p q ≡ true) ⊎ IsAssured later s edge (p.clock + 400) q)
 
     same_goes : q ≡ p → Goes
     same_goes same = inl (subst (λ (y : PathState Carried). (end_at t y).tcp.due.ack ≡ true) (sym same) due)
-
-    refused : IsToRefuse t p.agenda → Goes
-    refused (refuse.refuses rest is) = absurd (true≢false (sym (ap (λ ds. list_any is_harsh ds) is) ∙ (unbroken_p start one.mild turns turn before after before.is_open.first).duties))
-    refused (refuse.answers rest is) = absurd (never_refuses p t clears (before.is_open.living t) rest is)
 
     is_bare : (x : PlainSegment) → IsBareAck p.profile t (end_at t p) x → x.rst ≡ false → IsBareFrom t p x
     is_bare x (bare_ack.resets is) rst = absurd (true≢false (sym is ∙ rst))
@@ -113,19 +125,11 @@ module _ (start : Start) (plan : PathPlan) (one : BeginsWithOnePath start plan) 
     }
 
     is_sent : (x : ToSend) → first_sends p.agenda p ≡ Some x → x.from ≡ t → (d : Duty) (others : List Duty) → p.agenda ≡ d ∷ others → sends_on d ≡ true → side_of d ≡ t → Goes
-    is_sent x sends own d others first on side = by (resets_by d) refl
+    is_sent x sends own d others first on side = goes (no_reset x sends own d others first on side)
       where
         goes : (segment_sent p x).rst ≡ false → Goes
         goes rst = ⊎_elim same_goes (λ on. inr on) (assured.sent_so start plan one turns turn before after s clear (each_window_has_room start plan turns one p before.here before.is_open s) x sends own
             (is_bare (segment_sent p x) (subst (λ (o : Option ToSend). IfSome o (λ y. y.from ≡ t → IsBareAck p.profile t (end_at t p) (segment_sent p y))) sends (acks_first t (before.is_open.living t) due) own) rst) edge offered)
-
-        speaks_so : Speaks (end_at t p) (segment_sent p x) → Goes
-        speaks_so (spoken.acks acks rst) = goes rst
-        speaks_so (spoken.syns state none) = absurd (not_opening (end_at t p).tcp.state (before.is_open.past t) state)
-
-        by : (b : Bool) → resets_by d ≡ b → Goes
-        by true may = refused (refusing d t others p.agenda on may side first)
-        by false none = speaks_so (subst (λ u. Speaks (end_at u p) (segment_sent p x)) own (subst (λ (o : Option ToSend). AllSpeak o p) (sym (ap (λ ds. first_sends ds p) first) ∙ sends) (duty_speaks d p none)))
 
     owed_goes : StillOwed t p q → Goes
     owed_goes (owing.keeps d others first other h) = inl (h due)

@@ -29,8 +29,9 @@ use Rattle.world_laws.specs.Worlds.{Turn, WorldState, world_run}
 use Rattle.world_laws.proofs.Weaving.WholeRounds.{run_append}
 use Rattle.world_laws.proofs.Worlds.CastLifting.{writes_the_files}
 use Rattle.world_laws.proofs.Worlds.Turns.{run_so}
-use Rattle.whole_paths.specs.BookNews.{BookNewsIsBounded, BookNewsNeverFalls, EachByteCounts, byte_news, is_free}
+use Rattle.whole_paths.specs.BookNews.{BookNewsIsBounded, BookNewsNeverFalls, EachByteCounts, WhatIsGivenBackCounts, byte_news, is_free}
 use Rattle.whole_paths.specs.Finish.{IsPathAt}
+use Rattle.whole_paths.specs.GivenBack.{given_back}
 use Rattle.whole_paths.specs.Holders.{holds, let_go}
 use Rattle.whole_paths.proofs.GivenBack.{ask_lets_go, ask_marks, count_rises, count_up, marks_are_right, rightly}
 use Rattle.whole_paths.proofs.Holding.{holders_live}
@@ -41,7 +42,7 @@ use Rattle.whole_paths.proofs.Turns.{books_by_turns}
 
 -- ---- what stays by a call
 
-abbrev is_done : Option ByteMark → Bool
+abbrev pub is_done : Option ByteMark → Bool
 is_done None = false
 is_done (Some mark) = is_acked mark
 
@@ -94,7 +95,7 @@ pub record AreAsFar (ms ns : List ByteMark) : Type 0 where
   pub spent_so : (path place : ℕ) → spent path (slice_get ms place) ≡ true → spent path (slice_get ns place) ≡ true
   pub gone : (path place : ℕ) → let_go path (slice_get ms place) ≡ true → let_go path (slice_get ns place) ≡ true
 
-as_far_then : (ms ns os : List ByteMark) → AreAsFar ms ns → AreAsFar ns os → AreAsFar ms os
+pub as_far_then : (ms ns os : List ByteMark) → AreAsFar ms ns → AreAsFar ns os → AreAsFar ms os
 as_far_then ms ns os x y = record {
   there = λ place h. y.there place (x.there place h);
   done = λ place h. y.done place (x.done place h);
@@ -102,7 +103,7 @@ as_far_then ms ns os x y = record {
   gone = λ path place h. y.gone path place (x.gone path place h);
 }
 
-as_far_same : (ms : List ByteMark) → AreAsFar ms ms
+pub as_far_same : (ms : List ByteMark) → AreAsFar ms ms
 as_far_same ms = record { there = λ place h. h; done = λ place h. h; spent_so = λ path place h. h; gone = λ path place h. h }
 
 pub ask_as_far : (s : Side) (x : Ask) (six : SixBooks) → AreAsFar (send_of s six).marks (send_of s (after_ask x six)).marks
@@ -133,6 +134,14 @@ spent_rises (suc n) path ms ns h low place was now = ⊎_elim
     (λ high. let one = count_rises (spent path) refl place ms ns (h.spent_so path) was now in let two = count_up (let_go n) refl ms ns (h.gone n) in let rest = news_up n ms ns h in
     let last : path ≡ n = omega (arith, low, high) in
     let at : spent_count n ms < spent_count n ns = subst (λ (i : ℕ). spent_count i ms < spent_count i ns) last one in omega (arith, at, two, rest))
+    (cases_lt path n)
+
+back_rises : (n path : ℕ) (ms ns : List ByteMark) → AreAsFar ms ns → path < n → given_back path ms < given_back path ns → byte_news n ms < byte_news n ns
+back_rises zero path ms ns h low more = absurd (omega (arith, low))
+back_rises (suc n) path ms ns h low more = ⊎_elim
+    (λ less. let one = count_up (spent n) refl ms ns (h.spent_so n) in let two = count_up (let_go n) refl ms ns (h.gone n) in let rest = back_rises n path ms ns h less more in omega (arith, one, two, rest))
+    (λ high. let one = count_up (spent n) refl ms ns (h.spent_so n) in let rest = news_up n ms ns h in let last : path ≡ n = omega (arith, low, high) in
+    let at : given_back n ms < given_back n ns = subst (λ (i : ℕ). given_back i ms < given_back i ns) last more in omega (arith, at, one, rest))
     (cases_lt path n)
 
 free_before : (path : ℕ) (o : Option ByteMark) → is_free path o ≡ true → (among : List Bool) × (o ≡ Some (Free among)) × (contains path among ≡ false)
@@ -186,7 +195,7 @@ module _ {C : Type 0} (k : Codec C) (start : Start) where
   paths_long number [] = refl
   paths_long number (plan ∷ plans) = ap suc (paths_long (suc number) plans)
 
-  crew_long : (turns : List Turn) → length (reached k start turns).crew ≡ suc (suc (length start.paths))
+  pub crew_long : (turns : List Turn) → length (reached k start turns).crew ≡ suc (suc (length start.paths))
   crew_long turns = run_so k (λ w. length w.crew ≡ suc (suc (length start.paths))) (λ w h actor c x there asking. length-set w.crew actor _ ∙ h) (λ w h over. length-map w.crew _ ∙ h) turns (opened_world start)
       (ap (λ n. suc (suc n)) (paths_long 0 start.paths))
 
@@ -215,6 +224,11 @@ module _ {C : Type 0} (k : Codec C) where
       free_counts (length start.paths) path place (written_by s (reached k start before)).marks (written_by s (world_run k more (reached k start before))).marks (marks_as_far k start before more s) low free taken
       (subst (λ (u : WorldState C). rightly (slice_get (written_by s u).marks place) ≡ true) same (marks_are_right k start (before ++ more) s place))
       (λ holder. subst (λ (u : WorldState C). holds holder (slice_get (written_by s u).marks place) ≡ true → holder < length start.paths) same (holders_low k start (before ++ more) s place holder))
+
+module _ {C : Type 0} (k : Codec C) where
+  pub what_is_given_back_counts : WhatIsGivenBackCounts k
+  what_is_given_back_counts start before more s path low rises =
+      back_rises (length start.paths) path (written_by s (reached k start before)).marks (written_by s (world_run k more (reached k start before))).marks (marks_as_far k start before more s) low rises
 
 byte_news_most : (n : ℕ) (ms : List ByteMark) → byte_news n ms ≤ length ms + 2 * (n * length ms)
 byte_news_most zero ms = let most = count_by-le-length is_acked ms in omega (arith, most)

@@ -129,21 +129,25 @@ stage_up p q Becomes.begins_anew s = ((next_far p).at s).subflow.state
 
 -- ---- a connection
 
--- at first no end has one
-pub opened_without : (start : Start) (number : ℕ) (plan : PathPlan) (s : Side) (r : Record) → IsRecordOf (end_at s (begins_turn (waiting_path {C = Carried} (path_begins start number plan) start.lines))) r → r.kind ≡ Data → ⊥
-opened_without start number plan s r one kind = let p : PathState Carried = waiting_path (path_begins start number plan) start.lines in none s ((begins_lasts SameRecords same_lasts p) s) one
+-- at first an end has its SYN alone
+pub opened_alone : (start : Start) (number : ℕ) (plan : PathPlan) (s : Side) (r : Record) → IsRecordOf (end_at s (begins_turn (waiting_path {C = Carried} (path_begins start number plan) start.lines))) r → r ≡ syn_record never_sent
+opened_alone start number plan s r one = let p : PathState Carried = waiting_path (path_begins start number plan) start.lines in alone s ((begins_lasts SameRecords same_lasts p) s) one
   where
-    syn_alone : (rs : List Record) (i : ℕ) → rs ≡ syn_record never_sent ∷ [] → slice_get rs i ≡ Some r → ⊥
+    syn_alone : (rs : List Record) (i : ℕ) → rs ≡ syn_record never_sent ∷ [] → slice_get rs i ≡ Some r → r ≡ syn_record never_sent
     syn_alone rs i is at = by i (sym (ap (λ (xs : List Record). slice_get xs i) is) ∙ at)
       where
-        by : (i : ℕ) → slice_get (syn_record never_sent ∷ []) i ≡ Some r → ⊥
-        by zero at = let same = ap (λ (x : Record). x.kind) (same_Some (syn_record never_sent) r at) in let apart : Syn ≡ Data = same ∙ kind in cc
+        by : (i : ℕ) → slice_get (syn_record never_sent ∷ []) i ≡ Some r → r ≡ syn_record never_sent
+        by zero at = sym (same_Some (syn_record never_sent) r at)
         by (suc i) at = cc
 
-    none : (s : Side) → (end_at s (begins_turn (waiting_path {C = Carried} (path_begins start number plan) start.lines))).tcp.send.records ≡ (end_at s (waiting_path {C = Carried} (path_begins start number plan) start.lines)).tcp.send.records
-        → IsRecordOf (end_at s (begins_turn (waiting_path {C = Carried} (path_begins start number plan) start.lines))) r → ⊥
-    none A same one = syn_alone _ one.at same (one.there ∙ ap Some one.holds)
-    none B same one = syn_alone _ one.at same (one.there ∙ ap Some one.holds)
+    alone : (s : Side) → (end_at s (begins_turn (waiting_path {C = Carried} (path_begins start number plan) start.lines))).tcp.send.records ≡ (end_at s (waiting_path {C = Carried} (path_begins start number plan) start.lines)).tcp.send.records
+        → IsRecordOf (end_at s (begins_turn (waiting_path {C = Carried} (path_begins start number plan) start.lines))) r → r ≡ syn_record never_sent
+    alone A same one = syn_alone _ one.at same (one.there ∙ ap Some one.holds)
+    alone B same one = syn_alone _ one.at same (one.there ∙ ap Some one.holds)
+
+-- so none of data
+pub opened_without : (start : Start) (number : ℕ) (plan : PathPlan) (s : Side) (r : Record) → IsRecordOf (end_at s (begins_turn (waiting_path {C = Carried} (path_begins start number plan) start.lines))) r → r.kind ≡ Data → ⊥
+opened_without start number plan s r one kind = let same = ap (λ (x : Record). x.kind) (opened_alone start number plan s r one) in let apart : Syn ≡ Data = sym same ∙ kind in cc
 
 module _ (start : Start) (mild : IsMildStart start) where
   settled_at : (turns : List Turn) (p : PathState Carried) → IsPathAt 0 (reached values start turns) p → IsSettled p

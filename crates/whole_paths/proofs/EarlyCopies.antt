@@ -9,7 +9,6 @@ use Rattle.link_model.specs.Steps.{arriving}
 use Rattle.link_model.specs.declared.flight.Flight.{Flight}
 use Rattle.link_script.specs.Places.{same_side}
 use Rattle.path_segments.specs.Spelled.{PlainSegment}
-use Rattle.sides.specs.declared.side.Side.{Side}
 use Rattle.sides.specs.declared.side.Side.TheVariants.{A, B}
 use Rattle.stream_lanes.specs.Words.{Has}
 use Rattle.subflow_send.specs.Records.{Record}
@@ -53,7 +52,7 @@ use Rattle.whole_paths.specs.Mild.{HasKeys, IsMildStart, LinkIsMild, treats_answ
 use Rattle.whole_paths.specs.News.{one_if}
 use Rattle.whole_paths.specs.OnePathScripts.{BeginsWithOnePath, NeverFalls}
 use Rattle.whole_paths.specs.OpenCourses.{IsNow}
-use Rattle.whole_paths.specs.OpenFirst.{HasJustOpened, OpensByClearing}
+use Rattle.whole_paths.specs.OpenFirst.{OpensByClearing}
 use Rattle.whole_paths.specs.OpeningWaits.{IsAlive}
 use Rattle.whole_paths.specs.RecordsGo.{GoesNext, IsOneSo, PathsGoAlone, RecordsGoAlone}
 use Rattle.whole_paths.specs.SentAgain.{OthersAreUnsent, PathsSendAllAgain, SendsAllAgain}
@@ -76,7 +75,7 @@ use Rattle.whole_paths.proofs.OpenClears.{becomes_far, becomes_fewer, paths_open
 use Rattle.whole_paths.proofs.OpenCourses.{IsFirstPath, each_first}
 use Rattle.whole_paths.proofs.OpeningEnds.{LaterPath, later_path}
 use Rattle.whole_paths.proofs.RecordsGo.{each_record_goes_alone}
-use Rattle.whole_paths.proofs.RecordsWell.{by_turn, clock, copies, copy_stays, goes_so, holds_p, holds_q, is_data_or, known, numbered}
+use Rattle.whole_paths.proofs.RecordsWell.{by_turn, clock, copies, copy_stays, goes_so, holds_p, is_data_or, known, numbered}
 use Rattle.whole_paths.proofs.RecordWaits.{last, path_is}
 use Rattle.whole_paths.proofs.SentAgain.{each_expiry_sends_all_again}
 

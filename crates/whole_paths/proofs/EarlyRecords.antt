@@ -100,12 +100,16 @@ module _ (start : Start) (plan : PathPlan) (one : BeginsWithOnePath start plan) 
           absurd (both_ways p.b.modes.clear unclear (subst (λ (q : PathState Carried). q.b.modes.clear ≡ true) same (later.far.b.clear is_true)))
 
   -- each record may be lost
-  positions : PathState Carried → List ℕ
+  pub positions : PathState Carried → List ℕ
   positions p = map (λ (r : Record). r.pos) p.a.tcp.send.records
 
-  all_lost : (p : PathState Carried) → AreWellBut A (positions p) p
+  pub all_lost : (p : PathState Carried) → AreWellBut A (positions p) p
   unfolding positions
   all_lost p r has = inr (record { at = has.at; item = has.item.pos; there = slice_get-map (λ (x : Record). x.pos) p.a.tcp.send.records has.at ∙ ap (λ o. option_map (λ (x : Record). x.pos) o) has.there; holds = ap (λ (x : Record). x.pos) has.holds })
+
+  pub as_many : (p : PathState Carried) → length (positions p) ≡ length p.a.tcp.send.records
+  unfolding positions
+  as_many p = length-map p.a.tcp.send.records (λ (r : Record). r.pos)
 
   module _ (before : List Turn) (turn : Turn) (p : PathState Carried) (here : IsPathAt 0 (reached values start before) p) (unclear : p.b.modes.clear ≡ false) (now : HasJustOpened start (before ++ turn ∷ [])) where
     abbrev q : PathState Carried
@@ -117,8 +121,7 @@ module _ (start : Start) (plan : PathPlan) (one : BeginsWithOnePath start plan) 
         ∙ ap (λ b. or_else (if b then Some (length q.a.tcp.send.records) else None) 0) now.now.is_open.clear
 
     few : length (positions q) ≤ early values start (before ++ turn ∷ [])
-    unfolding positions
-    few = let is = early_is in let size = length-map q.a.tcp.send.records (λ (r : Record). r.pos) in omega (arith, is, size)
+    few = let is = early_is in let size = as_many q in omega (arith, is, size)
 
     owes : (s : Side) → (debts : ℕ) × OwesAlong start s debts (before ++ turn ∷ []) × (debts ≤ early values start (before ++ turn ∷ []))
     owes A = (length (positions q), a_owes_records_first start plan before turn one p here unclear now.now (positions q) (all_lost q), few)

@@ -96,7 +96,7 @@ module _ (most : ℕ) (stands : Bool) (b : Sending) (span : Span) where
   passed_over true w r e = cc
   passed_over false w r e = e
 
-  first_is : (from : ℕ) → first_free 0 b ≡ Some from → from ≡ taken_len 0 b.marks
+  pub first_is : (from : ℕ) → first_free 0 b ≡ Some from → from ≡ taken_len 0 b.marks
   first_is from is = by (is_for 0 b.owner) is
     where
       found : (c : Bool) → (if c then Some (taken_len 0 b.marks) else None) ≡ Some from → from ≡ taken_len 0 b.marks
@@ -140,7 +140,7 @@ module _ (most : ℕ) (stands : Bool) (b : Sending) (span : Span) where
 
 -- ---- what a path sends stays as it passes duties
 
-abbrev SameSend : PathState Carried → PathState Carried → Type 0
+abbrev pub SameSend : PathState Carried → PathState Carried → Type 0
 SameSend p q = (s : Side) → (end_at s q).tcp.send ≡ (end_at s p).tcp.send
 
 by_both : (p q : PathState Carried) → (q.a.tcp.send ≡ p.a.tcp.send) × (q.b.tcp.send ≡ p.b.tcp.send) → SameSend p q
@@ -175,7 +175,7 @@ passed_send d p = by_both p (passed d p) (both_ends (λ e f. f.tcp.send ≡ e.tc
     (λ e f only. unwritten (writes d).own.send e.tcp.send f.tcp.send refl (ap (λ (v : EndView). v.send) only.same))
     (λ e f only. unwritten (writes d).other.send e.tcp.send f.tcp.send refl (ap (λ (v : EndView). v.send) only.same)) (passes_no_more d p))
 
-same_last : Lasts {C = Carried} SameSend
+pub same_last : Lasts {C = Carried} SameSend
 same_last = record { agenda = λ ds p s. refl; chains = λ p q r x y s. y s ∙ x s; passes = passed_send }
 
 -- ---- what a turn makes of SND.NXT
@@ -187,48 +187,48 @@ IsGrantOf v b span r = (r.kind ≡ Data) × (r.pos ≡ v.nxt) × (r.piece ≡ pa
 data Grants (s : Side) (six : SixBooks) (p q : PathState Carried) : Type 0 where
   stays : (end_at s q).tcp.send.nxt ≡ (end_at s p).tcp.send.nxt → Grants s six p q
   ends : (end_at s q).tcp.send.finished ≡ true → Grants s six p q
-  gives : (stands : Bool) (span : Span) → decision (path_of p) (payload_size p.profile) stands (send_of s six) ≡ Ok span
+  gives : (others : List Duty) → p.agenda ≡ duties.Step (step_duties.Data s) ∷ others → (stands : Bool) (span : Span) → decision (path_of p) (payload_size p.profile) stands (send_of s six) ≡ Ok span
       → Has (IsGrantOf (end_at s p).tcp.send (send_of s six) span) (end_at s q).tcp.send.records
       → (end_at s q).tcp.send.nxt ≡ (end_at s p).tcp.send.nxt + length (part_of span (send_of s six).written) → Grants s six p q
 
 then_same : (s : Side) (six : SixBooks) (p y q : PathState Carried) → SameSend y q → Grants s six p y → Grants s six p q
 then_same s six p y q same (stays is) = stays (ap (λ (v : SendState). v.nxt) (same s) ∙ is)
 then_same s six p y q same (ends is) = ends (ap (λ (v : SendState). v.finished) (same s) ∙ is)
-then_same s six p y q same (gives stands span decided has next) =
-    gives stands span decided (subst (Has (IsGrantOf (end_at s p).tcp.send (send_of s six) span)) (sym (ap (λ (v : SendState). v.records) (same s))) has) (ap (λ (v : SendState). v.nxt) (same s) ∙ next)
+then_same s six p y q same (gives others first stands span decided has next) =
+    gives others first stands span decided (subst (Has (IsGrantOf (end_at s p).tcp.send (send_of s six) span)) (sym (ap (λ (v : SendState). v.records) (same s))) has) (ap (λ (v : SendState). v.nxt) (same s) ∙ next)
 
 module _ (six : SixBooks) (p : PathState Carried) where
   all_stay : (s : Side) (q : PathState Carried) → AllStay p q → Grants s six p q
   all_stay A q h = stays h.a
   all_stay B q h = stays h.b
 
-  granted_row : (s : Side) → Grants s six p (answered_data values s None (reply_of six (grant_ask s p)) p)
-  granted_row A = by (decision (path_of p) (payload_size p.profile) p.a.modes.standby six.send_a) refl
+  granted_row : (s : Side) (others : List Duty) → p.agenda ≡ duties.Step (step_duties.Data s) ∷ others → Grants s six p (answered_data values s None (reply_of six (grant_ask s p)) p)
+  granted_row A others first = by (decision (path_of p) (payload_size p.profile) p.a.modes.standby six.send_a) refl
     where
       by : (o : Result Span Why) → decision (path_of p) (payload_size p.profile) p.a.modes.standby six.send_a ≡ o → let r = replies.Send (reply_by o six.send_a) in Grants A six p (answered_grant A (grant_in r) r p)
       by (Err why) is = let r : Reply = replies.Send (reply_by (Err why) six.send_a) in all_stay A (answered_grant A None r p) (refused_next A r p)
-      by (Ok span) is = gives p.a.modes.standby span is (last_so (IsGrantOf p.a.tcp.send six.send_a span) p.a.tcp.send.records (record { pos = p.a.tcp.send.nxt; kind = Data; piece = part_of span six.send_a.written; mapping = mapping_of p.profile A span.from p.a.tcp.send.nxt (part_of span six.send_a.written); sending = never_sent }) (refl, refl, refl)) refl
-  granted_row B = by (decision (path_of p) (payload_size p.profile) p.b.modes.standby six.send_b) refl
+      by (Ok span) is = gives others first p.a.modes.standby span is (last_so (IsGrantOf p.a.tcp.send six.send_a span) p.a.tcp.send.records (record { pos = p.a.tcp.send.nxt; kind = Data; piece = part_of span six.send_a.written; mapping = mapping_of p.profile A span.from p.a.tcp.send.nxt (part_of span six.send_a.written); sending = never_sent }) (refl, refl, refl)) refl
+  granted_row B others first = by (decision (path_of p) (payload_size p.profile) p.b.modes.standby six.send_b) refl
     where
       by : (o : Result Span Why) → decision (path_of p) (payload_size p.profile) p.b.modes.standby six.send_b ≡ o → let r = replies.Send (reply_by o six.send_b) in Grants B six p (answered_grant B (grant_in r) r p)
       by (Err why) is = let r : Reply = replies.Send (reply_by (Err why) six.send_b) in all_stay B (answered_grant B None r p) (refused_next B r p)
-      by (Ok span) is = gives p.b.modes.standby span is (last_so (IsGrantOf p.b.tcp.send six.send_b span) p.b.tcp.send.records (record { pos = p.b.tcp.send.nxt; kind = Data; piece = part_of span six.send_b.written; mapping = mapping_of p.profile B span.from p.b.tcp.send.nxt (part_of span six.send_b.written); sending = never_sent }) (refl, refl, refl)) refl
+      by (Ok span) is = gives others first p.b.modes.standby span is (last_so (IsGrantOf p.b.tcp.send six.send_b span) p.b.tcp.send.records (record { pos = p.b.tcp.send.nxt; kind = Data; piece = part_of span six.send_b.written; mapping = mapping_of p.profile B span.from p.b.tcp.send.nxt (part_of span six.send_b.written); sending = never_sent }) (refl, refl, refl)) refl
 
-  other_next : (s : Side) (o : Option Record) (r : Reply) → (end_at s (answered_data values (peer s) o r p)).tcp.send.nxt ≡ (end_at s p).tcp.send.nxt
+  pub other_next : (s : Side) (o : Option Record) (r : Reply) → (end_at s (answered_data values (peer s) o r p)).tcp.send.nxt ≡ (end_at s p).tcp.send.nxt
   other_next A (Some u) r = refl
   other_next B (Some u) r = refl
   other_next A None r = elim (grant_in r) as (λ o. (answered_grant B o r p).a.tcp.send.nxt ≡ p.a.tcp.send.nxt) [ None ↦ refl | Some grant ↦ refl ]
   other_next B None r = elim (grant_in r) as (λ o. (answered_grant A o r p).b.tcp.send.nxt ≡ p.b.tcp.send.nxt) [ None ↦ refl | Some grant ↦ refl ]
 
-  own_row : (s : Side) (o : Option Record) → Grants s six p (answered_data values s o (reply_of six (data_ask values s o p)) p)
-  own_row s (Some u) = let r : Reply = reply_of six (data_ask values s (Some u) p) in all_stay s (answered_data values s (Some u) r p) (unsent_next values s u r p)
-  own_row s None = granted_row s
+  own_row : (s : Side) (o : Option Record) (others : List Duty) → p.agenda ≡ duties.Step (step_duties.Data s) ∷ others → Grants s six p (answered_data values s o (reply_of six (data_ask values s o p)) p)
+  own_row s (Some u) others first = let r : Reply = reply_of six (data_ask values s (Some u) p) in all_stay s (answered_data values s (Some u) r p) (unsent_next values s u r p)
+  own_row s None others first = granted_row s others first
 
-  data_row : (s t : Side) → Grants s six p (answered values (duties.Step (step_duties.Data t)) (reply_of six (ask_for values (duties.Step (step_duties.Data t)) p)) p)
-  data_row A A = own_row A (first_unsent p.a)
-  data_row B B = own_row B (first_unsent p.b)
-  data_row A B = stays (other_next A (first_unsent p.b) (reply_of six (data_ask values B (first_unsent p.b) p)))
-  data_row B A = stays (other_next B (first_unsent p.a) (reply_of six (data_ask values A (first_unsent p.a) p)))
+  data_row : (s t : Side) (others : List Duty) → p.agenda ≡ duties.Step (step_duties.Data t) ∷ others → Grants s six p (answered values (duties.Step (step_duties.Data t)) (reply_of six (ask_for values (duties.Step (step_duties.Data t)) p)) p)
+  data_row A A others first = own_row A (first_unsent p.a) others first
+  data_row B B others first = own_row B (first_unsent p.b) others first
+  data_row A B others first = stays (other_next A (first_unsent p.b) (reply_of six (data_ask values B (first_unsent p.b) p)))
+  data_row B A others first = stays (other_next B (first_unsent p.a) (reply_of six (data_ask values A (first_unsent p.a) p)))
 
   fin_row : (s t : Side) (r : Reply) → Grants s six p (answered values (duties.Send (send_duties.Fin t)) r p)
   fin_row A A r = ends refl
@@ -236,12 +236,12 @@ module _ (six : SixBooks) (p : PathState Carried) where
   fin_row A B r = stays refl
   fin_row B A r = stays refl
 
-  duty_row : (s : Side) (d : Duty) → Grants s six p (answered values d (reply_of six (ask_for values d p)) p)
-  duty_row s (duties.Step (step_duties.Data t)) = data_row s t
-  duty_row s (duties.Step step_duties.Events) = let r : Reply = reply_of six (ask_for values (duties.Step step_duties.Events) p) in
+  duty_row : (s : Side) (d : Duty) (others : List Duty) → p.agenda ≡ d ∷ others → Grants s six p (answered values d (reply_of six (ask_for values d p)) p)
+  duty_row s (duties.Step (step_duties.Data t)) others first = data_row s t others first
+  duty_row s (duties.Step step_duties.Events) others first = let r : Reply = reply_of six (ask_for values (duties.Step step_duties.Events) p) in
       all_stay s (answered values (duties.Step step_duties.Events) r p) (event_next values (next_event p) r p)
-  duty_row s (duties.Send (send_duties.Fin t)) = fin_row s t (reply_of six (ask_for values (duties.Send (send_duties.Fin t)) p))
-  duty_row s d = let r : Reply = reply_of six (ask_for values d p) in all_stay s (answered values d r p) (answered_next values d r p refl refl)
+  duty_row s (duties.Send (send_duties.Fin t)) others first = fin_row s t (reply_of six (ask_for values (duties.Send (send_duties.Fin t)) p))
+  duty_row s d others first = let r : Reply = reply_of six (ask_for values d p) in all_stay s (answered values d r p) (answered_next values d r p refl refl)
 
 -- as the path takes a reply, and as its next round begins
 takes_row : (six : SixBooks) (ask : Ask) (p : PathState Carried) → asks_of values p ≡ Some ask → (s : Side) → Grants s six p (takes values (reply_of six ask) p)
@@ -253,7 +253,7 @@ takes_row six ask p asks s = by p.agenda asks
         let x : PathState Carried = with_agenda (d ∷ ds) p in
         let y : PathState Carried = answered values d (reply_of six ask) x in
         then_same s six x y (takes values (reply_of six ask) x) (settled_lasts SameSend same_last y.agenda y)
-        (subst (λ z. Grants s six x (answered values d (reply_of six z) x)) (same_Some (ask_for values d x) ask asked) (duty_row six x s d))
+        (subst (λ z. Grants s six x (answered values d (reply_of six z) x)) (same_Some (ask_for values d x) ask asked) (duty_row six x s d ds refl))
 
 next_row : (six : SixBooks) (p : PathState Carried) (s : Side) → Grants s six p (next_round p)
 next_row six p s = stays (ap (λ (v : SendState). v.nxt) (begins_lasts SameSend same_last (record p { clock = p.until; until = p.until + 100 }) s))
@@ -293,6 +293,11 @@ module _ (start : Start) (plan : PathPlan) (turns : List Turn) (turn : Turn) (on
   ends_at : (span : Span) (x : Record) → x.kind ≡ Data → x.pos ≡ (end_at s p).tcp.send.nxt → x.piece ≡ part_of span b.written → end_of x ≡ (end_at s p).tcp.send.nxt + length (part_of span b.written)
   ends_at span x kind pos piece = (let size : occupied x.kind x.piece ≡ length (part_of span b.written) = ap (λ k. occupied k x.piece) kind ∙ ap (λ (o : List ℕ). length o) piece in omega (arith, size, pos))
 
+  part_short : (span : Span) (x : Record) → x.piece ≡ part_of span b.written → length x.piece ≤ length b.written
+  part_short span x piece =
+      let size = ap (λ (o : List ℕ). length o) piece in
+      let most = length-take (span.to - span.from) (drop span.from b.written) in let rest = length-drop span.from b.written in omega (arith, size, most, rest)
+
   full_one : (span : Span) (x : Record) → x.kind ≡ Data → x.pos ≡ (end_at s p).tcp.send.nxt → x.piece ≡ part_of span b.written
       → (payload_size p.profile ≤ length (part_of span b.written)) ⊎ (min (length b.written) b.edge ≤ taken_len 0 b.marks + length (part_of span b.written))
       → ((end_at s p).tcp.send.nxt + payload_size p.profile ≤ end_of x) ⊎ (min (length b.written) b.edge < end_of x)
@@ -307,7 +312,7 @@ module _ (start : Start) (plan : PathPlan) (turns : List Turn) (turn : Turn) (on
       by : Grants s (books_in old.books) p q → ((end_at s q).tcp.send.nxt ≡ (end_at s p).tcp.send.nxt) ⊎ HoldsAFullPiece p.profile b (end_at s p).tcp.send.nxt (end_at s q)
       by (stays is) = inl is
       by (ends is) = absurd (true≢false (sym is ∙ unfinished))
-      by (gives stands span decided has next) = inr (record {
+      by (gives others first stands span decided has next) = inr (record {
         piece = has.item;
         there = record { at = has.at; item = has.item; there = has.there; holds = refl };
         kind = has.holds.0;
@@ -315,7 +320,24 @@ module _ (start : Start) (plan : PathPlan) (turns : List Turn) (turn : Turn) (on
         last = next ∙ sym (ends_at span has.item has.holds.0 has.holds.1 has.holds.2);
         full = full_one span has.item has.holds.0 has.holds.1 has.holds.2
             (ends_so (payload_size p.profile) stands b span (subst (λ n. decision n (payload_size p.profile) stands b ≡ Ok span) number decided) counted.marked counted.free);
+        part = part_short span has.item has.holds.2;
       })
+
+  -- where SND.NXT rises the end was to ask for bytes
+  pub grants_ask : ((end_at s q).tcp.send.nxt ≡ (end_at s p).tcp.send.nxt) ⊎ ((others : List Duty) × (p.agenda ≡ duties.Step (step_duties.Data s) ∷ others))
+  grants_ask = by grants
+    where
+      by : Grants s (books_in old.books) p q → ((end_at s q).tcp.send.nxt ≡ (end_at s p).tcp.send.nxt) ⊎ ((others : List Duty) × (p.agenda ≡ duties.Step (step_duties.Data s) ∷ others))
+      by (stays is) = inl is
+      by (ends is) = absurd (true≢false (sym is ∙ unfinished))
+      by (gives others first stands span decided has next) = inr (others, first)
 
 pub each_grant_is_full : EachGrantIsFull
 each_grant_is_full start plan turns turn one mild p q here there s unfinished = is_full start plan turns turn one mild p q here there s unfinished
+
+-- as SND.NXT of such an end rises it was to ask for bytes next
+pub who_is_granted_asks : (start : Start) (plan : PathPlan) (turns : List Turn) (turn : Turn) → start.paths ≡ plan ∷ [] → IsMildStart start
+    → (p q : PathState Carried) → IsPathAt 0 (reached values start turns) p → IsPathAt 0 (reached values start (turns ++ turn ∷ [])) q → (s : Side)
+    → (end_at s q).tcp.send.finished ≡ false → ((end_at s q).tcp.send.nxt ≡ (end_at s p).tcp.send.nxt)
+    ⊎ ((others : List Duty) × (p.agenda ≡ duties.Step (step_duties.Data s) ∷ others))
+who_is_granted_asks start plan turns turn one mild p q here there s unfinished = grants_ask start plan turns turn one mild p q here there s unfinished

@@ -130,7 +130,7 @@ rightly_step call o q (returns asker m asks there is) h = ap rightly is ∙ righ
 abbrev pub AreRightly : SixBooks → Type 0
 AreRightly six = (s : Side) (place : ℕ) → rightly (slice_get (send_of s six).marks place) ≡ true
 
-ask_rightly : (x : Ask) (six : SixBooks) → AreRightly six → AreRightly (after_ask x six)
+pub ask_rightly : (x : Ask) (six : SixBooks) → AreRightly six → AreRightly (after_ask x six)
 ask_rightly x six h s place = ask_marks s place x six (λ o q. rightly o ≡ true → rightly q ≡ true) (λ o is. is) (λ call o q step is. rightly_step call o q step is) (h s place)
 
 -- ---- what is held is let go as it is given back

@@ -261,13 +261,13 @@ module _ (six : SixBooks) (p : PathState Carried) (s : Side) (next window : ℕ)
 -- ---- a path takes its turn
 
 -- what is known of a path and of a book of its side
-record Known (six : SixBooks) (s : Side) (p : PathState Carried) : Type 0 where
-  number : path_of p ≡ 0
-  of_one : IsOf (send_of s six) (send_of s six)
-  unstopped : (send_of s six).aborted ≡ false
-  serves : (t : Side) → (end_at t p).modes.standby ≡ false
-  agrees : AgreesWith (send_of s six) (end_at s p).sending
-  room : 29 ≤ p.profile.mss
+pub record Known (six : SixBooks) (s : Side) (p : PathState Carried) : Type 0 where
+  pub number : path_of p ≡ 0
+  pub of_one : IsOf (send_of s six) (send_of s six)
+  pub unstopped : (send_of s six).aborted ≡ false
+  pub serves : (t : Side) → (end_at t p).modes.standby ≡ false
+  pub agrees : AgreesWith (send_of s six) (end_at s p).sending
+  pub room : 29 ≤ p.profile.mss
 
 -- bytes that are left are more than the end heard acknowledged
 heard_few : (b : Sending) (v : OwnStream) → AgreesWith b v → acked_len b.marks < length b.written → v.heard ≤ acked_len b.marks
@@ -277,7 +277,7 @@ heard_few b v agrees left = by (b.closed && (length b.written == acked_len b.mar
     by true is = (let same = eqb-true (length b.written) (acked_len b.marks) (and_parts b.closed (length b.written == acked_len b.marks) is).1 in absurd (omega (arith, same, left)))
     by false is = (let low : v.heard ≤ acked_len b.marks + 0 = subst (λ (c : Bool). v.heard ≤ acked_len b.marks + (if c then 1 else 0)) is agrees.heard in omega (arith, low))
 
-piece_len : (n count : ℕ) (xs : List ℕ) (from : ℕ) → from + count ≤ length xs → n ≡ count → length (take n (drop from xs)) ≡ count
+pub piece_len : (n count : ℕ) (xs : List ℕ) (from : ℕ) → from + count ≤ length xs → n ≡ count → length (take n (drop from xs)) ≡ count
 piece_len n count xs from within same = (let all = length-drop from xs in let few = length-take n (drop from xs) in omega (arith, all, few, within, same))
 
 module _ (start : Start) (six : SixBooks) (ds : List Duty) (p : PathState Carried) (s : Side) (d : Duty) (k : Known six s (with_agenda (d ∷ ds) p)) (h : IsHalted six s (with_agenda (d ∷ ds) p)) where
@@ -407,7 +407,7 @@ module _ (start : Start) (plan : PathPlan) (turns : List Turn) (one : start.path
       (λ number y at apart x is. absurd (apart (let zero_is = (alone.holds.paths number y at).0 in omega (arith, zero_is))))
       actor c (subst (λ (v : WorldState Carried). slice_get v.crew actor ≡ Some c) alone.is there)
 
-  known_at : (c : ActorCrew Carried) (p : PathState Carried) → slice_get w.crew 2 ≡ Some c → c.member ≡ Path p → (s : Side) → Known (books_in w.books) s p
+  pub known_at : (c : ActorCrew Carried) (p : PathState Carried) → slice_get w.crew 2 ≡ Some c → c.member ≡ Path p → (s : Side) → Known (books_in w.books) s p
   known_at c p there is s = record {
     number = serves.number;
     of_one = (let own = subst (λ (v : WorldState Carried). IsOf (new_sending start.buffer) (send_of s (books_in v.books))) (sym alone.is) (alone.holds.books s) in record {

@@ -199,10 +199,10 @@ module _ (start : Start) (turns : List Turn) where
   right_now = marks_are_right values start turns
 
   module _ (number : ℕ) (p : PathState Carried) (here : IsPathAt number now p) where
-    of_path : (P : PathState Carried → Type 0) → HoldsOfKind (λ app. Unit {0}) P here.crew.member → P p
+    pub of_path : (P : PathState Carried → Type 0) → HoldsOfKind (λ app. Unit {0}) P here.crew.member → P p
     of_path P h = subst (HoldsOfKind (λ app. Unit {0}) P) here.is h
 
-    numbered : path_of p ≡ number
+    pub numbered : path_of p ≡ number
     numbered = let named = (subst (IsNamed values (2 + number)) here.is ((always_known values start turns).named (2 + number) here.crew here.there)).0 in omega (arith, named)
 
     -- a piece that isn't acknowledged

@@ -1,5 +1,5 @@
 -- Who holds a byte is a path of the connection whose end is past the handshake, and lives, or gives it back before anything else.
-use Rattle.std.proofs.Common.{◌≡◌, refl, sym, subst, ap, ◌∙◌, ◌⊎◌, inl, inr, ⊎_elim, ℕ, ◌+◌, ◌≤◌, arith, Bool, true, false, true≢false, Option, Some, None, List, [], ◌∷◌, map, set}
+use Rattle.std.proofs.Common.{◌≡◌, refl, sym, subst, ap, ◌∙◌, ◌⊎◌, inl, inr, ⊎_elim, ℕ, ◌+◌, ◌<◌, ◌≤◌, arith, Bool, true, false, true≢false, Option, Some, None, List, [], ◌∷◌, map, set}
 use Rattle.std.specs.List.{slice_get}
 use Rattle.std.specs.Option.{option_map}
 use Rattle.std.proofs.lemmas.Bool.{and_parts, both_ways, cases_eq}
@@ -151,17 +151,17 @@ module _ {C : Type 0} (k : Codec C) where
 
   -- ---- the world
 
-  -- the actor behind the applications is the path of its number, and its first duty comes to something
+  -- the actors behind both applications are the paths of their numbers, and their first duties come to something
   abbrev pub IsNamed : ℕ → Actor C → Type 0
-  IsNamed actor (App a) = Unit {0}
+  IsNamed actor (App a) = actor < 2
   IsNamed actor (Path p) = (2 + path_of p ≡ actor) × IsSettled p
 
   takes_named : (actor : ℕ) (r : Reply) (m : Actor C) → IsNamed actor m → IsNamed actor (member_takes k r m)
-  takes_named actor r (App a) h = tt
+  takes_named actor r (App a) h = h
   takes_named actor r (Path p) h = (ap (λ n. 2 + n) (takes_keeps k r p).2 ∙ h.0, let q : PathState C = answers k p.agenda r p in settled_settled q.agenda q)
 
   next_named : (actor : ℕ) (m : Actor C) → IsNamed actor m → IsNamed actor (member_next m)
-  next_named actor (App a) h = tt
+  next_named actor (App a) h = h
   next_named actor (Path p) h =
       let q : PathState C = record p { clock = p.until; until = p.until + 100 } in (ap (λ n. 2 + n) (first_keeps q).2 ∙ h.0, settled_settled start_of_turn (with_agenda start_of_turn q))
 
@@ -229,7 +229,7 @@ module _ {C : Type 0} (k : Codec C) where
           (λ apart. apart_on s number apart (⊎_elim (λ was. h.holders.each s number place was) (λ a. absurd (apart (asker s number c.member (h.named actor c there) asking a))) (book_held s number place x six held)))
           (cases_eq actor (2 + number))
 
-      known_asked : Known v
+      pub known_asked : Known v
       known_asked = record {
         named = λ i d at. ⊎_elim
             (λ here. subst (λ y. IsNamed i y.member) here.1 (subst (λ n. IsNamed n (member_takes k (answer_to w.books x) c.member)) (sym here.0) (takes_named actor (answer_to w.books x) c.member (h.named actor c there))))
@@ -274,7 +274,7 @@ module _ {C : Type 0} (k : Codec C) where
 
   opened_known : (start : Start) → Known (opened_world start)
   opened_known start = record {
-    named = opened_actors (λ actor c. IsNamed actor c.member) start tt tt (λ number plan there.
+    named = opened_actors (λ actor c. IsNamed actor c.member) start (omega arith) (omega arith) (λ number plan there.
         let p : PathState C = waiting_path (path_begins start number plan) start.lines in
         ((let kept : path_of (first_turn {C = C} (path_begins start number plan) start.lines) ≡ number = (first_keeps p).2 in omega (arith, kept)), settled_settled start_of_turn (with_agenda start_of_turn p)));
     holders = record { each = λ s number place held. absurd (true≢false (sym held ∙ none s number place)) };

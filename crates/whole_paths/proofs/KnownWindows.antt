@@ -444,19 +444,19 @@ granted_unshut B six p some none was = by (booking.decision (path_of p) (payload
     by (Err why) is = never_shut (path_of p) (payload_size p.profile) p.b.modes.standby six.send_b some none why is
 
 -- a record that is sent changes nothing of it
-unsent_same : (s : Side) (u : Record) (r : Reply) (p : PathState Carried) → (end_at s (answered_data values s (Some u) r p)).sending.shut ≡ (end_at s p).sending.shut
+pub unsent_same : (s : Side) (u : Record) (r : Reply) (p : PathState Carried) → (end_at s (answered_data values s (Some u) r p)).sending.shut ≡ (end_at s p).sending.shut
 unsent_same A u r p = refl
 unsent_same B u r p = refl
 
 -- the peer's bytes change nothing of it either
-peer_granted : (s : Side) (o : Option Record) (r : Reply) (p : PathState Carried) → (end_at s (answered_data values (peer s) o r p)).sending.shut ≡ (end_at s p).sending.shut
+pub peer_granted : (s : Side) (o : Option Record) (r : Reply) (p : PathState Carried) → (end_at s (answered_data values (peer s) o r p)).sending.shut ≡ (end_at s p).sending.shut
 peer_granted A (Some u) r p = refl
 peer_granted B (Some u) r p = refl
 peer_granted A None r p = elim (grant_in r) as (λ o. (answered_grant B o r p).a.sending.shut ≡ p.a.sending.shut) [ None ↦ refl | Some grant ↦ refl ]
 peer_granted B None r p = elim (grant_in r) as (λ o. (answered_grant A o r p).b.sending.shut ≡ p.b.sending.shut) [ None ↦ refl | Some grant ↦ refl ]
 
 -- no other duty changes it
-abbrev asks_for_bytes : Duty → Bool
+abbrev pub asks_for_bytes : Duty → Bool
 asks_for_bytes (duties.Step (step_duties.Data s)) = true
 asks_for_bytes _ = false
 
@@ -467,14 +467,14 @@ shut_unwritten (duties.Send (send_duties.Syn s)) none = refl
 shut_unwritten (duties.Silent (silent_duties.Timer s)) none = refl
 shut_unwritten _ none = refl
 
-abbrev SameShut : PathState Carried → PathState Carried → Type 0
+abbrev pub SameShut : PathState Carried → PathState Carried → Type 0
 SameShut p q = (s : Side) → (end_at s q).sending.shut ≡ (end_at s p).sending.shut
 
 by_both : (p q : PathState Carried) → (q.a.sending.shut ≡ p.a.sending.shut) × (q.b.sending.shut ≡ p.b.sending.shut) → SameShut p q
 by_both p q both A = both.0
 by_both p q both B = both.1
 
-shut_same : (d : Duty) (r : Reply) (p : PathState Carried) → asks_for_bytes d ≡ false → SameShut p (answered values d r p)
+pub shut_same : (d : Duty) (r : Reply) (p : PathState Carried) → asks_for_bytes d ≡ false → SameShut p (answered values d r p)
 shut_same (duties.Step (step_duties.Data s)) r p other = absurd (true≢false other)
 shut_same (duties.Step step_duties.Events) r p other = by_both p (answered values (duties.Step step_duties.Events) r p) (both_ends (λ e f. f.sending.shut ≡ e.sending.shut) A (writes (duties.Step step_duties.Events)) p (answered values (duties.Step step_duties.Events) r p)
     (λ e f only. unwritten false e.sending.shut f.sending.shut refl (ap (λ (v : EndView). v.shut) only.same))
@@ -490,7 +490,7 @@ shut_passed d p = by_both p (passed d p) (both_ends (λ e f. f.sending.shut ≡ 
     (λ e f only. unwritten (writes d).own.shut e.sending.shut f.sending.shut (shut_unwritten d refl) (ap (λ (v : EndView). v.shut) only.same))
     (λ e f only. unwritten (writes d).other.shut e.sending.shut f.sending.shut refl (ap (λ (v : EndView). v.shut) only.same)) (passes_no_more d p))
 
-shut_last : Lasts {C = Carried} SameShut
+pub shut_last : Lasts {C = Carried} SameShut
 shut_last = record { agenda = λ ds p s. refl; chains = λ p q r x y s. y s ∙ x s; passes = shut_passed }
 
 -- ---- by turns
@@ -763,5 +763,12 @@ module _ (start : Start) (plan : PathPlan) (one : start.paths ≡ plan ∷ []) (
   -- where the turn is over the side may send so far, once its end has its peer's SYN
   pub edge_at : (turns : List Turn) (p : PathState Carried) → IsPathAt 0 (reached values start turns) p → IsAlive p → 2 ≤ stage (end_at s p).tcp.state → p.agenda ≡ [] → least ≤ (written_by s (reached values start turns)).edge
   edge_at turns p here alive met over = ⊎_elim (λ next. absurd (let both = sym over ∙ next.first in cc)) (λ low. low)
+      (((subst (Of (Unshut (books_at turns))) here.is
+      ((each_booked values start (GoesOn start s least small some) goes_so Unshut opened_unshut (λ turns turn steps p q here there on h alive. on (before_at turns p here) alive h) turns).each here.crew here.there)) alive).told met)
+
+  -- and where it asks for bytes
+  pub edge_asks : (turns : List Turn) (p : PathState Carried) → IsPathAt 0 (reached values start turns) p → IsAlive p → 2 ≤ stage (end_at s p).tcp.state → (others : List Duty)
+      → p.agenda ≡ duties.Step (step_duties.Data s) ∷ others → least ≤ (written_by s (reached values start turns)).edge
+  edge_asks turns p here alive met others asks = ⊎_elim (λ next. absurd (let both = sym asks ∙ next.first in cc)) (λ low. low)
       (((subst (Of (Unshut (books_at turns))) here.is
       ((each_booked values start (GoesOn start s least small some) goes_so Unshut opened_unshut (λ turns turn steps p q here there on h alive. on (before_at turns p here) alive h) turns).each here.crew here.there)) alive).told met)

@@ -75,6 +75,7 @@ pub mod Gaps
 pub mod GoesOn
 pub mod GoingOn
 pub mod Halting
+pub mod ShutEnds
 pub mod Harmed
 pub mod Hearing
 pub mod Hears
@@ -172,6 +173,8 @@ pub mod FilesFit
 pub mod AnswersAssure
 pub mod AsksOwed
 pub mod OfferedTaken
+pub mod SoundBooks
+pub mod ToldSince
 pub mod TurnsBegin
 pub mod ToldEdges
 pub mod WindowRounds
@@ -192,6 +195,7 @@ pub mod WellOctets
 pub mod WindowRoom
 pub mod WindowWaits
 pub mod Wanted
+pub mod EdgeStands
 pub mod WindowsHeard
 pub mod Writers
 pub mod Endings
@@ -237,8 +241,13 @@ pub mod ReadSegments
 pub mod EndRounds
 pub mod UnitRounds
 pub mod PatientPaths
+pub mod PatientTexts
 pub mod WindowKinds
 pub mod WindowsHeld
+pub mod CalmWindows
+pub mod BooksRead
+pub mod PathTurns
+pub mod ToldRounds
 pub mod QuietOpenings
 pub mod ShortWaits
 pub mod UnderWay
@@ -290,6 +299,8 @@ pub mod Opened
 pub mod SignPieces
 pub mod EarlyRecords
 pub mod EarlyCopies
+pub mod WrittenAtOnce
+pub mod FewRecords
 pub mod ProbeWaits
 pub mod EachLane
 pub mod WindowStalls
@@ -300,7 +311,14 @@ pub mod Holding
 pub mod GivenBack
 pub mod HolderWaits
 pub mod BookNews
+pub mod ShutKnown
+pub mod Refused
 pub mod PlainQueues
 pub mod QuietTexts
 pub mod FewTexts
 pub mod BriefRuns
+pub mod FirstMissing
+pub mod GrantReasons
+pub mod MissingBytes
+pub mod ReturnWaits
+pub mod CountedCourses

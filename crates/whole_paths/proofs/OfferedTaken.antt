@@ -1,5 +1,5 @@
 -- An end knows of no more than its side's book takes, but for the DATA_FIN, and tells no more.
-use Rattle.std.proofs.Common.{◌≡◌, refl, sym, subst, ◌∙◌, ⊎_elim, ℕ, suc, ◌+◌, ◌-◌, ◌≤◌, arith, Bool, true, false, if◌then◌else◌, Option, Some, None, List, [], ◌∷◌, ◌++◌, take, length}
+use Rattle.std.proofs.Common.{◌≡◌, refl, sym, subst, ◌∙◌, ⊎_elim, ℕ, suc, ◌+◌, ◌-◌, ◌≤◌, arith, Bool, true, false, if◌then◌else◌, Option, Some, None, List, [], ◌∷◌, ◌++◌, take}
 use Rattle.std.proofs.lemmas.Bool.{both_ways}
 use Rattle.std.proofs.lemmas.Option.{same_Some}
 use Rattle.sides.specs.declared.side.Side.{Side}
@@ -7,10 +7,9 @@ use Rattle.sides.specs.declared.side.Side.TheVariants.{A, B}
 use Rattle.sides.specs.Side.{peer}
 use Rattle.reassembly_book.specs.declared.call.ReassemblyCall.{ReassemblyCall}
 use Rattle.reassembly_book.specs.declared.call.ReassemblyReply.{ReassemblyReply}
-use Rattle.reassembly_book.specs.State.{Arriving, IsSound, filled, received}
+use Rattle.reassembly_book.specs.State.{Arriving, filled, received}
 use Rattle.reassembly_book.specs.Steps as arriving
 use Rattle.reassembly_book.specs.Steps.{fin_clash, is_end}
-use Rattle.reassembly_book.proofs.Bounds.{sound-after_call, sound-opened}
 use Rattle.subflow_tcp.specs.States.{is_dead}
 use Rattle.actor_desk.specs.declared.ask.Ask.{Ask}
 use Rattle.actor_desk.specs.declared.ask.Note.{Note}
@@ -47,6 +46,7 @@ use Rattle.whole_paths.proofs.Offered.{Knows, Same, answered_knows, edge_up, fai
 use Rattle.whole_paths.proofs.Offered.{Knows as knows}
 use Rattle.whole_paths.proofs.OpenCourses.{IsFirstPath, each_first}
 use Rattle.whole_paths.proofs.Settling.{sides}
+use Rattle.whole_paths.proofs.SoundBooks.{BooksAreSound, BooksHold, sound_asked, sound_first, sound_holds}
 use Rattle.whole_paths.proofs.ToldEdges.{told_low, what_is_told_goes_on}
 use Rattle.world_laws.specs.declared.member.Member.TheVariants.{Path}
 use Rattle.world_laws.specs.Actors.{ActorCrew}
@@ -129,17 +129,13 @@ knows_modest n s six r e f modest up (knows.asked x) h = (let same = same_offer 
 
 -- ---- a path, as it becomes another one
 
--- what is received lies below the book's edge
-abbrev pub BooksHold : SixBooks → Type 0
-BooksHold six = (s : Side) → received (reassembly_of s six) ≤ arriving.edge (reassembly_of s six)
-
-record Modest (six after : SixBooks) (s : Side) (e f : PathEnd) : Type 0 where
+pub record Modest (six after : SixBooks) (s : Side) (e f : PathEnd) : Type 0 where
   -- the book's edge never falls, nor what the end knows of it
-  up : arriving.edge (reassembly_of s six) ≤ arriving.edge (reassembly_of s after)
-  keeps : (at : ℕ) → at ≤ arriving.edge (reassembly_of s six) → Offers at e → Offers at f
-  modest : BooksHold six → offer e ≤ suc (arriving.edge (reassembly_of s six)) → offer f ≤ suc (arriving.edge (reassembly_of s after))
+  pub up : arriving.edge (reassembly_of s six) ≤ arriving.edge (reassembly_of s after)
+  pub keeps : (at : ℕ) → at ≤ arriving.edge (reassembly_of s six) → Offers at e → Offers at f
+  pub modest : BooksHold six → offer e ≤ suc (arriving.edge (reassembly_of s six)) → offer f ≤ suc (arriving.edge (reassembly_of s after))
 
-abbrev ModestOn : SixBooks → SixBooks → List Note → PathState Carried → PathState Carried → Type 0
+abbrev pub ModestOn : SixBooks → SixBooks → List Note → PathState Carried → PathState Carried → Type 0
 ModestOn six after steps p q = (s : Side) → Modest six after s (end_at s p) (end_at s q)
 
 abbrev AllSame : PathState Carried → PathState Carried → Type 0
@@ -213,39 +209,17 @@ next_modest six steps p over s = same_modest six six s (end_at s p) (end_at s (n
 
 -- ---- the world
 
-sound_asked : (x : Ask) (six : SixBooks) → ((s : Side) → IsSound (reassembly_of s six)) → (s : Side) → IsSound (reassembly_of s (after_ask x six))
-sound_asked (Ask.Reassembly A call) six h A = sound-after_call call six.reassembly_a (h A)
-sound_asked (Ask.Reassembly B call) six h B = sound-after_call call six.reassembly_b (h B)
-sound_asked (Ask.Reassembly A call) six h B = h B
-sound_asked (Ask.Reassembly B call) six h A = h A
-sound_asked (Ask.Send A call) six h s = h s
-sound_asked (Ask.Send B call) six h s = h s
-sound_asked (Ask.Control A call) six h s = h s
-sound_asked (Ask.Control B call) six h s = h s
-sound_asked (Ask.Local step) six h s = h s
-
-filled_few : (places : List (Option ℕ)) → length (filled places) ≤ length places
-filled_few [] = omega arith
-filled_few (None ∷ places) = omega arith
-filled_few (Some byte ∷ places) = (let rest = filled_few places in omega (arith, rest))
-
 books_hold : (start : Start) (turns : List Turn) → BooksHold (books_in (reached values start turns).books)
-books_hold start turns s = low (reassembly_of s (books_in (reached values start turns).books)) (sound_at s)
-  where
-    low : (b : Arriving) → IsSound b → received b ≤ arriving.edge b
-    low b sound = (let fits = sound.fits in let few = filled_few b.places in omega (arith, fits, few))
+books_hold start turns = sound_holds (books_in (reached values start turns).books) (books_by_turns values BooksAreSound sound_asked turns (opened_world start) (sound_first start))
 
-    sound_at : (s : Side) → IsSound (reassembly_of s (books_in (reached values start turns).books))
-    sound_at = books_by_turns values (λ six. (s : Side) → IsSound (reassembly_of s six)) (λ x six h. sound_asked x six h) turns (opened_world start) (elim [ A ↦ sound-opened start.buffer | B ↦ sound-opened start.buffer ])
+pub modest_between : EachPathBetween values ModestOn
+modest_between = paths_between values ModestOn others_modest takes_modest next_modest
 
 module _ (start : Start) (mild : IsMildStart start) where
-  modest_between : EachPathBetween values ModestOn
-  modest_between = paths_between values ModestOn others_modest takes_modest next_modest
-
   abbrev Tells : SixBooks → PathState Carried → Type 0
   Tells six p = (s : Side) → TellsWhatIsTaken six s p
 
-  never_reset : (turns : List Turn) (p : PathState Carried) → IsPathAt 0 (reached values start turns) p → (s : Side) → IsToReset s p.agenda → ⊥
+  pub never_reset : (turns : List Turn) (p : PathState Carried) → IsPathAt 0 (reached values start turns) p → (s : Side) → IsToReset s p.agenda → ⊥
   never_reset turns p here s is = never_resets p (subst (Of IsNeverBroken) here.is ((never_breaks start turns mild).each 2 here.crew here.there) first.first) s is
     where
       first : IsFirstPath start p
@@ -294,8 +268,28 @@ module _ (start : Start) (mild : IsMildStart start) where
         by (told_on.dies dead) = absurd (both_ways (is_dead (end_at s q).tcp.state) living dead)
         by (told_on.breaks is) = absurd (⊎_elim (never_reset turns p here s) (never_reset (turns ++ turn ∷ []) q there s) is)
 
+    -- what is known never falls
+    known_now : is_dead (end_at s q).tcp.state ≡ false → told (end_at s q) ≤ suc (offer (end_at s q))
+    known_now living = by (what_is_told_goes_on start turns turn p q here (subst (λ (w : WorldState Carried). IsPathAt 0 w q) (run_append values turns (turn ∷ []) (opened_world start)) there) s).0
+      where
+        was : told (end_at s p) ≤ suc (offer (end_at s p))
+        was = (h s).known (living_before living)
+
+        stays : told (end_at s q) ≡ told (end_at s p) → told (end_at s q) ≤ suc (offer (end_at s q))
+        stays same =
+            let at : ℕ = told (end_at s p) - 1 in
+            let taken = (h s).told_so (living_before living) in let before = was in
+            let kept = (on s).keeps at (omega (arith, taken)) (omega (arith, before)) in omega (arith, same, kept)
+
+        by : ToldOn s p q → told (end_at s q) ≤ suc (offer (end_at s q))
+        by (told_on.keeps next window tells) = (let low = told_low (end_at s p) (end_at s q) tells in let before = was in omega (arith, low, before, next, window))
+        by (told_on.begins others is same) = stays same
+        by (told_on.asks others is same) = stays same
+        by (told_on.dies dead) = absurd (both_ways (is_dead (end_at s q).tcp.state) living dead)
+        by (told_on.breaks is) = absurd (⊎_elim (never_reset turns p here s) (never_reset (turns ++ turn ∷ []) q there s) is)
+
     tells_on : TellsWhatIsTaken later s q
-    tells_on = record { offered = offered_on; told_so = told_now }
+    tells_on = record { offered = offered_on; told_so = told_now; known = known_now }
 
   opened_tells : OfBooked values start ModestOn modest_between Tells (opened_world start)
   opened_tells = record {
@@ -307,8 +301,8 @@ module _ (start : Start) (mild : IsMildStart start) where
         where
           opened : (s : Side) → SameTold (end_at s (waiting_path {C = Carried} (path_begins start number plan) start.lines)) (end_at s (begins_turn (waiting_path {C = Carried} (path_begins start number plan) start.lines)))
               → TellsWhatIsTaken (books_in (opened_world {C = Carried} start).books) s (begins_turn (waiting_path {C = Carried} (path_begins start number plan) start.lines))
-          opened A x = record { offered = (let next = x.next in let window = x.window in omega (arith, next, window)); told_so = λ living. (let told = x.told in omega (arith, told)) }
-          opened B x = record { offered = (let next = x.next in let window = x.window in omega (arith, next, window)); told_so = λ living. (let told = x.told in omega (arith, told)) }
+          opened A x = record { offered = (let next = x.next in let window = x.window in omega (arith, next, window)); told_so = λ living. (let told = x.told in omega (arith, told)); known = λ living. (let told = x.told in omega (arith, told)) }
+          opened B x = record { offered = (let next = x.next in let window = x.window in omega (arith, next, window)); told_so = λ living. (let told = x.told in omega (arith, told)); known = λ living. (let told = x.told in omega (arith, told)) }
 
   tells_at : (turns : List Turn) (p : PathState Carried) → IsPathAt 0 (reached values start turns) p → Tells (books_in (reached values start turns).books) p
   tells_at turns p here = subst (Of (Tells (books_in (reached values start turns).books))) here.is

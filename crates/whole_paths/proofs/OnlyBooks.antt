@@ -265,7 +265,7 @@ free_first f x ms long = by (f x) refl
     by true is = let short : suc (length ms) ≤ 0 = subst (λ c. suc (length ms) ≤ cond (not c) (1 + position_or_len f ms) 0) is long in absurd (omega (arith, short))
     by false is = let more : suc (length ms) ≤ 1 + position_or_len f ms = subst (λ c. suc (length ms) ≤ cond (not c) (1 + position_or_len f ms) 0) is long in (is, omega (arith, more))
 
-none_free : (f : ByteMark → Bool) (ms : List ByteMark) → length ms ≤ position_or_len f ms → (place : ℕ) (m : ByteMark) → slice_get ms place ≡ Some m → f m ≡ false
+pub none_free : (f : ByteMark → Bool) (ms : List ByteMark) → length ms ≤ position_or_len f ms → (place : ℕ) (m : ByteMark) → slice_get ms place ≡ Some m → f m ≡ false
 none_free f [] long place m there = cc
 none_free f (x ∷ ms) long zero m there = subst (λ (y : ByteMark). f y ≡ false) (same_Some x m there) (free_first f x ms long).0
 none_free f (x ∷ ms) long (suc place) m there = none_free f ms (free_first f x ms long).1 place m there
@@ -279,7 +279,7 @@ pass_first f x ms long = by (f x) refl
         absurd (omega (arith, long, sum_by-cons (λ (y : ByteMark). cond (f y) 1 0) x ms, first, most))
     by true is = let first : cond {A = ℕ} (f x) 1 0 ≡ 1 = ap (λ c. cond {A = ℕ} c 1 0) is in (is, omega (arith, long, sum_by-cons (λ (y : ByteMark). cond (f y) 1 0) x ms, first))
 
-all_pass : (f : ByteMark → Bool) (ms : List ByteMark) → length ms ≤ count_by f ms → (place : ℕ) (m : ByteMark) → slice_get ms place ≡ Some m → f m ≡ true
+pub all_pass : (f : ByteMark → Bool) (ms : List ByteMark) → length ms ≤ count_by f ms → (place : ℕ) (m : ByteMark) → slice_get ms place ≡ Some m → f m ≡ true
 all_pass f [] long place m there = cc
 all_pass f (x ∷ ms) long zero m there = subst (λ (y : ByteMark). f y ≡ true) (same_Some x m there) (pass_first f x ms long).0
 all_pass f (x ∷ ms) long (suc place) m there = all_pass f ms (pass_first f x ms long).1 place m there
@@ -298,7 +298,7 @@ spent_by : (n b : Sending) → IsOf n b → ((place : ℕ) (m : ByteMark) → sl
 spent_by n b h each = spent_below (length n.written) b (let whole = h.ones.whole in let few = h.ones.grown in omega (arith, few, whole)) (λ place m low there. each place m there)
 
 -- none before the first that is free
-before_first : (f : ByteMark → Bool) (ms : List ByteMark) (place : ℕ) (m : ByteMark) → place < position_or_len f ms → slice_get ms place ≡ Some m → f m ≡ false
+pub before_first : (f : ByteMark → Bool) (ms : List ByteMark) (place : ℕ) (m : ByteMark) → place < position_or_len f ms → slice_get ms place ≡ Some m → f m ≡ false
 before_first f [] place m low there = cc
 before_first f (x ∷ ms) zero m low there = subst (λ (y : ByteMark). f y ≡ false) (same_Some x m there) (by (f x) refl)
   where

@@ -21,12 +21,11 @@ use Rattle.path_core.specs.declared.events.Event.TheVariants as happenings
 use Rattle.world_laws.specs.Actors.{Actor, ActorCrew}
 use Rattle.world_laws.specs.declared.member.Member.TheVariants.{App, Path}
 use Rattle.world_laws.specs.Members.{of_kind}
-use Rattle.world_laws.specs.Openings.{Start, opened_world}
+use Rattle.world_laws.specs.Openings.{Start}
 use Rattle.world_laws.specs.RoundDone.{reached}
 use Rattle.world_laws.specs.Worlds.{Turn, WorldState, after_turn}
 use Rattle.whole_paths.specs.Brought.{Comes}
-use Rattle.whole_paths.specs.EarlyCopies.{LosesFew, brings_octets, came_early, came_from, comes_early, counted_by, early_at, expiries_at, has_octets, may_send_at, octets_next}
-use Rattle.whole_paths.specs.Finish.{IsPathAt}
+use Rattle.whole_paths.specs.EarlyCopies.{LosesFew, brings_octets, came_from, comes_early, counted_by, early_at, expiries_at, has_octets, may_send_at, octets_next}
 use Rattle.whole_paths.specs.Mild.{IsMildStart}
 use Rattle.whole_paths.specs.News.{one_if}
 use Rattle.whole_paths.specs.OpenQuietly.{NothingComesEarly, OpensQuietly}

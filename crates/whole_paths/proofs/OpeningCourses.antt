@@ -72,7 +72,7 @@ use Rattle.whole_paths.proofs.SignWaits.{first_signs_are_awaited}
 
 -- ---- states
 
-connected_past : (x : State) → 3 ≤ stage x → is_dead x ≡ false → is_connected x ≡ true
+pub connected_past : (x : State) → 3 ≤ stage x → is_dead x ≡ false → is_connected x ≡ true
 connected_past phase.Waiting high living = absurd (omega (arith, high))
 connected_past phase.Listen high living = absurd (omega (arith, high))
 connected_past phase.SynSent high living = absurd (omega (arith, high))

@@ -32,7 +32,7 @@ use Rattle.world_laws.proofs.Lanes.Showing.{HasFin, IsAtEdge, IsPastFin}
 use Rattle.world_laws.proofs.Worlds.CastLifting.{each_actor}
 use Rattle.world_laws.proofs.Worlds.Casts.{Walker, world_of}
 use Rattle.whole_paths.specs.Mild.{IsMildStart}
-use Rattle.whole_paths.specs.PositionCounts.{CountsBytes, PositionsCountBytes}
+use Rattle.whole_paths.specs.PositionCounts.{CountsBytes, PathsTookWhatTheySent, PositionsCountBytes, TookWhatItSent}
 use Rattle.whole_paths.specs.Received.{HoldsOfOnlyPaths}
 use Rattle.whole_paths.proofs.Acknowledged.{always_shown}
 use Rattle.whole_paths.proofs.PassedPlaces.{BothStand, both_stand}
@@ -78,15 +78,19 @@ item_at (x ∷ xs) (suc n) low = item_at xs n (omega (arith, low))
 
 -- ---- a lane
 
--- behind all that the lane took each byte is free
-free_behind : (v : View) (lane : Lane) → LaneHolds v 0 lane → v.alone ≡ true → (place : ℕ) (mark : ByteMark) → taken_len 0 v.marks ≤ place → slice_get v.marks place ≡ Some mark → is_free_for 0 mark ≡ true
-free_behind v lane holds alone place mark behind there =
-    let taken = spent_taken (length lane.sent) v.marks each_spent in is_free mark ((holds.alone alone).untouched refl place mark (omega (arith, taken, behind)) there)
+-- what was sent is taken
+sent_taken : (v : View) (lane : Lane) → LaneHolds v 0 lane → v.alone ≡ true → length lane.sent ≤ taken_len 0 v.marks
+sent_taken v lane holds alone = spent_taken (length lane.sent) v.marks each_spent
   where
     each_spent : (n : ℕ) → n < length lane.sent → spent 0 (slice_get v.marks n) ≡ true
     each_spent n low =
         let found = item_at lane.sent n low in
         subst (λ m. spent 0 (slice_get v.marks m) ≡ true) ((holds.alone alone).identity.each n n found.0 (omega arith) found.1) (holds.record_of.cells.each n found.0 found.1).spent
+
+-- behind all that the lane took each byte is free
+free_behind : (v : View) (lane : Lane) → LaneHolds v 0 lane → v.alone ≡ true → (place : ℕ) (mark : ByteMark) → taken_len 0 v.marks ≤ place → slice_get v.marks place ≡ Some mark → is_free_for 0 mark ≡ true
+free_behind v lane holds alone place mark behind there =
+    let taken = sent_taken v lane holds alone in is_free mark ((holds.alone alone).untouched refl place mark (omega (arith, taken, behind)) there)
 
 module _ (v : View) (lane : Lane) (holds : LaneHolds v 0 lane) (alone : v.alone ≡ true) (finished : Bool) (nxt heard : ℕ) (granted : List GrantedPiece)
     (shows : SentShows finished nxt heard granted lane.sent lane.fins lane.pair) where
@@ -94,6 +98,9 @@ module _ (v : View) (lane : Lane) (holds : LaneHolds v 0 lane) (alone : v.alone 
   taken_sent =
       let few = taken_most (length lane.sent) v.marks ((holds.alone alone).untouched refl) in
       let next = next_after 0 v finished nxt heard granted lane.sent lane.fins lane.pair shows holds.fins in omega (arith, few, next)
+
+  sent_exactly : finished ≡ false → nxt ≤ suc (taken_len 0 v.marks)
+  sent_exactly none = let next = shows.next none in let all = sent_taken v lane holds alone in omega (arith, next, all)
 
   -- all of it stands in the stream
   sent_within : length lane.sent ≤ length v.written
@@ -186,6 +193,19 @@ module _ (start : Start) (plan : PathPlan) (one : start.paths ≡ plan ∷ []) (
             free = free_behind _ x.ba lane (ap not none);
           }
 
+  path_took : (number : ℕ) (p : PathState Carried) → PathThere start h.lanes_ab h.lanes_ba number p → number ≡ 0 → (s : Side) → TookWhatItSent (world_of h.cast) p s
+  path_took number p path first = subst (λ n. PathThere start h.lanes_ab h.lanes_ba n p → (s : Side) → TookWhatItSent (world_of h.cast) p s) (sym first) by path
+    where
+      by : PathThere start h.lanes_ab h.lanes_ba 0 p → (s : Side) → TookWhatItSent (world_of h.cast) p s
+      by x A = record { all = sent_exactly _ x.ab (holds.ab.lanes.each 0 0 x.ab (omega arith) x.ab_there) (ap not none) _ _ _ _ x.shows.a.sender.sent }
+      by x B = record { all = sent_exactly _ x.ba (holds.ba.lanes.each 0 0 x.ba (omega arith) x.ba_there) (ap not none) _ _ _ _ x.shows.b.sender.sent }
+
+  took : PathsTookWhatTheySent w
+  took = subst PathsTookWhatTheySent (sym h.is) (record {
+    each = each_actor (λ actor c. HoldsOfKind (λ app. Unit {0}) (λ (p : PathState Carried). (s : Side) → TookWhatItSent (world_of h.cast) p s) c.member) h.cast tt tt (λ number x there.
+        (let path = h.paths.each number number x (omega arith) there in path_took number x.path path (only_plan plan number path.plan (ap (λ ps. slice_get ps number) (sym one) ∙ path.plan_there))));
+  })
+
   counts : PositionsCountBytes w
   counts = subst PositionsCountBytes (sym h.is) (record {
     each = each_actor (λ actor c. HoldsOfKind (λ app. Unit {0}) (λ (p : PathState Carried). (s : Side) → CountsBytes (world_of h.cast) p s) c.member) h.cast tt tt (λ number x there.
@@ -217,4 +237,12 @@ positions_count_bytes start turns plan one mild =
     let r = each_run_shows start can turns (free_run can.links (anyhow_free start mild.plain.size) turns (opened_world start)) in
     let ever = any_held can.links.alters can.links.checked (length start.paths) start.buffer start.buffer in
     counts start plan one can.links (after_events r.events (first_duo can.links start)) (world_run values turns (opened_world start)) (ever r.events)
+    (both_stand can.links.alters can.links.checked (length start.paths) start.buffer start.buffer r.events ever) r.shows (nobody_joins start plan one mild turns)
+
+pub paths_took_what_they_sent : HoldsOfOnlyPaths values PathsTookWhatTheySent
+paths_took_what_they_sent start turns plan one mild =
+    let can = anyhow start mild.plain.size in
+    let r = each_run_shows start can turns (free_run can.links (anyhow_free start mild.plain.size) turns (opened_world start)) in
+    let ever = any_held can.links.alters can.links.checked (length start.paths) start.buffer start.buffer in
+    took start plan one can.links (after_events r.events (first_duo can.links start)) (world_run values turns (opened_world start)) (ever r.events)
     (both_stand can.links.alters can.links.checked (length start.paths) start.buffer start.buffer r.events ever) r.shows (nobody_joins start plan one mild turns)

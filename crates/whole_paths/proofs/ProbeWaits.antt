@@ -101,6 +101,7 @@ use Rattle.whole_paths.proofs.RoundSteps.{early, none_comes, silent}
 use Rattle.whole_paths.proofs.Running.{timers_run_on}
 use Rattle.whole_paths.proofs.SegmentRounds.{if_may, unfinished}
 use Rattle.whole_paths.proofs.SentSoon.{what_is_sent_comes_soon}
+use Rattle.whole_paths.proofs.ShutEnds.{shut_until_granted}
 use Rattle.whole_paths.proofs.Timing.{timers_run_out}
 use Rattle.whole_paths.proofs.Waiting.{no_timer_is_put_off}
 use Rattle.whole_paths.proofs.WindowRoom.{each_window_has_room}
@@ -212,12 +213,14 @@ module _ (start : Start) (plan : PathPlan) (one : BeginsWithOnePath start plan) 
     still_none : (IsShutAt s q → Goes) → Goes
     still_none then_so = if_may start plan one Goes later q h.after.here h.after.is_open s (λ all. on.all_there all) (λ may. by (end_at s q).tcp.send.records refl may)
       where
-        of_shut : (end_at s q).tcp.send.records ≡ [] → (b : Bool) → (end_at s q).sending.shut ≡ b → Goes
-        of_shut none true shut = then_so (record { none = none; shut = shut })
-        of_shut none false open_now = on.opens is.shut open_now
+        of_shut : (end_at s q).tcp.send.records ≡ [] → may_finish (end_at s q).tcp.state ≡ true → Goes
+        of_shut none may = ⊎_elim
+            (λ shut. then_so (record { none = none; shut = shut }))
+            (λ more. absurd (omega (arith, more, same)))
+            (shut_until_granted start plan turns turn one.one one.mild p q h.before.here h.after.here s is.shut (unfinished start plan one later q h.after.here s may))
 
         by : (records : List Record) → (end_at s q).tcp.send.records ≡ records → may_finish (end_at s q).tcp.state ≡ true → Goes
-        by [] none may = of_shut none (end_at s q).sending.shut refl
+        by [] none may = of_shut none may
         by (r ∷ others) records may =
             let data_left = of_after start turns turn h HasDataLeft (what_is_left_is_data start later h.mild.plain.size h.mild.fit h.after.here.crew h.after.here.there) s (h.after.is_open.past s) (h.after.is_open.living s)
             (inl (unfinished start plan one later q h.after.here s may)) r others records in

@@ -134,6 +134,7 @@ use Rattle.whole_paths.proofs.SentSoon.{what_is_sent_comes_soon}
 use Rattle.whole_paths.proofs.SentWithin.{SentWithin, all_sent_within}
 use Rattle.whole_paths.proofs.Syns.{apart, each_known}
 use Rattle.whole_paths.proofs.Timing.{answered_ticks, timers_run_out}
+use Rattle.whole_paths.proofs.QuietOpenings.{none_lost_early}
 
 -- ---- the copies that go to B
 
@@ -831,5 +832,4 @@ module _ (start : Start) (plan : PathPlan) (one : BeginsWithOnePath start plan) 
             ∙ subst (λ (u : WorldState Carried). came_from 0 more u ≡ 0) (run_append values before (turn ∷ []) (opened_world start)) rest
 
 pub nothing_comes_early_by_text : NothingComesEarlyByText
-nothing_comes_early_by_text start plan turns one short none few living =
-    let is = some_none start plan one short none [] turns few living in omega (arith, is)
+nothing_comes_early_by_text start plan turns one short none few living = none_lost_early start turns (some_none start plan one short none [] turns few living)

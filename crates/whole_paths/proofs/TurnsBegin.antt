@@ -3,6 +3,7 @@ use Rattle.std.proofs.Common.{◌≡◌, refl, sym, subst, ap, ◌∙◌, ◌⊎
 use Rattle.std.proofs.lemmas.Option.{same_Some}
 use Rattle.sides.specs.declared.side.Side.{Side}
 use Rattle.sides.specs.declared.side.Side.TheVariants.{A, B}
+use Rattle.sides.specs.Side.{peer}
 use Rattle.reassembly_book.specs.declared.call.ReassemblyCall.{ReassemblyCall}
 use Rattle.reassembly_book.specs.Steps as arriving
 use Rattle.actor_desk.specs.declared.ask.Ask.{Ask}
@@ -23,7 +24,17 @@ use Rattle.path_core.specs.Duties.{answered, ask_for, passed, stands}
 use Rattle.path_core.specs.End.{PathEnd}
 use Rattle.path_core.specs.State.{PathState, end_at, with_agenda}
 use Rattle.path_core.specs.Steps.{asks_of, next_round, settled, takes}
+use Rattle.path_core.specs.Start.{waiting_path}
+use Rattle.path_core.specs.Values.{Carried, values}
+use Rattle.actor_desk.specs.Books.{books_in}
+use Rattle.world_laws.specs.Actors.{ActorCrew}
+use Rattle.world_laws.specs.Openings.{Start, opened_world, path_begins}
+use Rattle.world_laws.specs.RoundDone.{reached}
+use Rattle.world_laws.specs.Worlds.{Turn}
 use Rattle.world_laws.specs.Writes.{side_of}
+use Rattle.world_laws.proofs.Rounds.Lifting.{opened_lifted}
+use Rattle.whole_paths.specs.Finish.{IsPathAt}
+use Rattle.whole_paths.proofs.ByTurns.{Of, OfBooked, each_booked}
 use Rattle.world_laws.proofs.Writes.Steps.{Lasts, settled_lasts}
 use Rattle.whole_paths.specs.AgendaSteps.{Follows, Happened, is_of_both, is_silent, is_told, may_break}
 use Rattle.whole_paths.specs.AgendaSteps.{Follows as follow, Happened as happen}
@@ -104,9 +115,20 @@ happened_begun t s e f ds (happen.is_reset reason) = tt
 
 -- ---- a turn of the path
 
-start_begins : (t : Side) → BeginsTurn t start_of_turn
+pub start_begins : (t : Side) → BeginsTurn t start_of_turn
 start_begins A = (refl, refl, (refl, refl, (refl, refl, inl (refl, (refl, (refl, tt))))))
 start_begins B = (refl, refl, (refl, refl, (refl, refl, inr (refl, (refl, inl (refl, (refl, tt)))))))
+
+pub none_is_its_peer : (t : Side) → t ≡ peer t → ⊥
+none_is_its_peer A is = cc
+none_is_its_peer B is = cc
+
+abbrev first_of : Duty → List Duty → Duty
+first_of d [] = d
+first_of d (e ∷ ds) = e
+
+asks_window : (t : Side) (d : Duty) (ds es : List Duty) → d ∷ ds ≡ duties.Ask (ask_duties.Window t) ∷ es → d ≡ duties.Ask (ask_duties.Window t)
+asks_window t d ds es same = ap (first_of d) same
 
 empty : (t : Side) (ds : List Duty) → is_nil ds ≡ true → BeginsTurn t ds → ⊥
 empty t [] over h = h
@@ -137,7 +159,7 @@ module _ {C : Type 0} where
   begins_tail t (duties.Send (send_duties.Update u)) ds p quiet h = h.1
   begins_tail t d ds p quiet h = h.2
 
-  settled_begins : (t : Side) (ds : List Duty) (p : PathState C) → BeginsTurn t ds → BeginsTurn t (settled ds p).agenda
+  pub settled_begins : (t : Side) (ds : List Duty) (p : PathState C) → BeginsTurn t ds → BeginsTurn t (settled ds p).agenda
   settled_begins t [] p h = absurd h
   settled_begins t (d ∷ ds) p h = (elim (stands d p) as (λ b. stands d p ≡ b → BeginsTurn t (if b then with_agenda (d ∷ ds) p else settled ds (passed d p)).agenda) [
     | true ↦ λ is. h
@@ -184,15 +206,26 @@ module _ {C : Type 0} where
     soon_so t (duties.Step step_duties.Events) ds p is h = absurd (true≢false (sym h.0))
     soon_so t d ds p is h = inl (settled_begins t (to d ds p).agenda (to d ds p) (follow_begins t (side_of d) _ d ds _ h.1 h.0 h h.2 (answered_follows k d ds (reply_of six x) p)))
 
+    first_so : (t : Side) (d : Duty) (ds es : List Duty) (p : PathState C) → x ≡ ask_for k d (with_agenda (d ∷ ds) p) → d ∷ ds ≡ duties.Ask (ask_duties.Window t) ∷ es → BeginsTurn t (d ∷ ds)
+        → AsksNow (after_ask x six) t (with_agenda (d ∷ ds) p) (takes k (reply_of six x) (with_agenda (d ∷ ds) p))
+    first_so t d ds es p is same h = subst At (sym (asks_window t d ds es same)) of_window is h
+      where
+        At : Duty → Type 0
+        At d = x ≡ ask_for k d (with_agenda (d ∷ ds) p) → BeginsTurn t (d ∷ ds) → AsksNow (after_ask x six) t (with_agenda (d ∷ ds) p) (takes k (reply_of six x) (with_agenda (d ∷ ds) p))
+
+        of_window : At (duties.Ask (ask_duties.Window t))
+        of_window is h = ⊎_elim (λ own. asks_now t ds p is own.1) (λ away. absurd (none_is_its_peer t away.0)) h
+
     duty_turn : (t : Side) (d : Duty) (ds : List Duty) (p : PathState C) → x ≡ ask_for k d (with_agenda (d ∷ ds) p)
         → TurnBeginsOn (after_ask x six) t (with_agenda (d ∷ ds) p) (takes k (reply_of six x) (with_agenda (d ∷ ds) p))
     duty_turn t d ds p is = record {
       soon = λ h. soon_so t d ds p is h;
       later = λ h. inl (settled_begun t (to d ds p).agenda (to d ds p) (answer_begun k (reply_of six x) t d ds p h));
+      first = λ es same h. inr (first_so t d ds es p is same h);
     }
 
   others_turn : (six : SixBooks) (x : Ask) (steps : List Note) (p : PathState C) → TurnsBeginOn six (after_ask x six) steps p p
-  others_turn six x steps p t = record { soon = λ h. inl h; later = λ h. inl h }
+  others_turn six x steps p t = record { soon = λ h. inl h; later = λ h. inl h; first = λ ds same h. inl refl }
 
   takes_turn : (k : Codec C) (six : SixBooks) (x : Ask) (steps : List Note) (p : PathState C) → asks_of k p ≡ Some x → TellsSteps (reply_of six x) steps
       → TurnsBeginOn six (after_ask x six) steps p (takes k (reply_of six x) p)
@@ -202,11 +235,40 @@ module _ {C : Type 0} where
       by [] asks = others_turn six x steps (with_agenda [] p)
       by (d ∷ ds) asks = λ t. duty_turn k six x t d ds p (sym (same_Some (ask_for k d (with_agenda (d ∷ ds) p)) x asks))
 
+  -- as a turn begins
+  pub begins_anew : (t : Side) (p : PathState C) → BeginsTurn t (next_round p).agenda
+  begins_anew t p = settled_begins t start_of_turn (with_agenda start_of_turn (record p { clock = p.until; until = p.until + 100 })) (start_begins t)
+
   next_turn : (six : SixBooks) (steps : List Note) (p : PathState C) → is_nil p.agenda ≡ true → TurnsBeginOn six six steps p (next_round p)
   next_turn six steps p over t = record {
     soon = λ h. absurd (empty t p.agenda over h);
-    later = λ h. inr (nothing_left p.agenda over, settled_begins t start_of_turn (with_agenda start_of_turn (record p { clock = p.until; until = p.until + 100 })) (start_begins t));
+    later = λ h. inr (nothing_left p.agenda over, begins_anew t p);
+    first = λ ds same h. absurd (empty t p.agenda over h);
   }
 
   pub each_turn_begins : (k : Codec C) → EachTurnBegins k
   each_turn_begins k = paths_between k TurnsBeginOn others_turn (takes_turn k) next_turn
+
+-- ---- at every moment
+
+-- the end has begun its turn, or asks its book soon
+abbrev pub IsAtTurn : List Duty → Type 0
+IsAtTurn ds = (t : Side) → HasBegun t ds ⊎ BeginsTurn t ds
+
+module _ (start : Start) where
+  at_turn_on : (six after : SixBooks) (steps : List Note) (p q : PathState Carried) → TurnsBeginOn six after steps p q → IsAtTurn p.agenda → IsAtTurn q.agenda
+  at_turn_on six after steps p q on h t = ⊎_elim
+      (λ begun. ⊎_elim (λ still. inl still) (λ anew. inr anew.1) ((on t).later begun))
+      (λ soon. ⊎_elim (λ still. inr still) (λ now. inl now.begun) ((on t).soon soon))
+      (h t)
+
+  opened_at_turn : OfBooked values start TurnsBeginOn (each_turn_begins values) (λ six (p : PathState Carried). IsAtTurn p.agenda) (opened_world start)
+  opened_at_turn = record {
+    each = λ c there. (opened_lifted (λ (c : ActorCrew Carried). Of (λ (p : PathState Carried). IsAtTurn p.agenda) c.member) start tt tt
+        (λ number plan at_place t. inr (settled_begins t start_of_turn (with_agenda start_of_turn (waiting_path {C = Carried} (path_begins start number plan) start.lines)) (start_begins t)))).each 2 c there;
+  }
+
+  pub each_is_at_turn : (turns : List Turn) (p : PathState Carried) → IsPathAt 0 (reached values start turns) p → IsAtTurn p.agenda
+  each_is_at_turn turns p here = subst (Of (λ (q : PathState Carried). IsAtTurn q.agenda)) here.is
+      ((each_booked values start TurnsBeginOn (each_turn_begins values) (λ six (p : PathState Carried). IsAtTurn p.agenda) opened_at_turn
+      (λ turns turn steps p q here there on h. at_turn_on (books_in (reached values start turns).books) (books_in (reached values start (turns ++ turn ∷ [])).books) steps p q on h) turns).each here.crew here.there)

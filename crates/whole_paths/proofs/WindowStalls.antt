@@ -62,7 +62,7 @@ nxt_far A p q far = far.a.subflow.pushed
 nxt_far B p q far = far.b.subflow.pushed
 
 module _ (start : Start) (plan : PathPlan) (most : ℕ) (s : Side) (count : List Turn → ℕ) (First : ℕ → List Turn → Type 0) (Holds : List Turn → Type 0) (one : BeginsWithOnePath start plan)
-    (harms : CountsAsMuch start (harmed_so_far values start) count) (well : (turns : List Turn) → First 0 turns → (t : Side) → DirectionIsWell t (reached values start turns)) (meets : MeetsStalls start s count Holds) where
+    (harms : CountsAsMuch start (harmed_so_far values start) count) (well : (turns : List Turn) → First 0 turns → (t : Side) → DirectionIsWell t (reached values start turns)) (meets : MeetsStalls start s Holds) where
   abbrev Well : List Turn → Type 0
   Well = First 0
 
@@ -142,7 +142,6 @@ module _ (start : Start) (plan : PathPlan) (most : ℕ) (s : Side) (count : List
         of_probe : ProbeGoesOn s start turns turn p q by (until later) → Goes x
         of_probe (probing.goes more) = then_stalls edge x r (λ still. stall.probes by late q after.here more still)
         of_probe (probing.owed due) = inr (inl (meets.owed later after due))
-        of_probe (probing.opens shut open_now) = ⊎_elim (λ rises. inl rises) (λ holds. inr (inl holds)) (meets.opens turns turn open_turn shut open_now)
         of_probe (probing.sends more) = then_stalls edge x r (λ still. stall.fresh still
             (inl (record { path = q; here = after.here; more = (let sent = was_sent in let is = at_p edge r in omega (arith, more, sent, is)) })) (let bound = low in omega (arith, bound, late)))
         of_probe (probing.harmed harmed) = inl (by_harm harmed)

@@ -28,7 +28,7 @@ windows_are_mended_so Also Holds hold = record {
       (let harms : CountsAsMuch start (harmed_so_far values start) count = counts_through start (harmed_so_far values start) (with_events start ((λ turns. true) ∷ [])) count
       (record { covers = λ turns. omega arith; rises = λ turns turn h. omega arith }) counts in
       let stalls : StallsAreWaitedFor start plan most s count (OwesDirections start) (Holds start s) =
-      stalls_are_mended start plan most s count (OwesDirections start) (Holds start s) one harms (both_well start plan one) (hold.meets start plan s count one also counts) in
+      stalls_are_mended start plan most s count (OwesDirections start) (Holds start s) one harms (both_well start plan one) (hold.meets start plan s one also) in
       record {
         opens = λ turns h. inr (let some = counts.covers turns in omega (arith, some));
         stays = hold.stays start plan s count one also counts;

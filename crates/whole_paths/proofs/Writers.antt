@@ -119,7 +119,7 @@ either_buffer : (c : Bool) (x y : Sending) (n : ℕ) → x.buffer ≡ n → y.bu
 either_buffer true x y n first second = first
 either_buffer false x y n first second = second
 
-buffer_after : (b : Sending) (call : SendCall) → (after_call b call).buffer ≡ b.buffer
+pub buffer_after : (b : Sending) (call : SendCall) → (after_call b call).buffer ≡ b.buffer
 buffer_after b (calls.Write bytes) = either_buffer (b.closed || b.aborted) b _ b.buffer refl refl
 buffer_after b calls.Close = either_buffer b.aborted b _ b.buffer refl refl
 buffer_after b (calls.Grant asker max stands) = elim (decision asker max stands b) as (λ r. (given_by asker r b).buffer ≡ b.buffer) [ Err why ↦ refl | Ok span ↦ refl ]
@@ -144,7 +144,7 @@ stopped_after b (calls.GoInfinite asker) is = either_stopped (is_gathered asker 
 stopped_after b calls.Abort is = refl
 
 -- its own book after a duty
-abbrev own_after : AppDuty → AppState → Sending → Sending
+abbrev pub own_after : AppDuty → AppState → Sending → Sending
 own_after app_duties.Write a b = after_call b (calls.Write (offered a))
 own_after app_duties.AbortSend a b = after_call b calls.Abort
 own_after app_duties.Close a b = after_call b calls.Close
@@ -491,22 +491,22 @@ changed_by (asks.Control t x) six A = stays_so
 changed_by (asks.Control t x) six B = stays_so
 changed_by (asks.Local step) six s = stays_so
 
-own_a : (d : AppDuty) (a : AppState) (six : SixBooks) → a.side ≡ A → (after_ask (app_ask d a) six).send_a ≡ own_after d a six.send_a
+pub own_a : (d : AppDuty) (a : AppState) (six : SixBooks) → a.side ≡ A → (after_ask (app_ask d a) six).send_a ≡ own_after d a six.send_a
 own_a app_duties.AbortSend a six is = ap (λ s. (after_send_call s calls.Abort six).send_a) is
 own_a app_duties.Write a six is = ap (λ s. (after_send_call s (calls.Write (offered a)) six).send_a) is
 own_a app_duties.Close a six is = ap (λ s. (after_send_call s calls.Close six).send_a) is
 own_a _ a six is = refl
 
-own_b : (d : AppDuty) (a : AppState) (six : SixBooks) → a.side ≡ B → (after_ask (app_ask d a) six).send_b ≡ own_after d a six.send_b
+pub own_b : (d : AppDuty) (a : AppState) (six : SixBooks) → a.side ≡ B → (after_ask (app_ask d a) six).send_b ≡ own_after d a six.send_b
 own_b app_duties.AbortSend a six is = ap (λ s. (after_send_call s calls.Abort six).send_b) is
 own_b app_duties.Write a six is = ap (λ s. (after_send_call s (calls.Write (offered a)) six).send_b) is
 own_b app_duties.Close a six is = ap (λ s. (after_send_call s calls.Close six).send_b) is
 own_b _ a six is = refl
 
-told_a : (d : AppDuty) (a : AppState) (six : SixBooks) → a.side ≡ A → d ≡ app_duties.Write → reply_of six (app_ask d a) ≡ replies.Send (write_reply (offered a) six.send_a)
+pub told_a : (d : AppDuty) (a : AppState) (six : SixBooks) → a.side ≡ A → d ≡ app_duties.Write → reply_of six (app_ask d a) ≡ replies.Send (write_reply (offered a) six.send_a)
 told_a d a six is same = ap (λ e. reply_of six (app_ask e a)) same ∙ ap (λ s. reply_of six (asks.Send s (calls.Write (offered a)))) is
 
-told_b : (d : AppDuty) (a : AppState) (six : SixBooks) → a.side ≡ B → d ≡ app_duties.Write → reply_of six (app_ask d a) ≡ replies.Send (write_reply (offered a) six.send_b)
+pub told_b : (d : AppDuty) (a : AppState) (six : SixBooks) → a.side ≡ B → d ≡ app_duties.Write → reply_of six (app_ask d a) ≡ replies.Send (write_reply (offered a) six.send_b)
 told_b d a six is same = ap (λ e. reply_of six (app_ask e a)) same ∙ ap (λ s. reply_of six (asks.Send s (calls.Write (offered a)))) is
 
 -- the first duty of an application comes to something

@@ -38,6 +38,11 @@ module _ {C : Type 0} (k : Codec C) where
   EachByteCounts = (start : Start) (before more : List Turn) → let w = reached k start before in let v = world_run k more w in (s : Side) (path place : ℕ) → path < length start.paths
       → is_free path (slice_get (written_by s w).marks place) ≡ true → is_free path (slice_get (written_by s v).marks place) ≡ false → book_news start s w < book_news start s v
 
+  -- or where a path of the connection gave back more
+  abbrev pub WhatIsGivenBackCounts : Type 0
+  WhatIsGivenBackCounts = (start : Start) (before more : List Turn) → let w = reached k start before in let v = world_run k more w in (s : Side) (path : ℕ) → path < length start.paths
+      → given_back path (written_by s w).marks < given_back path (written_by s v).marks → book_news start s w < book_news start s v
+
 -- it is no more than the side's file has bytes, once, and twice for each path
 abbrev pub BookNewsIsBounded : Type 0
 BookNewsIsBounded = (start : Start) (turns : List Turn) → HasRoom start → (s : Side)

@@ -1,5 +1,5 @@
 -- A side that halts at the edge of its peer's window does so until the window opens or more is heard (RFC 9293, section 3.8.6.1).
-use Rattle.std.specs.Prelude.{◌≡◌, ◌<◌, true, Some, List, [], ◌∷◌, length, slice_get}
+use Rattle.std.specs.Prelude.{◌≡◌, ◌<◌, ◌⊎◌, true, false, Some, List, [], ◌∷◌, ◌++◌, length, slice_get}
 use Rattle.sides.specs.declared.side.Side.{Side}
 use Rattle.send_book.specs.State.{acked_len}
 use Rattle.actor_desk.specs.Books.{books_in}
@@ -12,6 +12,7 @@ use Rattle.world_laws.specs.Openings.{PathPlan, Start}
 use Rattle.world_laws.specs.RoundDone.{reached}
 use Rattle.world_laws.specs.Worlds.{Turn, after_turn}
 use Rattle.whole_paths.specs.Acknowledged.{AllIsAcknowledged}
+use Rattle.whole_paths.specs.Finish.{IsPathAt}
 use Rattle.whole_paths.specs.Mild.{IsMildStart}
 use Rattle.whole_paths.specs.Waits.{IsNews}
 
@@ -41,3 +42,13 @@ WhoHaltsGoesOnHalting = (start : Start) (plan : PathPlan) (turns : List Turn) (t
     → let w = reached values start turns in let v = after_turn values turn w in
     (c : ActorCrew Carried) → slice_get w.crew 2 ≡ Some c → (d : ActorCrew Carried) × (slice_get v.crew 2 ≡ Some d)
     × HaltsGoOn (books_in w.books) (books_in v.books) c.member d.member
+
+-- ---- where nothing is said of what is acknowledged
+
+-- By any turn of the only path a window that is shut stays so until bytes are granted, unless the end sends its FIN: what is left to be granted is
+-- granted to nobody else.
+abbrev pub ShutUntilGranted : Type 0
+ShutUntilGranted = (start : Start) (plan : PathPlan) (turns : List Turn) (turn : Turn) → start.paths ≡ plan ∷ [] → IsMildStart start
+    → (p q : PathState Carried) → IsPathAt 0 (reached values start turns) p → IsPathAt 0 (reached values start (turns ++ turn ∷ [])) q → (s : Side)
+    → (end_at s p).sending.shut ≡ true → (end_at s q).tcp.send.finished ≡ false
+    → ((end_at s q).sending.shut ≡ true) ⊎ ((end_at s p).tcp.send.nxt < (end_at s q).tcp.send.nxt)

@@ -18,6 +18,8 @@ use Rattle.whole_paths.specs.ToldEdges.{offer, told}
 pub record TellsWhatIsTaken (six : SixBooks) (s : Side) (p : PathState Carried) : Type 0 where
   pub offered : offer (end_at s p) ≤ suc (arriving.edge (reassembly_of s six))
   pub told_so : is_dead (end_at s p).tcp.state ≡ false → told (end_at s p) ≤ suc (arriving.edge (reassembly_of s six))
+  -- nor more than it knows of
+  pub known : is_dead (end_at s p).tcp.state ≡ false → told (end_at s p) ≤ suc (offer (end_at s p))
 
 -- so it is on path 0 of a mild connection, always
 abbrev pub WhatIsToldIsTaken : Type 0

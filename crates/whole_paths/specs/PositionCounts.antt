@@ -31,3 +31,11 @@ module _ {C : Type 0} where
   pub record PositionsCountBytes (w : WorldState C) : Type 0 where
     pub each : (actor : ℕ) (c : ActorCrew C) → slice_get w.crew actor ≡ Some c
         → HoldsOfKind (λ app. Unit {0}) (λ (p : PathState C). (s : Side) → CountsBytes w p s) c.member
+
+  -- and as long as no FIN was sent SND.NXT lies just behind the bytes that the path took
+  pub record TookWhatItSent (w : WorldState C) (p : PathState C) (s : Side) : Type 0 where
+    pub all : (end_at s p).tcp.send.finished ≡ false → (end_at s p).tcp.send.nxt ≤ suc (taken_len 0 (written_by s w).marks)
+
+  pub record PathsTookWhatTheySent (w : WorldState C) : Type 0 where
+    pub each : (actor : ℕ) (c : ActorCrew C) → slice_get w.crew actor ≡ Some c
+        → HoldsOfKind (λ app. Unit {0}) (λ (p : PathState C). (s : Side) → TookWhatItSent w p s) c.member

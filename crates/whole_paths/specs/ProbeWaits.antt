@@ -1,6 +1,6 @@
 -- How an end whose peer's window is shut hears of the window again: its timer runs out, it probes, and the peer owes an answer (RFC 9293, section
 -- 3.8.6.1; RFC 6298, section 5).
-use Rattle.std.specs.Prelude.{ℕ, suc, ◌+◌, ◌≡◌, ◌<◌, ◌≤◌, ◌⊎◌, true, false, List, [], ◌∷◌, ◌++◌}
+use Rattle.std.specs.Prelude.{ℕ, suc, ◌+◌, ◌≡◌, ◌<◌, ◌≤◌, ◌⊎◌, true, List, [], ◌∷◌, ◌++◌}
 use Rattle.sides.specs.declared.side.Side.{Side}
 use Rattle.sides.specs.Side.{peer}
 use Rattle.link_model.specs.declared.flight.Flight.{Flight}
@@ -56,8 +56,7 @@ module _ (s : Side) where
     goes : ProbeGoesBy x until q → ProbeGoesOn start turns turn p q x until
     -- the peer owes an acknowledgement
     owed : (end_at (peer s) q).tcp.due.ack ≡ true → ProbeGoesOn start turns turn p q x until
-    -- the window opens, or the end sends more: SND.NXT rises
-    opens : (end_at s p).sending.shut ≡ true → (end_at s q).sending.shut ≡ false → ProbeGoesOn start turns turn p q x until
+    -- the end sends more, since the window opens: SND.NXT rises
     sends : (end_at s p).tcp.send.nxt < (end_at s q).tcp.send.nxt → ProbeGoesOn start turns turn p q x until
     harmed : is_harmed s p q ≡ true → ProbeGoesOn start turns turn p q x until
     all_there : IsAllThere s (reached values start (turns ++ turn ∷ [])) → ProbeGoesOn start turns turn p q x until

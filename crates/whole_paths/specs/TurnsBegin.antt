@@ -46,6 +46,8 @@ module _ {C : Type 0} where
   pub record TurnBeginsOn (six : SixBooks) (t : Side) (p q : PathState C) : Type 0 where
     pub soon : BeginsTurn t p.agenda → BeginsTurn t q.agenda ⊎ AsksNow six t p q
     pub later : HasBegun t p.agenda → HasBegun t q.agenda ⊎ ((p.agenda ≡ []) × BeginsTurn t q.agenda)
+    -- where it asks first the path stays as it is, or it asks now
+    pub first : (ds : List Duty) → p.agenda ≡ duties.Ask (ask_duties.Window t) ∷ ds → BeginsTurn t p.agenda → (q ≡ p) ⊎ AsksNow six t p q
 
   abbrev pub TurnsBeginOn : SixBooks → SixBooks → List Note → PathState C → PathState C → Type 0
   TurnsBeginOn six after steps p q = (t : Side) → TurnBeginsOn after t p q

@@ -1,6 +1,6 @@
 -- How long a side stalls whose peer's side waits for more of its stream, where each end is told soon how far its peer is: six rounds, until its end
 -- knows that the window is shut; then until its timer runs out, and what it asks so comes (RFC 9293, sections 3.8.6 and 3.8.6.1).
-use Rattle.std.specs.Prelude.{ℕ, ◌+◌, ◌≡◌, ◌<◌, ◌≤◌, ◌⊎◌, true, false, List, [], ◌∷◌, ◌++◌, length}
+use Rattle.std.specs.Prelude.{ℕ, ◌+◌, ◌≡◌, ◌<◌, ◌≤◌, ◌⊎◌, true, List, length}
 use Rattle.sides.specs.declared.side.Side.{Side}
 use Rattle.sides.specs.Side.{peer}
 use Rattle.actor_desk.specs.Words.{pick}
@@ -16,7 +16,6 @@ use Rattle.whole_paths.specs.Debts.{Beginning, Stepping}
 use Rattle.whole_paths.specs.Delivery.{IsAllThere}
 use Rattle.whole_paths.specs.Directions.{DirectionIsWell}
 use Rattle.whole_paths.specs.Finish.{IsPathAt}
-use Rattle.whole_paths.specs.Mending.{IsOpenTurn}
 use Rattle.whole_paths.specs.OnePathScripts.{BeginsWithOnePath}
 use Rattle.whole_paths.specs.OpenCourses.{IsOpenAfter}
 use Rattle.whole_paths.specs.ProbeWaits.{ProbeGoesBy}
@@ -58,15 +57,12 @@ module _ (start : Start) (s : Side) where
       pub edge : ℕ
       pub goes : StallGoes edge x turns
 
-  -- This holds where the peer owes an answer, all of the file lies before the edge of the window, or all of the stream is there; and as the end
-  -- knows no longer that the window is shut, unless more is counted.
-  pub record MeetsStalls (count : List Turn → ℕ) (Holds : List Turn → Type 0) : Type 0 where
+  -- This holds where the peer owes an answer, all of the file lies before the edge of the window, or all of the stream is there.
+  pub record MeetsStalls (Holds : List Turn → Type 0) : Type 0 where
     pub owed : (turns : List Turn) (h : IsOpenAfter start turns) → (end_at (peer s) h.path).tcp.due.ack ≡ true → Holds turns
     pub fits : (turns : List Turn) → IsOpenAfter start turns
         → length (pick s start.file_a start.file_b) ≤ (written_by s (reached values start turns)).edge → Holds turns
     pub there : (turns : List Turn) → IsOpenAfter start turns → IsAllThere s (reached values start turns) → Holds turns
-    pub opens : (turns : List Turn) (turn : Turn) (h : IsOpenTurn start turns turn) → (end_at s h.before.path).sending.shut ≡ true
-        → (end_at s h.after.path).sending.shut ≡ false → (count turns < count (turns ++ turn ∷ [])) ⊎ Holds (turns ++ turn ∷ [])
 
 -- Then the waits of such a kind of debt, mended where nothing is owed of a first kind: each within 64,000 ticks.
 pub record StallsAreWaitedFor (start : Start) (plan : PathPlan) (most : ℕ) (s : Side) (count : List Turn → ℕ) (First : ℕ → List Turn → Type 0)
@@ -83,5 +79,5 @@ pub record StallsAreWaitedFor (start : Start) (plan : PathPlan) (most : ℕ) (s 
 abbrev pub StallsAreMended : Type 1
 StallsAreMended = (start : Start) (plan : PathPlan) (most : ℕ) (s : Side) (count : List Turn → ℕ) (First : ℕ → List Turn → Type 0)
     (Holds : List Turn → Type 0) → BeginsWithOnePath start plan → CountsAsMuch start (harmed_so_far values start) count
-    → ((turns : List Turn) → First 0 turns → (t : Side) → DirectionIsWell t (reached values start turns)) → MeetsStalls start s count Holds
+    → ((turns : List Turn) → First 0 turns → (t : Side) → DirectionIsWell t (reached values start turns)) → MeetsStalls start s Holds
     → StallsAreWaitedFor start plan most s count First Holds

@@ -28,8 +28,7 @@ module _ (Also : Start → PathPlan → Type 0) (Holds : Start → Side → List
     pub stays : (start : Start) (plan : PathPlan) (s : Side) (count : List Turn → ℕ) → BeginsWithOnePath start plan → Also start plan
         → CountsAsMuch start (with_events start ((λ turns. true) ∷ [])) count → (turns : List Turn) (turn : Turn) → IsBegunTurn start turns turn
         → Holds start s turns → (count turns < count (turns ++ turn ∷ [])) ⊎ Holds start s (turns ++ turn ∷ [])
-    pub meets : (start : Start) (plan : PathPlan) (s : Side) (count : List Turn → ℕ) → BeginsWithOnePath start plan → Also start plan
-        → CountsAsMuch start (with_events start ((λ turns. true) ∷ [])) count → MeetsStalls start s count (Holds start s)
+    pub meets : (start : Start) (plan : PathPlan) (s : Side) → BeginsWithOnePath start plan → Also start plan → MeetsStalls start s (Holds start s)
     pub heard : (start : Start) (plan : PathPlan) (s : Side) (v u : List Turn) → BeginsWithOnePath start plan → Also start plan
         → WellRounds start (WindowsStand Also Holds StallsOf start) 6 v u → IsAllThere s (reached values start u)
         ⊎ (min (length (pick s start.file_a start.file_b)) (read_after start s v + (plan.mss - 28)) ≤ (written_by s (reached values start u)).edge)

@@ -3,10 +3,15 @@ ghost use Rattle.path_core.specs.Octets.{octets};
 ghost use Rattle.path_core.specs.Values.{values};
 ghost use Rattle.world_laws.specs.Laws.{Always};
 ghost use Rattle.world_laws.specs.Promises.{HoldsAnyway, HoldsAnywayOfOctets};
-ghost use Rattle.whole_paths.specs.BookNews.{BookNewsIsBounded, BookNewsNeverFalls, EachByteCounts};
+ghost use Rattle.whole_paths.specs.BookNews.{BookNewsIsBounded, BookNewsNeverFalls, EachByteCounts, WhatIsGivenBackCounts};
+ghost use Rattle.whole_paths.specs.CountedCourses.{PathsAreCounted};
+ghost use Rattle.whole_paths.specs.FirstMissing.{EachMissingByteIsHeld};
 ghost use Rattle.whole_paths.specs.GivenBack.{EachReturnCounts, GivenBackIsBounded, GivenBackNeverFalls};
 ghost use Rattle.whole_paths.specs.HolderWaits.{HoldersLetGo};
 ghost use Rattle.whole_paths.specs.Holders.{HoldersLive, WhatIsTriedIsAwaited};
+ghost use Rattle.whole_paths.specs.MissingBytes.{WhatIsMissingIsAwaited};
+ghost use Rattle.whole_paths.specs.Refusals.{WhoAsksIsRefused};
+ghost use Rattle.whole_paths.specs.ReturnWaits.{AllNewsIsBounded, ReturnsAreAwaitedAlways};
 
 /// A law: a byte that a path tried and that isn't acknowledged stands in a piece that the path's end waits for, whatever the links do, over any number of
 /// paths (RFC 8684, section 3.3.6).
@@ -50,11 +55,60 @@ pub fn holders_let_go()
 /// A law: how far the bytes of a side's stream are, as one number, never falls by any turns, and is bounded by the side's file and the number of paths.
 ///
 /// Each byte counts as it is acknowledged, and for each path as that tries it, and as it lets it go. So the number rises where a byte that a path might
-/// have taken is acknowledged, or granted to it or to another path (`rises`).
+/// have taken is acknowledged, or granted to it or to another path (`rises`), and where a path gives back a byte (`returns`).
 pub fn each_byte_counts()
     ensures octets { BookNewsNeverFalls octets }
     ensures values { BookNewsNeverFalls values }
     ensures rises_octets { EachByteCounts octets }
     ensures rises { EachByteCounts values }
+    ensures returns_octets { WhatIsGivenBackCounts octets }
+    ensures returns { WhatIsGivenBackCounts values }
     ensures bounded { BookNewsIsBounded }
+{}
+
+/// A law: in each round, in whatever order the actors go, where a path's turn is over, an end that may ask for bytes, with room in its window for a full
+/// segment, was granted what it might have taken as the round began, as far as the window reaches (RFC 8684, sections 3.3.5 and 3.3.8).
+///
+/// Of each byte that was free for the path as the round began: something became of it, or of another byte of the stream (`each_byte_counts`); or the byte
+/// isn't before the edge of the window as the round began, and the end knows that the window is shut; or the path was on standby when it asked last. It is
+/// said of a side that isn't stopped, and whose stream isn't given to one path alone.
+pub fn who_asks_is_refused()
+    ensures octets { WhoAsksIsRefused octets }
+    ensures values { WhoAsksIsRefused values }
+{}
+
+/// A law: where all turns of a round are over, a byte that isn't acknowledged is held, or may be taken, whichever path is asked (RFC 8684, section 3.3.6).
+///
+/// The path tried the byte, so that a piece that its end waits for has it; or another path holds it, and gives it back within a minute
+/// (`holders_let_go`); or the path may take it. So it is over any number of paths, whatever the links do.
+pub fn each_missing_byte_is_held()
+    ensures { EachMissingByteIsHeld }
+{}
+
+/// A law: as a round of a mild connection is over, a byte that was written as it began and isn't acknowledged is waited for, whichever path is asked that
+/// may ask for bytes (RFC 8684, sections 3.3.5, 3.3.6 and 3.3.8).
+///
+/// The path's end waits for a piece that has the byte; or another path holds it, and gives it back within a minute (`holders_let_go`); or the end knows that
+/// the window is shut, which didn't reach past the byte as the round began; or something became of a byte of the stream in the round
+/// (`each_byte_counts`). Or the path was on standby when it asked last.
+pub fn what_is_missing_is_awaited()
+    ensures { WhatIsMissingIsAwaited }
+{}
+
+/// A law: how far a connection over any number of paths is, as one number, never falls, and is bounded by files, buffers, paths and lines; and a wait for
+/// a byte that another path holds ends with news.
+///
+/// The number is that of `news_never_falls` and, of both streams, that of `each_byte_counts` (`bounded`). A byte that a path holds is waited for, for a
+/// minute from the round's end on; by any turn the wait goes on, or the number rises; and no round whose turns are over ends past its tick (`awaited`).
+pub fn returns_are_awaited_always()
+    ensures bounded { AllNewsIsBounded }
+    ensures awaited { ReturnsAreAwaitedAlways }
+{}
+
+/// A law: how far a connection over any number of paths is, with the harmed segments of one path, never falls, and is bounded by what is harmed.
+///
+/// So a connection in which something is waited for as each round begins, for so long, and in which what is waited for is counted, is over after rounds
+/// enough for all that can be counted.
+pub fn paths_are_counted()
+    ensures { PathsAreCounted }
 {}

@@ -363,7 +363,8 @@ pub fn each_segment_has_a_data_ack()
 /// A law: on the only path of a connection each Data ACK is up to date: the end knows the place that its reassembly book wants next, where it
 /// sends a segment that is no reset, where the turn is over, and where an event is next (RFC 8684, section 3.3.2).
 ///
-/// What came in order is acknowledged by the next segment that the end sends (`each_segment_has_a_data_ack`), bytes and DATA_FIN.
+/// What came in order is acknowledged by the next segment that the end sends (`each_segment_has_a_data_ack`), bytes and DATA_FIN. Its window is what the
+/// book took of its buffer as the end asked it last; since then nothing was read, or all that came, or 65,536 bytes and more.
 pub fn each_data_ack_is_up_to_date()
     ensures octets { Always octets OnlyPathsAreUpToDate }
     ensures values { Always values OnlyPathsAreUpToDate }

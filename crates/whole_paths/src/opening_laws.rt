@@ -5,12 +5,14 @@ ghost use Rattle.path_core.specs.Octets.{octets};
 ghost use Rattle.path_core.specs.Values.{values};
 ghost use Rattle.whole_paths.specs.EarlyCopies.{OpensLosingFew, came_early};
 ghost use Rattle.whole_paths.specs.EarlyRecords.{EarlyNeverFalls, EarlyOverOctets, OpensOwingRecords};
+ghost use Rattle.whole_paths.specs.FewRecords.{OpensOwingSegments, RecordsAreFull};
 ghost use Rattle.whole_paths.specs.FirstPiecesSoon.{EachFirstPieceComesSoon};
 ghost use Rattle.whole_paths.specs.OnePathScripts.{NeverFalls};
 ghost use Rattle.whole_paths.specs.QuietOpenings.{OpensOwingFew, lost_early};
 ghost use Rattle.whole_paths.specs.QuietTexts.{NothingComesEarlyByText};
 ghost use Rattle.whole_paths.specs.SignPieces.{EachSignPieceComes};
 ghost use Rattle.whole_paths.specs.SynsSoon.{EachSynComesSoon};
+ghost use Rattle.whole_paths.specs.WrittenAtOnce.{WhatFitsIsWrittenAtOnce};
 
 /// A law: a SYN that an end sends as it opens is harmed, or comes within 400 ticks (RFC 9293, section 3.5).
 ///
@@ -67,13 +69,32 @@ pub fn paths_open_owing_records()
 /// send a DSS (RFC 8684, section 3.1).
 ///
 /// B's end has no key of A's then, and drops their payload. Until it has, each record of A's that was sent is under way, or was harmed, or a copy
-/// of it came (`loses`; `count`: how many came never falls). So no more is owed along either direction than that, nor more than A's end has records
-/// besides what was harmed (`owes`; `fewer`: that never falls).
+/// of it came (`loses`; `count`: how many came never falls; where A's timer runs out one of those before counts at most). So no more is owed along
+/// either direction than that; nor more, besides what was harmed, than A's end has records, or than A's file has full segments where that fits the
+/// first window (`owes`; `fewer`: that never falls).
 pub fn paths_open_owing_few()
     ensures loses { OpensLosingFew }
     ensures count { NeverFalls came_early }
     ensures owes { OpensOwingFew }
     ensures fewer { NeverFalls lost_early }
+{}
+
+/// A law: an application writes a file at once that fits what its side buffers.
+///
+/// At every moment nothing of it is written, or all: as the first write comes nothing waits to be acknowledged, and a later one has nothing left.
+pub fn what_fits_is_written_at_once()
+    ensures values { WhatFitsIsWrittenAtOnce values }
+    ensures octets { WhatFitsIsWrittenAtOnce octets }
+{}
+
+/// A law: on the only path of a mild connection each record of an end holds a full segment's payload, where its side's file fits the first window,
+/// but for the SYN, and one that reaches past all of the file.
+///
+/// So it is as long as both ends live and the end sent no FIN (`full`). As the path opens nothing of A's file is acknowledged: so no more is owed
+/// along A's direction than that has full segments, and perhaps a shorter one (`owing`).
+pub fn records_are_full()
+    ensures full { RecordsAreFull }
+    ensures owing { OpensOwingSegments }
 {}
 
 /// A law: where no line of the script moves a segment of A's, none with octets comes to B's end before that may send a DSS, over the only path of a

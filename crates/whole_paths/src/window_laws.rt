@@ -5,6 +5,7 @@ ghost use Rattle.whole_paths.specs.FilesFit.{FittingFilesAreNeverShut};
 ghost use Rattle.whole_paths.specs.OfferedTaken.{WhatIsToldIsTaken};
 ghost use Rattle.whole_paths.specs.ProbeWaits.{ProbesAreAwaitedAlways, ProbesGoAgain};
 ghost use Rattle.whole_paths.specs.ToldEdges.{WhatIsToldGoesOn};
+ghost use Rattle.whole_paths.specs.ToldSince.{WhatIsOwedIsAlwaysTold};
 ghost use Rattle.path_core.specs.Octets.{octets};
 ghost use Rattle.path_core.specs.Values.{values};
 ghost use Rattle.whole_paths.specs.TurnsBegin.{EachTurnBegins};
@@ -61,7 +62,8 @@ pub fn who_asks_owes()
 /// A law: an end never tells its peer to send more than its side's reassembly book takes, but for the DATA_FIN (RFC 9293, section 3.8.6; RFC 8684, section
 /// 3.3.5).
 ///
-/// So it is on path 0 of a mild connection: of what the end knows, always, and of the edge that it told last, as long as it lives.
+/// So it is on path 0 of a mild connection: of what the end knows, always, and of the edge that it told last, as long as it lives; nor did it tell more
+/// than it knows.
 pub fn what_is_told_is_taken()
     ensures { WhatIsToldIsTaken }
 {}
@@ -70,7 +72,7 @@ pub fn what_is_told_is_taken()
 /// a window that has grown (RFC 9293, section 3.8.6).
 ///
 /// So it is by any turn. As the end asks, it knows then all that the book takes (`what_is_taken_is_offered`), and an Update comes next. It asks no more so
-/// until the path's turn is over and the next one begins.
+/// until the path's turn is over and the next one begins; where it is to ask first it asks, unless the path stays as it is.
 pub fn each_turn_asks_its_window()
     ensures octets { EachTurnBegins octets }
     ensures values { EachTurnBegins values }
@@ -84,4 +86,14 @@ pub fn each_turn_asks_its_window()
 pub fn probes_go_again()
     ensures again { ProbesGoAgain }
     ensures awaited { ProbesAreAwaitedAlways }
+{}
+
+/// A law: since an end owed its peer an answer, and no segment of the path was harmed, its window is told: a round later the peer may send a full
+/// segment's payload past what was read before that round, or is told so within 400 ticks; or all of the peer's stream is there (RFC 9293, sections
+/// 3.8.6 and 3.8.6.2.2).
+///
+/// So it is over one path of a mild connection, whatever each side buffers. The answer tells all that the end's reassembly book takes; what an application
+/// reads then at once is told as the next turn begins, or is less than half of the buffer, or two segments.
+pub fn what_is_owed_is_told()
+    ensures { WhatIsOwedIsAlwaysTold }
 {}

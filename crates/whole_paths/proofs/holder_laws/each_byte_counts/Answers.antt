@@ -17,3 +17,9 @@ returns-clause-rises c = counts.each_byte_counts values
 
 pub returns-clause-bounded : goal.returns-clause-bounded
 returns-clause-bounded c = counts.book_news_is_bounded
+
+pub returns-clause-returns_octets : goal.returns-clause-returns_octets
+returns-clause-returns_octets c = counts.what_is_given_back_counts octets
+
+pub returns-clause-returns : goal.returns-clause-returns
+returns-clause-returns c = counts.what_is_given_back_counts values
