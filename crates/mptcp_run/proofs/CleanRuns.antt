@@ -1,11 +1,11 @@
 -- A run of a script of which it is known how many rounds are enough, with as many, delivers both files.
-use Rattle.std.proofs.Common.{◌≡◌, refl, sym, ◌∙◌, ap, subst, ℕ, zero, suc, ◌+◌, ◌≤◌, ◌&&◌, if◌then◌else◌, inl, inr, ◌⊎◌, ⊎_elim, Bool, true, false, List, [], ◌∷◌, length, Option, Some, None, IfSome, IsSome, arith}
+use Rattle.std.proofs.Common.{◌≡◌, refl, sym, ◌∙◌, ap, subst, ℕ, zero, suc, ◌+◌, ◌≤◌, ◌&&◌, ◌||◌, if◌then◌else◌, inl, inr, ◌⊎◌, ⊎_elim, Bool, true, false, List, [], ◌∷◌, length, Option, Some, None, IfSome, IsSome, arith}
 use Rattle.std.specs.Prelude.{IsSomeAnd, nat_le, not, option_map}
 use Rattle.std.specs.List.{list_all}
 use Rattle.std.proofs.lemmas.Bool.{and_from, and_parts, both_ways, leb-true}
 use Rattle.std.proofs.lemmas.Option.{same_Some}
 use Rattle.outside_kit.specs.Outside.{Told}
-use Rattle.sides.specs.declared.side.Side.TheVariants.{A, B}
+use Rattle.sides.specs.declared.side.Side.TheVariants.{A}
 use Rattle.link_script.specs.declared.script.PathLine.{PathLine}
 use Rattle.link_script.specs.declared.script.Script.{Script}
 use Rattle.link_script.specs.declared.script.ScriptLine.{ScriptLine}
@@ -13,10 +13,11 @@ use Rattle.link_script.specs.declared.script.ScriptLine.TheVariants.{Die, Remove
 use Rattle.link_script.specs.Scripts.{HasRanges}
 use Rattle.link_script.proofs.ReadRanges.{read_has_ranges}
 use Rattle.link_model.specs.Laws.{moves}
-use Rattle.whole_paths.specs.FewTexts.{LosesFew}
+use Rattle.whole_paths.specs.FewTexts.{LosesFew, early_by_text}
+use Rattle.whole_paths.specs.FilesFit.{FitsFirstWindow}
 use Rattle.whole_paths.specs.Finish.{harms_to, is_harmless_to_ends, is_mild, is_on_direction, patience, patient_rounds}
 use Rattle.whole_paths.specs.Finish.{rounds_in as whole_rounds}
-use Rattle.whole_paths.specs.PatientPaths.{FitFirstWindows}
+use Rattle.whole_paths.specs.QuietTexts.{MovesNoneOfA}
 use Rattle.whole_paths.proofs.BriefRuns.{few_steps_are_brief}
 use Rattle.whole_paths.proofs.FewTexts.{few_texts_finish, few_texts_go_on}
 use Rattle.clean_finish.specs.Bound.{enough}
@@ -31,13 +32,13 @@ use Rattle.run_outside.specs.Inputs.{AreWithinLimits, order_of}
 use Rattle.world_core.specs.Kept.{HasFewNotes}
 use Rattle.world_core.specs.RoundEnds.{round_ends, last_end}
 use Rattle.world_laws.specs.declared.outcome.Outcome.TheVariants as outcome
-use Rattle.world_laws.specs.Openings.{Start, opened_world, plan_of, start_of}
+use Rattle.world_laws.specs.Openings.{Start, opened_world, start_of}
 use Rattle.world_laws.specs.Outcomes.{outcome_of}
 use Rattle.world_laws.specs.Serial.{goes_on, OneOf}
 use Rattle.world_laws.specs.Worlds.{AreLawful, Turn, world_step, end_round, world_run}
 use Rattle.mptcp_run.specs.Answers.{IsAnswer, EndRow, HasRun}
 use Rattle.mptcp_run.specs.Clean.{AsksRounds, Bound, CleanRunsDeliver, DeliversBy, DeliversIfClean, DeliversIfFew, FewRunsDeliver, HasRoundsBy}
-use Rattle.mptcp_run.specs.Enough.{few_enough, few_on, fits_first, is_gentle, loses_few}
+use Rattle.mptcp_run.specs.Enough.{few_enough, few_on, fits_first, harms_allowed, is_gentle, loses_few, moves_none_of_a}
 use Rattle.mptcp_run.specs.Ends.{HasEnded}
 use Rattle.mptcp_run.specs.Putting.{status_of, world_after}
 use Rattle.mptcp_run.specs.Task.{Connection, Task, Course, rounds, threads, told, first_world, course_of, task_of, AreTurnsOf}
@@ -224,10 +225,18 @@ all_mild (line ∷ lines) all =
     let parts = and_parts (is_harmless_to_ends line) (list_all is_harmless_to_ends lines) all in
     and_from (is_mild line) (list_all is_mild lines) (harmless_is_mild line parts.0) (all_mild lines parts.1)
 
-fits_so : (start : Start) (file : List ℕ) → fits_first start.buffer (length file) ≡ true → (length file + 3 ≤ start.buffer) × (length file + 1 ≤ 65535)
-fits_so start file is =
-    let parts = and_parts (nat_le (length file + 3) start.buffer) (nat_le (length file + 1) 65535) is in
-    (leb-true (length file + 3) start.buffer parts.0, leb-true (length file + 1) 65535 parts.1)
+fits_so : (script : Script) (file_a file_b : List ℕ) → fits_first script.buffer (length file_a) ≡ true → FitsFirstWindow (start_of script file_a file_b) A
+fits_so script file_a file_b is =
+    let parts = and_parts (nat_le (length file_a + 3) script.buffer) (nat_le (length file_a + 1) 65535) is in
+    record { buffer = leb-true (length file_a + 3) script.buffer parts.0; syn = leb-true (length file_a + 1) 65535 parts.1 }
+
+early_so : (script : Script) (file_a file_b : List ℕ) → moves_none_of_a script.lines || fits_first script.buffer (length file_a) ≡ true
+    → MovesNoneOfA script.lines ⊎ FitsFirstWindow (start_of script file_a file_b) A
+early_so script file_a file_b is = by (moves_none_of_a script.lines) refl is
+  where
+    by : (b : Bool) → moves_none_of_a script.lines ≡ b → b || fits_first script.buffer (length file_a) ≡ true → MovesNoneOfA script.lines ⊎ FitsFirstWindow (start_of script file_a file_b) A
+    by true none either = inl none
+    by false some fits = inr (fits_so script file_a file_b fits)
 
 same_rounds : (turns : List Turn) → whole_rounds turns ≡ rounds_in turns
 same_rounds [] = refl
@@ -238,41 +247,34 @@ same_rounds (Turn.Round ∷ turns) = ap suc (same_rounds turns)
 record IsFew (script : Script) (file_a file_b : List ℕ) (least : ℕ) : Type 0 where
   path : PathLine
   loses : LosesFew script path file_a file_b
-  least_is : least ≡ patience script path file_a file_b (harms_to 0 script)
+  least_is : least ≡ patience script path file_a file_b (harms_to 0 script + early_by_text script path file_a)
 
 few_so : (script : Script) (file_a file_b : List ℕ) (least : ℕ) → HasRanges script → length file_a ≤ 16777216 → length file_b ≤ 16777216
     → few_enough script (length file_a) (length file_b) ≡ Some least → IsFew script file_a file_b least
 few_so script file_a file_b least ranges small_a small_b is = by_paths script.paths refl is
   where
-    by_test : (path : PathLine) → script.paths ≡ path ∷ [] → (b : Bool) → loses_few script (length file_a) (length file_b) ≡ b
-        → (if b then Some (patient_rounds path.mss (length file_a) (length file_b) (harms_to 0 script)) else None) ≡ Some least → IsFew script file_a file_b least
+    by_test : (path : PathLine) → script.paths ≡ path ∷ [] → (b : Bool) → loses_few script (length file_a) ≡ b
+        → (if b then Some (patient_rounds path.mss (length file_a) (length file_b) (harms_allowed path script (length file_a))) else None) ≡ Some least → IsFew script file_a file_b least
     by_test path one false none some = cc
     by_test path one true all some =
         let parts = and_parts (list_all is_gentle script.lines) _ all in
         let few = and_parts (nat_le (harms_to 0 script) 4) _ parts.1 in
-        let fit = and_parts (fits_first script.buffer (length file_a)) (fits_first script.buffer (length file_b)) few.1 in
-        let lines = all_parts is_harmless_to_ends (λ line. not (is_on_direction line) && not (moves A line)) script.lines parts.0 in
-        let others = all_parts (λ line. not (is_on_direction line)) (λ line. not (moves A line)) script.lines lines.1 in
+        let lines = all_parts is_harmless_to_ends (λ line. not (is_on_direction line)) script.lines parts.0 in
         record {
           path = path;
           loses = record {
             mild = record { ranges = ranges; one = one; mild = all_mild script.lines lines.0; a = small_a; b = small_b };
-            fits = side_fits fit.0 fit.1;
             harmless = lines.0;
-            directions = others.0;
-            none_of_a = others.1;
+            directions = lines.1;
             few = leb-true (harms_to 0 script) 4 few.0;
+            early = early_so script file_a file_b few.1;
           };
-          least_is = sym (same_Some (patient_rounds path.mss (length file_a) (length file_b) (harms_to 0 script)) least some);
+          least_is = sym (same_Some (patient_rounds path.mss (length file_a) (length file_b) (harms_allowed path script (length file_a))) least some);
         }
-      where
-        side_fits : fits_first script.buffer (length file_a) ≡ true → fits_first script.buffer (length file_b) ≡ true → FitFirstWindows (start_of script file_a file_b) (plan_of script 0 path)
-        side_fits a b A = let fit = fits_so (start_of script file_a file_b) file_a a in record { buffer = fit.0; syn = fit.1 }
-        side_fits a b B = let fit = fits_so (start_of script file_a file_b) file_b b in record { buffer = fit.0; syn = fit.1 }
 
     by_paths : (paths : List PathLine) → script.paths ≡ paths → few_on paths script (length file_a) (length file_b) ≡ Some least → IsFew script file_a file_b least
     by_paths [] one some = cc
-    by_paths (path ∷ []) one some = by_test path one (loses_few script (length file_a) (length file_b)) refl some
+    by_paths (path ∷ []) one some = by_test path one (loses_few script (length file_a)) refl some
     by_paths (path ∷ other ∷ paths) one some = cc
 
 few_promise : IsPromise few_enough

@@ -152,7 +152,7 @@ pub fn run_messages<O: Outside, G: Gate + Sync, R: Threads + Wait + Sync>(
     // are delivered, or memory is wanting, as long as the inputs are valid and no count of faults rises.
     ensures clean { IfSome (messages_in (map string_bytes words.now)) (λ line. DeliversIfClean
         line (as_framed line (O.told outside)) (O.told result.1) result.0) }
-    // One by whose text few segments are lost, and none of A's, with rounds that are enough for the frames: the same.
+    // One by whose text few segments are lost, with rounds that are enough for the frames: the same.
     ensures few { IfSome (messages_in (map string_bytes words.now)) (λ line. DeliversIfFew
         line (as_framed line (O.told outside)) (O.told result.1) result.0) }
     // Why it ends so: what `run` answers where both files hold the frames of their lines.

@@ -428,7 +428,7 @@ pub fn run<O: Outside, G: Gate + Sync, R: Threads + Wait + Sync>(
     // or memory is wanting, as long as the inputs are valid and no count of faults rises.
     ensures clean { IfSome (asked_in (map string_bytes words.now)) (λ line. DeliversIfClean
         line (O.told outside.old) (O.told outside.new) result) }
-    // A script with one path by whose text few segments are lost, and none of A's, in the same modes, with rounds that are enough for it: the same.
+    // A script with one path by whose text few segments are lost, in the same modes, with rounds that are enough for it: the same.
     ensures few { IfSome (asked_in (map string_bytes words.now)) (λ line. DeliversIfFew
         line (O.told outside.old) (O.told outside.new) result) }
     // Words that ask for `bench`: its row.
