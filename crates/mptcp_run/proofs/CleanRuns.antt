@@ -12,7 +12,6 @@ use Rattle.link_script.specs.declared.script.ScriptLine.{ScriptLine}
 use Rattle.link_script.specs.declared.script.ScriptLine.TheVariants.{Die, Remove}
 use Rattle.link_script.specs.Scripts.{HasRanges}
 use Rattle.link_script.proofs.ReadRanges.{read_has_ranges}
-use Rattle.link_model.specs.Laws.{moves}
 use Rattle.whole_paths.specs.FewTexts.{LosesFew, early_by_text}
 use Rattle.whole_paths.specs.FilesFit.{FitsFirstWindow}
 use Rattle.whole_paths.specs.Finish.{harms_to, is_harmless_to_ends, is_mild, is_on_direction, patience, patient_rounds}
@@ -32,7 +31,7 @@ use Rattle.run_outside.specs.Inputs.{AreWithinLimits, order_of}
 use Rattle.world_core.specs.Kept.{HasFewNotes}
 use Rattle.world_core.specs.RoundEnds.{round_ends, last_end}
 use Rattle.world_laws.specs.declared.outcome.Outcome.TheVariants as outcome
-use Rattle.world_laws.specs.Openings.{Start, opened_world, start_of}
+use Rattle.world_laws.specs.Openings.{opened_world, start_of}
 use Rattle.world_laws.specs.Outcomes.{outcome_of}
 use Rattle.world_laws.specs.Serial.{goes_on, OneOf}
 use Rattle.world_laws.specs.Worlds.{AreLawful, Turn, world_step, end_round, world_run}
