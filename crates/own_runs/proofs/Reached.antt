@@ -101,8 +101,7 @@ module _ (start : Start) (can : Carries start) where
   pub run_reaches : (turns : List Turn) → RunIsFirm can.links turns (opened_world start) → (last : Duo) × EachReaches turns last × EndsAs turns last
   run_reaches turns firm =
       let all = reaches {X = WorldState Carried} (after_turn values) HasReached duo_at turns (opened_world start) (opened_reached start can)
-      (all_go turns (opened_world start) firm (always_steady start)) in
-      (
+      (all_go turns (opened_world start) firm (always_steady start)) in (
         all.0,
         λ more later is. moment all.0 more (all.2 more later is),
         subst (λ (w : WorldState Carried). (q : HasReached w) × (duo_at w q ≡ all.0)) (steps_are turns (opened_world start)) all.3,

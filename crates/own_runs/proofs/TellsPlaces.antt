@@ -169,7 +169,7 @@ module _ (start : Start) (can : MayCarry start) (Fails : Type 0) (failing : can.
           inr (
             subst (λ (o : Option Lane). BorneOn (content start s) o r.pos r.piece) (sym later_there) (few, part_bears r is kept part),
             let within = is.summed.within in let same = kept.4 in let more = ap length longer.is in
-            subst (λ (o : Option Lane). r.pos + length r.piece ≤ suc (upto_of o)) (sym later_there) (omega (arith, within, same, more, length-append out.sent longer.more)),
+                subst (λ (o : Option Lane). r.pos + length r.piece ≤ suc (upto_of o)) (sym later_there) (omega (arith, within, same, more, length-append out.sent longer.more)),
           )
 
       -- its infinite mappings
