@@ -151,6 +151,7 @@ module _ (a b c : Ports) (same : (p : Port) → b p ≡ a p) where
       log = after_from (a port.Log) (b port.Log) (c port.Log) _ (same port.Log) h.ports.log;
       fits = h.ports.fits;
     };
+    few = h.few;
   }
 
   rounds_from : (task : Task) → HoldsSomeRounds task b c → HoldsSomeRounds task a c

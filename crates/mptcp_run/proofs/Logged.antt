@@ -18,6 +18,7 @@ use Rattle.mptcp_run.specs.declared.report.Report.TheVariants as report
 use Rattle.run_outside.specs.declared.status.Status.{Status}
 use Rattle.mptcp_run.specs.Logged.{HasRounds, IsSettled, replayed, TellsTheRun, LogTellsTheRun, WholeRunsAreTold, WholeRunsAgree}
 use Rattle.mptcp_run.specs.Promised.{EndsWithRound}
+use Rattle.world_core.specs.Kept.{HasFewNotes}
 use Rattle.world_core.specs.RoundEnds.{round_ends, last_end, steps_by_round}
 use Rattle.world_core.specs.Logged.{told_outcome}
 use Rattle.world_core.proofs.TimedRounds.{timed_is_one}
@@ -134,6 +135,7 @@ module _ (script : Script) (file_a file_b : List ℕ) (way : Course) (status : S
           (subst (λ w. HoldsAfter (old Log) (new Log) (λ held. held ++ (log_so_far task whole.turns ++ outcome_line w))) (sym same_world) whole.ports.log);
       fits = subst (λ es. RoundsFit (opening_in task) 0 (steps_by_round (first_world task) es)) (sym again.ends) whole.ports.fits;
     };
+    few = subst HasFewNotes (sym same_world) whole.few;
   }
 
   pub whole_run_is_told : LogTellsTheRun task whole.turns status old new

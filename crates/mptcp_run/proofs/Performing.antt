@@ -7,6 +7,7 @@ use Rattle.outside_kit.specs.declared.port.Port.TheVariants as port
 use Rattle.sides.specs.declared.side.Side.TheVariants.{A, B}
 use Rattle.outside_kit.specs.Outside.{Told, HoldsAfter, HoldsPrefix}
 use Rattle.run_words.specs.Lines.{Line}
+use Rattle.world_core.specs.Kept.{HasFewNotes}
 use Rattle.world_laws.specs.declared.outcome.Outcome.{Outcome}
 use Rattle.world_laws.specs.declared.outcome.Outcome.TheVariants as outcome
 use Rattle.world_laws.specs.Outcomes.{outcome_of}
@@ -138,14 +139,15 @@ module _ (line : Line) (task : Task) (a b c : Told) (held : AreBound a.holds b.h
   module _ (v : Connection) (made : CourseMade task.course (opening_in task) (first_world task) v b c) (last : List ℕ) (is : last ≡ last_line task made.turns)
       (status : Status) (d : Told) where
     -- the last line was put
-    pub line_done : status ≡ status_of (outcome_of v.crew) → LogGrew last c.holds d.holds → AddsAll (line_put last) c.calls d.calls → CameToEnd [] line task a d status
-    line_done shown grew told = record {
+    pub line_done : HasFewNotes v → status ≡ status_of (outcome_of v.crew) → LogGrew last c.holds d.holds → AddsAll (line_put last) c.calls d.calls → CameToEnd [] line task a d status
+    line_done few shown grew told = record {
       ended = has_ended (outcome_of v.crew) status shown;
       whole = record {
         turns = made.turns;
         are = made.are;
         status_is = shown ∙ ap (λ w. status_of (outcome_of w.crew)) made.world;
         ports = run_held task made.turns last a.holds c.holds d.holds is (rounds_held task made.turns a.holds b.holds c.holds held made.ports) grew;
+        few = subst HasFewNotes made.world few;
       };
       calls = all_then (binds_of line) _ a.calls b.calls d.calls bound
           (all_then (puts_so_far task made.turns) _ b.calls c.calls d.calls made.calls (subst (λ text. AddsAll (line_put text) c.calls d.calls) is told));

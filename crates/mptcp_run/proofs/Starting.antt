@@ -4,7 +4,7 @@ use Rattle.outside_kit.specs.declared.port.Port.{Port}
 use Rattle.outside_kit.specs.Outside.{Told}
 use Rattle.run_words.specs.Lines.{Line}
 use Rattle.run_outside.specs.declared.input.Input.{Input}
-use Rattle.world_core.specs.Kept.{Kept}
+use Rattle.world_core.specs.Kept.{HasFewNotes, Kept}
 use Rattle.world_laws.specs.Openings.{start_of, opened_world}
 use Rattle.world_laws.specs.Outcomes.{outcome_of}
 use Rattle.world_laws.specs.Worlds.{Turn}
@@ -75,11 +75,11 @@ module _ (input : Input) (kind : Report) (run : Run) (h : IsOpened input kind ru
       made : (m : CourseMade way (opening_in rounds_run) (first_world rounds_run) v b c) × (count ≡ length (ends_of rounds_run m.turns))
       made = as_opened input kind run h (λ o w. (m : CourseMade way o w v b c) × (count ≡ length (round_ends m.turns w))) ok
 
-      pub course_done : status ≡ status_of (outcome_of v.crew) → LogGrew (last_line_of kind count v) c.holds d.holds → AddsAll (line_put (last_line_of kind count v)) c.calls d.calls
+      pub course_done : HasFewNotes v → status ≡ status_of (outcome_of v.crew) → LogGrew (last_line_of kind count v) c.holds d.holds → AddsAll (line_put (last_line_of kind count v)) c.calls d.calls
           → CameToEnd [] line (task_with input way kind) a d status
-      course_done shown grew told =
+      course_done few shown grew told =
           line_done line rounds_run a b c held bound v made.0 (last_line_of kind count v) (line_after rounds_run count v made.0.turns made.1 made.0.world)
-          status d shown grew told
+          status d few shown grew told
 
       pub course_line_short : LogGrewPart (last_line_of kind count v) c.holds d.holds → AddsShort (line_put (last_line_of kind count v)) status c.calls d.calls
           → IsCut [] line (task_with input way kind) a d status
@@ -96,11 +96,11 @@ module _ (input : Input) (run : Run) (h : IsOpened input report.Log run) (line :
     told_made : CourseMade (course.told order) (opening_in replay_run) (first_world replay_run) v b c
     told_made = as_opened input report.Log run h (λ o w. CourseMade (course.told order) o w v b c) ok
 
-    pub replay_done : status ≡ status_of (outcome_of v.crew) → LogGrew (last_line_of report.Log count v) c.holds d.holds → AddsAll (line_put (last_line_of report.Log count v)) c.calls d.calls
+    pub replay_done : HasFewNotes v → status ≡ status_of (outcome_of v.crew) → LogGrew (last_line_of report.Log count v) c.holds d.holds → AddsAll (line_put (last_line_of report.Log count v)) c.calls d.calls
         → CameToEnd [] line (task_from input (course.told order)) a d status
-    replay_done shown grew told =
+    replay_done few shown grew told =
         line_done line replay_run a b c held bound v told_made (last_line_of report.Log count v) (logged_line replay_run told_made.turns count v refl told_made.world)
-        status d shown grew told
+        status d few shown grew told
 
     pub replay_line_short : LogGrewPart (last_line_of report.Log count v) c.holds d.holds → AddsShort (line_put (last_line_of report.Log count v)) status c.calls d.calls
         → IsCut [] line (task_from input (course.told order)) a d status

@@ -19,3 +19,4 @@ pub mod Taken
 pub mod Task
 pub mod Threads
 pub mod WovenRounds
+pub mod Enough

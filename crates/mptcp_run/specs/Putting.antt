@@ -18,6 +18,7 @@ use Rattle.world_laws.specs.declared.outcome.Outcome.TheVariants as outcome
 use Rattle.world_laws.specs.Fine.{lists_of}
 use Rattle.world_laws.specs.Outcomes.{outcome_of}
 use Rattle.world_laws.specs.Worlds.{Turn, world_run, AreLawful, IsLawfulTurn}
+use Rattle.world_core.specs.Kept.{HasFewNotes}
 use Rattle.world_core.specs.RoundEnds.{round_ends, steps_by_round, read_to_end}
 use Rattle.mptcp_run.specs.declared.report.Report.{Report}
 use Rattle.mptcp_run.specs.declared.report.Report.TheVariants as report
@@ -111,12 +112,14 @@ pub record HoldsRun (task : Task) (turns : List Turn) (old new : Port → Option
   pub log : HoldsAfter (old Log) (new Log) (λ held. held ++ (log_so_far task turns ++ last_line task turns))
   pub fits : RoundsFit (opening_in task) 0 (steps_so_far task turns)
 
--- all turns of the task were made, the status is the one that the connection shows then, and the ports hold the run
+-- all turns of the task were made, the status is the one that the connection shows then, the ports hold the run, and each actor made fewer than
+-- 2^57 steps
 pub record IsWhole (task : Task) (status : Status) (old new : Port → Option (List ℕ)) : Type 0 where
   pub turns : List Turn
   pub are : AreTurnsOf task.course turns (first_world task)
   pub status_is : status ≡ status_of (outcome_of (world_after task turns).crew)
   pub ports : HoldsRun task turns old new
+  pub few : HasFewNotes (world_after task turns)
 
 -- ---- early ends
 

@@ -39,6 +39,7 @@ Waits (Some run) = AtRound run × (run.rounds ≡ 0)
 pub record AreMade (most : ℕ) (run : Run) (before after : Told) {T : Type 0} (result : Run × Result T Status) : Type 0 where
   pub ok : OnOk result.1 ((made : CourseMade (course.threads most) run.opening run.world.state result.0.world.state before after)
       × (result.0.rounds ≡ length (round_ends made.turns run.world.state)))
+  pub stands : OnOk result.1 (result.0.world.failed ≡ false)
   pub cut : IfErr result.1 (CourseCut (course.threads most) run.opening run.world.state before after)
   pub fault : IfErr result.1 (IsPortsFault before.port_faults after.port_faults)
   pub only : OnlyPuts before after

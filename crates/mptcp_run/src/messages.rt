@@ -6,7 +6,7 @@ ghost use Rattle.run_words.specs.Lines.{as_line, shown_work};
 ghost use Rattle.mptcp_run.specs.Answers.{NothingWasRun};
 ghost use Rattle.message_pipe.specs.Lined.{lined_content};
 ghost use Rattle.mptcp_run.specs.Asked.{asked_in, is_run};
-ghost use Rattle.mptcp_run.specs.Clean.{DeliversIfClean};
+ghost use Rattle.mptcp_run.specs.Clean.{DeliversIfClean, DeliversIfFew};
 ghost use Rattle.mptcp_run.specs.Ends.{HasEnded};
 ghost use Rattle.mptcp_run.specs.MessagesCalls.{CalledToEnd};
 ghost use Rattle.mptcp_run.specs.Promised.{NoneIsAltered};
@@ -151,6 +151,9 @@ pub fn run_messages<O: Outside, G: Gate + Sync, R: Threads + Wait + Sync>(
     // A clean script, one path and no line, in `run`, `serial` or `timed`, with rounds that are enough for the frames of its files: all lines
     // are delivered, or memory is wanting, as long as the inputs are valid and no count of faults rises.
     ensures clean { IfSome (messages_in (map string_bytes words.now)) (λ line. DeliversIfClean
+        line (as_framed line (O.told outside)) (O.told result.1) result.0) }
+    // One by whose text few segments are lost, with rounds that are enough for the frames: the same.
+    ensures few { IfSome (messages_in (map string_bytes words.now)) (λ line. DeliversIfFew
         line (as_framed line (O.told outside)) (O.told result.1) result.0) }
     // Why it ends so: what `run` answers where both files hold the frames of their lines.
     ensures answer { IfSome (messages_in (map string_bytes words.now)) (λ line. IsMessagesAnswer

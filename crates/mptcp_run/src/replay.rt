@@ -1,6 +1,6 @@
 //! The steps of a log, in its order.
 
-ghost use Rattle.std.specs.Prelude.{◌≡◌, ◌+◌, ◌-◌, ◌^◌, ◌≤◌, ◌<◌, length, true, IfErr, OnOk};
+ghost use Rattle.std.specs.Prelude.{◌≡◌, ◌+◌, ◌-◌, ◌^◌, ◌≤◌, ◌<◌, length, true, IfErr, OnOk, false};
 ghost use Rattle.path_core.specs.Octets.{octets};
 ghost use Rattle.world_core.specs.Kept.{standing};
 ghost use Rattle.world_core.specs.Logged.{turn_of, all_turns};
@@ -95,6 +95,7 @@ pub fn make_turns<O: Outside>(
     requires few { lines ≤ 3 }
     ensures ok { OnOk result (CourseMade (course.told (all_turns order.now)) run.old.opening
         run.old.world.state run.new.world.state (O.told outside.old) (O.told outside.new)) }
+    ensures stands { OnOk result (run.new.world.failed ≡ false) }
     ensures stop { IfErr result (LogStops (all_turns order.now) lines
         run.old.opening run.old.world.state (O.told outside.old) (O.told outside.new)) }
     ensures cause { IfErr result

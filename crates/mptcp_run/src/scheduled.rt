@@ -1,6 +1,6 @@
 //! Rounds by a schedule.
 
-ghost use Rattle.std.specs.Prelude.{◌≡◌, ◌+◌, ◌-◌, ◌^◌, ◌<◌, length, IfErr, OnOk};
+ghost use Rattle.std.specs.Prelude.{◌≡◌, ◌+◌, ◌-◌, ◌^◌, ◌<◌, false, length, IfErr, OnOk};
 ghost use Rattle.run_outside.specs.Calling.{OnlyPuts};
 ghost use Rattle.mptcp_run.specs.Making.{RoundMade, RoundStops};
 ghost use Rattle.mptcp_run.specs.Courses.{CourseMade, CourseCut};
@@ -56,6 +56,7 @@ pub fn make_rounds<O: Outside>(
     ensures ok { OnOk result ((made : CourseMade (course.rounds schedule most) run.old.opening
         run.old.world.state run.new.world.state (O.told outside.old) (O.told outside.new))
         × (run.new.rounds ≡ length (round_ends made.turns run.old.world.state))) }
+    ensures stands { OnOk result (run.new.world.failed ≡ false) }
     ensures cut { IfErr result
         (CourseCut (course.rounds schedule most) run.old.opening run.old.world.state
         (O.told outside.old) (O.told outside.new)) }

@@ -203,6 +203,7 @@ pub fn make_threaded_rounds<O: Outside, G: Gate + Sync, R: Threads + Wait + Sync
     ensures ok { OnOk result.1 ((made : CourseMade (course.threads most) run.opening
         run.world.state result.0.world.state (O.told outside.old) (O.told outside.new))
         × (result.0.rounds ≡ length (round_ends made.turns run.world.state))) }
+    ensures stands { OnOk result.1 (result.0.world.failed ≡ false) }
     ensures cut { IfErr result.1 (CourseCut (course.threads most) run.opening run.world.state
         (O.told outside.old) (O.told outside.new)) }
     ensures fault { IfErr result.1

@@ -1,6 +1,7 @@
 //! The top call.
 
-ghost use Rattle.std.specs.Prelude.{◌≡◌, ◌≢◌, ◌≤◌, ◌++◌, [], ◌∷◌, map, IsNone, IfOk, IfErr, IfSome, OnOk, OnErr, string_bytes};
+ghost use Rattle.std.specs.Prelude.{◌≡◌, ◌≢◌, ◌≤◌, ◌++◌, false, [], ◌∷◌, map, IsNone, IfOk, IfErr, IfSome, OnOk, OnErr, string_bytes};
+ghost use Rattle.world_core.specs.Kept.{HasFewNotes};
 ghost use Rattle.world_core.specs.Logged.{all_turns};
 ghost use Rattle.outside_kit.specs.declared.port.Port.{Port};
 ghost use Rattle.outside_kit.specs.Calls as call;
@@ -12,7 +13,7 @@ ghost use Rattle.world_laws.specs.Outcomes.{outcome_of};
 ghost use Rattle.run_outside.specs.Calling.{Puts};
 ghost use Rattle.mptcp_run.specs.Answers.{IsAnswer, IsMadeAnswer, NothingWasRun};
 ghost use Rattle.mptcp_run.specs.Asked.{AsksInRange, asked_in, if_run};
-ghost use Rattle.mptcp_run.specs.Clean.{DeliversIfClean};
+ghost use Rattle.mptcp_run.specs.Clean.{DeliversIfClean, DeliversIfFew};
 ghost use Rattle.mptcp_run.specs.Ends.{CameToEnd, IsCut, ReplayEnds, either};
 ghost use Rattle.mptcp_run.specs.Made.{Bench, bench_of, bench_in};
 ghost use Rattle.run_outside.specs.Plan.{AddsShort};
@@ -67,9 +68,11 @@ fn end<O: Outside>(
     ensures puts { Puts
         (call.Put Port.Log (last_line_of report run.now.rounds run.now.world.state) ∷ [])
         (O.told outside.old) (O.told outside.new) result }
+    ensures few { run.now.world.failed ≡ false → HasFewNotes run.now.world.state }
 {
+    let status = status_of(run.world.outcome());
     put_last(alloc, outside, run, report)?;
-    Ok(status_of(run.world.outcome()))
+    Ok(status)
 }
 
 /// Makes rounds by a schedule, at most so many, of a run before its first step, and puts its last line.
@@ -424,6 +427,9 @@ pub fn run<O: Outside, G: Gate + Sync, R: Threads + Wait + Sync>(
     // A clean script, one path and no line, in `run`, `serial` or `timed`, with rounds that are enough for its files: both are delivered,
     // or memory is wanting, as long as the inputs are valid and no count of faults rises.
     ensures clean { IfSome (asked_in (map string_bytes words.now)) (λ line. DeliversIfClean
+        line (O.told outside.old) (O.told outside.new) result) }
+    // A script with one path by whose text few segments are lost, in the same modes, with rounds that are enough for it: the same.
+    ensures few { IfSome (asked_in (map string_bytes words.now)) (λ line. DeliversIfFew
         line (O.told outside.old) (O.told outside.new) result) }
     // Words that ask for `bench`: its row.
     ensures bench { IfSome (bench_in (map string_bytes words.now)) (λ made. IsMadeAnswer made

@@ -66,7 +66,7 @@ use Rattle.own_runs.proofs.MapKept.{AckSays, BookGood, IsFine, IsGood, LanesFine
 use Rattle.own_runs.proofs.MapTrace.{borne, few, good, good_at, good_from, good_path, good_values, where_in}
 use Rattle.own_runs.proofs.Moments.{IsSpoken}
 use Rattle.own_runs.proofs.Numbered.{number_so}
-use Rattle.own_runs.proofs.Offering.{AllFine, OptionFine}
+use Rattle.own_runs.proofs.Offering.{AllFine, NoLines, OptionFine}
 use Rattle.own_runs.proofs.OneConnection.{OneHolds, taken_one}
 use Rattle.own_runs.proofs.OpenCounts.{AreCounted, judged_counted, wrong_seen}
 use Rattle.own_runs.proofs.OpenFlows.{HasFlow, IsOpenOn, OpenBelongs, OpensBy, answers_flow, opens_belong, opens_flow, opens_only, stays, stays_open, which_some}
@@ -83,7 +83,7 @@ use Rattle.own_runs.proofs.Values.{drawn}
 
 -- ---- facts of one segment, by another way to say whose it is
 
-behind_for : (U T V W : Type 0) (d : Drawn) (seen : Seen) (own other : IsOwn d seen) → other.path ≡ own.path → other.from ≡ own.from → IsBehind U T V W d seen own → IsBehind U T V W d seen other
+pub behind_for : (U T V W : Type 0) (d : Drawn) (seen : Seen) (own other : IsOwn d seen) → other.path ≡ own.path → other.from ≡ own.from → IsBehind U T V W d seen own → IsBehind U T V W d seen other
 behind_for U T V W d seen own other path from h = record {
   acks = λ of_b syn. h.acks (sym from ∙ of_b) syn;
   late = h.late;
@@ -577,7 +577,7 @@ module _ (start : Start) (last : Duo) (fit : NumbersFit start) where
       has_some [] offset within = absurd (omega (arith, within))
       has_some (octet ∷ octets) offset within = refl
 
-      one_tells : (o : PlainOption) → OptionFine (file_len start) (IsMapped start last x.path) ⊥ ⊥ x.from o → value_ends (said_option c.spelling x.from o) ≡ true → tells_end o ≡ true
+      one_tells : (o : PlainOption) → OptionFine (file_len start) (IsMapped start last x.path) NoLines ⊥ x.from o → value_ends (said_option c.spelling x.from o) ≡ true → tells_end o ≡ true
       one_tells (Dss ack (Some (Bytes place position len true checksum))) fine is = refl
       one_tells (Dss ack (Some (Bytes place position len false checksum))) fine is = absurd (let some = fine.0 in let none = eqb-true len 0 is in omega (arith, some, none))
       one_tells (Dss ack (Some (End place checksum))) fine is = refl
@@ -587,7 +587,7 @@ module _ (start : Start) (last : Duo) (fit : NumbersFit start) where
       one_tells (Fail place) fine is = absurd fine
       one_tells _ fine is = absurd (false≢true is)
 
-      any_tells : (options : List PlainOption) → AllFine (file_len start) (IsMapped start last x.path) ⊥ ⊥ x.from options → list_any value_ends (map (said_option c.spelling x.from) options) ≡ true
+      any_tells : (options : List PlainOption) → AllFine (file_len start) (IsMapped start last x.path) NoLines ⊥ x.from options → list_any value_ends (map (said_option c.spelling x.from) options) ≡ true
           → list_any tells_end options ≡ true
       any_tells [] is_fine is = absurd (false≢true is)
       any_tells (o ∷ options) is_fine is =

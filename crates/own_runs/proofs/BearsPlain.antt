@@ -1,8 +1,8 @@
--- A segment with payload or with the DATA_FIN is no SYN and no reset.
+-- A segment with payload or with the DATA_FIN is no SYN and no reset. Nor is one with another mapping a reset.
 use Rattle.std.proofs.Common.{◌≡◌, refl, sym, ap, ◌∙◌, subst, ℕ, ◌⊎◌, inl, inr, ⊎_elim, ◌-◌, ◌&&◌, ◌||◌, not, Bool, true, false, if◌then◌else◌, Option, Some, None, List, [], ◌∷◌}
 use Rattle.std.specs.List.{list_any}
 use Rattle.std.specs.Option.{IfSome}
-use Rattle.std.proofs.lemmas.Bool.{both_ways}
+use Rattle.std.proofs.lemmas.Bool.{both_ways, false≢true, or_cases, or_left, or_right}
 use Rattle.path_agenda.specs.Words.{first_of}
 use Rattle.path_agenda.specs.declared.duty.Duty.{Duty}
 use Rattle.path_agenda.specs.declared.duty.SendDuty.{SendDuty}
@@ -24,6 +24,8 @@ use Rattle.path_core.specs.Treating.{item_of}
 use Rattle.path_core.specs.Values.{Carried}
 use Rattle.path_segments.specs.Options.{PlainOption}
 use Rattle.path_segments.specs.Spelled.{PlainSegment}
+use Rattle.path_segments.specs.declared.segment.PathOption.TheVariants.{Capable, Dss}
+use Rattle.mptcp_options.specs.declared.capable.CapableKeys.TheVariants.{WithData}
 use Rattle.sides.specs.declared.side.Side.TheVariants.{A, B}
 use Rattle.sides.specs.declared.side.Side.{Side}
 use Rattle.subflow_send.specs.Records.{Record}
@@ -40,9 +42,19 @@ use Rattle.own_runs.proofs.Speaking.{ToSend}
 use Rattle.world_laws.proofs.Promises.Made.{run_fresh}
 use Rattle.path_core.specs.Values.{values}
 
--- it is no reset, or bears nothing
+-- an option with a mapping, or with a Data ACK
+abbrev pub is_mapping : PlainOption → Bool
+is_mapping (Dss next mapping) = true
+is_mapping (Capable flag_a flag_c (WithData sender receiver len checksum)) = true
+is_mapping _ = false
+
+-- payload, or such an option
+abbrev pub says_more : PlainSegment → Bool
+says_more sg = has_octets sg.payload || list_any is_mapping sg.options
+
+-- it is no reset, or has neither
 abbrev IsBare : PlainSegment → Type 0
-IsBare sg = (sg.rst ≡ false) ⊎ (is_bearing sg ≡ false)
+IsBare sg = (sg.rst ≡ false) ⊎ (says_more sg ≡ false)
 
 module _ (c : Profile) (s : Side) (e : PathEnd) where
   record_bare : (o : Option Record) → IsBare (record_or_ack c s o e)
@@ -175,10 +187,30 @@ syn_bare start number c s e sg said syn =
 
 pub record BearsPlain (path : ℕ) (s : Side) (sg : PlainSegment) : Type 0 where
   pub bears : is_bearing sg ≡ true → (sg.syn ≡ false) × (sg.rst ≡ false)
+  pub says : says_more sg ≡ true → sg.rst ≡ false
+
+-- the DATA_FIN is in a mapping
+end_maps : (o : PlainOption) → tells_end o ≡ true → is_mapping o ≡ true
+end_maps (Dss next mapping) is = refl
+end_maps _ is = absurd (false≢true is)
+
+any_maps : (options : List PlainOption) → list_any tells_end options ≡ true → list_any is_mapping options ≡ true
+any_maps [] is = is
+any_maps (o ∷ options) is =
+    ⊎_elim (λ here. or_left (is_mapping o) (list_any is_mapping options) (end_maps o here)) (λ later. or_right (is_mapping o) (list_any is_mapping options) (any_maps options later))
+    (or_cases (tells_end o) (list_any tells_end options) is)
+
+bearing_says : (sg : PlainSegment) → is_bearing sg ≡ true → says_more sg ≡ true
+bearing_says sg is =
+    ⊎_elim (or_left (has_octets sg.payload) (list_any is_mapping sg.options))
+    (λ ends. or_right (has_octets sg.payload) (list_any is_mapping sg.options) (any_maps sg.options ends)) (or_cases (has_octets sg.payload) (list_any tells_end sg.options) is)
 
 plain_so : (path : ℕ) (s : Side) (sg : PlainSegment) → (sg.syn ≡ true → is_bearing sg ≡ false) → IsBare sg → BearsPlain path s sg
-plain_so path s sg syn bare = record { bears = λ is. (no_syn sg.syn refl is, ⊎_elim (λ none. none) (λ nothing. absurd (both_ways (is_bearing sg) nothing is)) bare) }
+plain_so path s sg syn bare = record { bears = λ is. (no_syn sg.syn refl is, more_plain (bearing_says sg is)); says = more_plain }
   where
+    more_plain : says_more sg ≡ true → sg.rst ≡ false
+    more_plain is = ⊎_elim (λ none. none) (λ nothing. absurd (both_ways (says_more sg) nothing is)) bare
+
     no_syn : (b : Bool) → sg.syn ≡ b → is_bearing sg ≡ true → sg.syn ≡ false
     no_syn false none is = none
     no_syn true has is = absurd (both_ways (is_bearing sg) (syn has) is)

@@ -23,7 +23,7 @@ use Rattle.world_laws.specs.Worlds.{Turn, WorldState, after_turn, world_run}
 use Rattle.world_laws.specs.declared.member.Member.TheVariants.{App, Path}
 use Rattle.own_runs.proofs.InTime.{AnswersAt, ComesAt, OpensAt, Sending, WasSaid, crew_sending, member_sending, path_sending, sending_as, turn_sending, was_last, was_more}
 use Rattle.own_runs.proofs.KeyRuns.{ActorSays, MemberLearns, MemberSays, SaysNext, TurnSays, opened_learns, turn_learns}
-use Rattle.own_runs.proofs.LateJoins.{Learns, map_at, more_learns, segment_so, shown_same, zero_so}
+use Rattle.own_runs.proofs.LateJoins.{ComesBehind, Learns, map_at, more_learns, segment_so, shown_same, zero_so}
 use Rattle.own_runs.proofs.Learning.{IsAlone, IsAnswer}
 use Rattle.own_runs.proofs.Moments.{MemberAlso, MemberKnown, MemberSpeaks, PathAlso, PathSpeaks, WorldAlso, crew_known, end_shown, first_same, valued}
 use Rattle.own_runs.proofs.NextTrace.{run_append}
@@ -63,14 +63,15 @@ module _ (start : Start) (size : HasRoom start) (fit : NumbersFit start) where
   abbrev v : List Turn → WorldState Carried
   v before = world_run values before (opened_world start)
 
-  abbrev Opened : List Turn → Type 0
+  abbrev pub Opened : List Turn → Type 0
   Opened before = WasSaid start (OpensAt 0) before
 
-  abbrev Answered : List Turn → Type 0
-  Answered before = WasSaid start (AnswersAt 0) before
-
-  abbrev Said : Side → (PlainSegment → Type 0) → Sending → Type 0
+  abbrev pub Said : Side → (PlainSegment → Type 0) → Sending → Type 0
   Said side P y = (y.path ≡ 0) × (y.from ≡ side) × P y.segment
+
+  -- with B's key
+  abbrev pub Answered : List Turn → Type 0
+  Answered before = WasSaid start (Said B IsAnswer) before
 
   module _ (before : List Turn) where
     speaks : (i : ℕ) (c : ActorCrew Carried) → slice_get (v before).crew i ≡ Some c → MemberSpeaks start c.member
@@ -115,19 +116,19 @@ module _ (start : Start) (size : HasRoom start) (fit : NumbersFit start) where
         (more_learns start _ _ (Opened (before ++ turn ∷ [])) (Answered (before ++ turn ∷ [])) (after_turn values turn (v before))
         (⊎_elim (λ was. was_more start (OpensAt 0) before turn was)
         (λ said. let it = says_so IsAlone A turn h said in was_last start (OpensAt 0) before turn it.0 it.1 (it.2.0, it.2.1, it.2.2)))
-        (⊎_elim (λ was. was_more start (AnswersAt 0) before turn was)
-        (λ said. let it = says_so IsAnswer B turn h said in was_last start (AnswersAt 0) before turn it.0 it.1 (it.2.0, it.2.1, record { syn = it.2.2.syn; acknowledged = it.2.2.acknowledged })))
+        (⊎_elim (λ was. was_more start (Said B IsAnswer) before turn was) (λ said. let it = says_so IsAnswer B turn h said in was_last start (Said B IsAnswer) before turn it.0 it.1 it.2))
         (turn_learns start.key_a start.key_b (Opened before) (Answered before) (v before) h turn))
 
     -- what is sent next
-    comes_valued : Learns start (Opened before) (Answered before) (v before) → WorldAlso (ComesAt start before) (v before)
+    comes_valued : Learns start (Opened before) (Answered before) (v before) → WorldAlso (ComesBehind (Opened before) (Answered before)) (v before)
     comes_valued h i c at = by c.member (speaks i c at) (crew_known start before size fit i c at) (h.crew i c at)
       where
-        by : (m : Actor Carried) → MemberSpeaks start m → MemberKnown (books_in (v before).books) m → MemberLearns (Opened before) (Answered before) m → MemberAlso (ComesAt start before) m
+        by : (m : Actor Carried) → MemberSpeaks start m → MemberKnown (books_in (v before).books) m → MemberLearns (Opened before) (Answered before) m
+            → MemberAlso (ComesBehind (Opened before) (Answered before)) m
         by (App a) said tells learns = tt
         by (Path p) said tells learns = one (first_sends p.agenda p) refl
           where
-            one : (o : Option ToSend) → first_sends p.agenda p ≡ o → IfSome o (λ t. ComesAt start before (path_of p) t.from (segment_sent p t))
+            one : (o : Option ToSend) → first_sends p.agenda p ≡ o → IfSome o (λ t. ComesBehind (Opened before) (Answered before) (path_of p) t.from (segment_sent p t))
             one None e = tt
             one (Some t) e = segment_so start (Opened before) (Answered before) (v before) h speaks (crew_known start before size fit) [] p said tells learns t e
 
@@ -139,6 +140,31 @@ module _ (start : Start) (size : HasRoom start) (fit : NumbersFit start) where
   pub learns_at : (turns : List Turn) → Learns start (Opened turns) (Answered turns) (v turns)
   learns_at turns = learns_from turns [] (more_learns start ⊥ ⊥ (Opened []) (Answered []) (opened_world start) (λ no. absurd no) (λ no. absurd no) (opened_learns start))
 
+  pub comes_keyed : (turns : List Turn) → WorldAlso (ComesBehind (Opened turns) (Answered turns)) (world_run octets turns (opened_world start))
+  comes_keyed turns =
+      subst (λ (w : WorldState (List ℕ)). WorldAlso (ComesBehind (Opened turns) (Answered turns)) w) (sym (run_fresh start turns size fit))
+      (also_shown (ComesBehind (Opened turns) (Answered turns)) (v turns) (comes_valued turns (learns_at turns)))
+
+  -- whether it shows the key or not
   pub comes_at : (turns : List Turn) → WorldAlso (ComesAt start turns) (world_run octets turns (opened_world start))
-  comes_at turns =
-      subst (λ (w : WorldState (List ℕ)). WorldAlso (ComesAt start turns) w) (sym (run_fresh start turns size fit)) (also_shown (ComesAt start turns) (v turns) (comes_valued turns (learns_at turns)))
+  comes_at turns i c at = by c.member (comes_keyed turns i c at)
+    where
+      answered : Answered turns → WasSaid start (AnswersAt 0) turns
+      answered h = record {
+        more = h.more;
+        turn = h.turn;
+        later = h.later;
+        is = h.is;
+        said = h.said;
+        sends = h.sends;
+        holds = (h.holds.0, h.holds.1, record { syn = h.holds.2.syn; acknowledged = h.holds.2.acknowledged });
+      }
+
+      one : (p : PathState (List ℕ)) (o : Option ToSend) → IfSome o (λ t. ComesBehind (Opened turns) (Answered turns) (path_of p) t.from (segment_sent p t))
+          → IfSome o (λ t. ComesAt start turns (path_of p) t.from (segment_sent p t))
+      one p None comes = tt
+      one p (Some t) comes = record { acks = comes.acks; joins = λ of_a syn more. answered (comes.joins of_a syn more); answers = comes.answers }
+
+      by : (m : Actor (List ℕ)) → MemberAlso (ComesBehind (Opened turns) (Answered turns)) m → MemberAlso (ComesAt start turns) m
+      by (App a) comes = tt
+      by (Path p) comes = one p (first_sends p.agenda p) comes

@@ -1,6 +1,6 @@
 -- What an end maps, by what it shows on its lanes: each mapping gives its positions the places that they have on the lanes of the last moment, within its
 -- side's file, and its checksum is that of the octets of these places. So is what it knows of the end of its stream.
-use Rattle.std.proofs.Common.{◌≡◌, refl, sym, ap, ◌∙◌, subst, ℕ, ◌-◌, ◌≤◌, Bool, true, false, if◌then◌else◌, Option, Some, None, [], length, length-append, take, drop, arith}
+use Rattle.std.proofs.Common.{◌≡◌, refl, sym, ap, ◌∙◌, subst, ℕ, ◌+◌, ◌-◌, ◌≤◌, Bool, true, false, if◌then◌else◌, Option, Some, None, [], length, length-append, take, drop, arith}
 use Rattle.std.specs.Option.{IfSome}
 use Rattle.std.specs.List.{slice_get}
 use Rattle.actor_desk.specs.Words.{pick}
@@ -23,7 +23,7 @@ use Rattle.subflow_send.specs.Records.{Record}
 use Rattle.subflow_send.specs.declared.record.RecordKind.TheVariants.{Syn, Data, Fin}
 use Rattle.subflow_send.specs.declared.record.RecordKind.{RecordKind}
 use Rattle.world_laws.proofs.Lanes.Answering.{BeginsFirst}
-use Rattle.world_laws.proofs.Lanes.Showing.{EndShows, HasMapping, IsPiece, IsSummed, KindShows}
+use Rattle.world_laws.proofs.Lanes.Showing.{EndShows, HasFin, HasMapping, IsPiece, IsSummed, KindShows}
 use Rattle.world_laws.proofs.Numbers.TellSmall.{RecordKindTells}
 use Rattle.world_laws.specs.Openings.{PathPlan, Start, path_begins}
 use Rattle.own_runs.proofs.MapPlaces.{octet_in, place_on, sits, stretch, written_within}
@@ -63,11 +63,30 @@ module _ (start : Start) (last : Duo) (path : ℕ) where
   abbrev pub IsMapped : Side → PathMapping ℕ → Type 0
   IsMapped s mapping = MappedOn (content start s) (first_number (own_key (drawn start) s)) (lane_of last path s) mapping
 
+-- how many positions it has
+abbrev pub upto_of : Option Lane → ℕ
+upto_of None = 0
+upto_of (Some l) = length l.sent
+
+-- its FIN stands at this position
+abbrev pub FinOn : Option Lane → ℕ → Type 0
+FinOn None p = ⊥
+FinOn (Some l) p = HasFin l.fins p
+
+-- an infinite mapping: the lane's positions from this one on have the places from this one on, and a FIN there stands at the end of so many octets
+abbrev pub LineOn : Option Lane → ℕ → ℕ → ℕ → Type 0
+LineOn lane limit place position =
+    (1 ≤ position) × ((p : ℕ) → position ≤ p → p ≤ upto_of lane → place_at lane p ≡ place + (p - position))
+    × ((p : ℕ) → FinOn lane p → position ≤ p → place + (p - position) ≡ limit)
+
+abbrev pub LineAt : Start → Duo → ℕ → Side → ℕ → ℕ → Type 0
+LineAt start last path s place position = LineOn (lane_of last path s) (file_len start s) place position
+
 -- ---- an end of a path
 
 module _ (start : Start) (last : Duo) (n : ℕ) (plan : PathPlan) (s : Side) (e : PathEnd) (out back : Lane) (view : View) (shown : EndShows (path_begins start n plan).profile s e out back)
     (hold : LaneHolds view n out) (begins : IsPrefix view.written (pick s start.file_a start.file_b)) (ends : (k : ℕ) → view.end ≡ Some k → k ≡ file_len start s)
-    (later : Lane) (later_there : lane_of last n s ≡ Some later) (longer : Longer out later) (first_is : BeginsFirst s e out) (Lax Fails : Type 0) where
+    (later : Lane) (later_there : lane_of last n s ≡ Some later) (longer : Longer out later) (first_is : BeginsFirst s e out) (Lines : Side → ℕ → ℕ → Type 0) (Fails : Type 0) where
   abbrev c : Profile
   c = (path_begins start n plan).profile
 
@@ -111,7 +130,7 @@ module _ (start : Start) (last : Duo) (n : ℕ) (plan : PathPlan) (s : Side) (e 
       by true = ap (λ (number : ℕ). dss_checksum (record { number = number; relative = 0; length = 1; checksum = 0 }) []) (whole_so start n plan s place)
 
   -- a piece that A sends as long as it may send no DSS
-  begins_so : (r : Record) → IsPiece c s out.alters out.sent out.datas r → FirstFine (file_len start) (IsMapped start last n) Lax Fails c s e.modes.clear r
+  begins_so : (r : Record) → IsPiece c s out.alters out.sent out.datas r → FirstFine (file_len start) (IsMapped start last n) Lines Fails c s e.modes.clear r
   begins_so r is own unclear one =
       let place = place_numbered c s r.mapping.number in
       let len = r.mapping.length in
@@ -121,7 +140,7 @@ module _ (start : Start) (last : Duo) (n : ℕ) (plan : PathPlan) (s : Side) (e 
       (told_so place 1 len r.mapping.checksum has (subst (λ (p : ℕ). IsSummed c s out.sent place p len r.mapping.checksum) one is.summed))
 
   pub kind_so : (kind : RecordKind) (r : Record) → KindShows c s out.alters out.sent out.datas out.fins kind r → RecordKindTells c s kind r
-      → RecordFine (file_len start) (IsMapped start last n) Lax Fails c s e.modes.clear kind r
+      → RecordFine (file_len start) (IsMapped start last n) Lines Fails c s e.modes.clear kind r
   kind_so Syn r is kept = tt
   kind_so Fin r is kept = tt
   kind_so Data r is kept = (

@@ -61,7 +61,7 @@ use Rattle.own_runs.proofs.KeyedPieces.{EndKeyed, HasKey, KindNeeds, Needs, alwa
 use Rattle.own_runs.proofs.MapPlaces.{bears, first_at, place_on}
 use Rattle.own_runs.proofs.MapPositions.{Bears}
 use Rattle.own_runs.proofs.Moments.{MemberAlso, PathAlso, WorldAlso, end_shown, first_same}
-use Rattle.own_runs.proofs.Offering.{AllFine, EndFine, first_fine_sent}
+use Rattle.own_runs.proofs.Offering.{AllFine, EndFine, NoLines, first_fine_sent}
 use Rattle.own_runs.proofs.Own.{own_key}
 use Rattle.own_runs.proofs.Reached.{duo_at, run_reaches}
 use Rattle.own_runs.proofs.SentGrows.{Grows, Longer}
@@ -82,7 +82,7 @@ module _ (start : Start) (last : Duo) (path : ℕ) where
 
   -- what a segment maps and bears
   abbrev pub Offers : Side → PlainSegment → Type 0
-  Offers s sg = AllFine (file_len start) (IsMapped start last path) ⊥ ⊥ s sg.options × Carries BearsMapped s sg
+  Offers s sg = AllFine (file_len start) (IsMapped start last path) NoLines ⊥ s sg.options × Carries BearsMapped s sg
 
 -- ---- a path at a moment
 
@@ -221,16 +221,22 @@ module _ (start : Start) (turns : List Turn) (plain : IsPlain start) (whole : Is
       unfailed None may = tt
       unfailed (Some place) may = both_ways out.alters unaltered may
 
-      end_so : EndFine (file_len start) (IsMapped start last n) ⊥ ⊥ c s e × RecordsCarry (BearsMapped start last n) c s e
+      end_so : EndFine (file_len start) (IsMapped start last n) NoLines ⊥ c s e × RecordsCarry (BearsMapped start last n) c s e
       end_so = (
         record {
-          identity = λ is. false≢true (sym identity ∙ is);
+          fins = λ is. false≢true (sym identity ∙ is);
           infinite = subst (λ (o : Option InfiniteMapping). IfSome o (λ _. ⊥)) (sym own_none) tt;
           told = unfailed e.modes.failed_mapping shown.pairs.4;
           telling = unfailed e.treated.failed_mapping shown.pairs.5;
-          known = known_so start last n there.plan s e out back view shown hold begins ends later later_there longer first_is ⊥ ⊥;
-          ends = λ place is. end_told start last n there.plan s e out back view shown hold begins ends later later_there longer first_is ⊥ ⊥ place;
-          records = record { each = λ i r there_one. kind_so start last n there.plan s e out back view shown hold begins ends later later_there longer first_is ⊥ ⊥ r.kind r (shown.sender.pieces.each i r there_one) (tells.sender.records.each i r there_one).mapped };
+          known = known_so start last n there.plan s e out back view shown hold begins ends later later_there longer first_is NoLines ⊥;
+          ends = λ place is. end_told start last n there.plan s e out back view shown hold begins ends later later_there longer first_is NoLines ⊥ place;
+          records = record {
+            each = λ i r there_one. (
+              kind_so start last n there.plan s e out back view shown hold begins ends later later_there longer first_is NoLines ⊥ r.kind r (shown.sender.pieces.each i r there_one)
+                  (tells.sender.records.each i r there_one).mapped,
+              λ is not_syn. false≢true (sym identity ∙ is),
+            );
+          };
         },
         bears_so,
       )
@@ -243,7 +249,7 @@ module _ (start : Start) (turns : List Turn) (plain : IsPlain start) (whole : Is
         by true whole is = let same : length b.written ≡ k = cc in sym same ∙ ap length (whole refl)
         by false whole is = cc
 
-    fine : (s : Side) → EndFine (file_len start) (IsMapped start last n) ⊥ ⊥ c s (end_at s p) × RecordsCarry (BearsMapped start last n) c s (end_at s p)
+    fine : (s : Side) → EndFine (file_len start) (IsMapped start last n) NoLines ⊥ c s (end_at s p) × RecordsCarry (BearsMapped start last n) c s (end_at s p)
     fine A =
         let hold = holds.ab.lanes.each n n there.ab (omega arith) there.ab_there in
         let later = grows.ab n there.ab there.ab_there in
@@ -259,17 +265,17 @@ module _ (start : Start) (turns : List Turn) (plain : IsPlain start) (whole : Is
     offers : PathOffers start last p
     offers = subst (λ (k : ℕ). IfSome (first_sends p.agenda p) (λ t. Offers start last k t.from (segment_sent p t))) (sym there.numbered) (by (first_sends p.agenda p) maps carries)
       where
-        maps : IfSome (first_sends p.agenda p) (λ t. AllFine (file_len start) (IsMapped start last n) ⊥ ⊥ t.from (segment_sent p t).options)
+        maps : IfSome (first_sends p.agenda p) (λ t. AllFine (file_len start) (IsMapped start last n) NoLines ⊥ t.from (segment_sent p t).options)
         maps =
-            first_fine_sent (file_len start) (IsMapped start last n) ⊥ ⊥ p
-            (λ s. subst (λ (d : Profile). EndFine (file_len start) (IsMapped start last n) ⊥ ⊥ d s (end_at s p)) (sym there.shows.profile) (fine s).0) p.agenda
+            first_fine_sent (file_len start) (IsMapped start last n) NoLines ⊥ p
+            (λ s. subst (λ (d : Profile). EndFine (file_len start) (IsMapped start last n) NoLines ⊥ d s (end_at s p)) (sym there.shows.profile) (fine s).0) p.agenda
 
         carries : IfSome (first_sends p.agenda p) (λ t. Carries (BearsMapped start last n) t.from (segment_sent p t))
         carries =
             first_carries (BearsMapped start last n) p
             (λ s. subst (λ (d : Profile). RecordsCarry (BearsMapped start last n) d s (end_at s p)) (sym there.shows.profile) (fine s).1) p.agenda
 
-        by : (o : Option ToSend) → IfSome o (λ t. AllFine (file_len start) (IsMapped start last n) ⊥ ⊥ t.from (segment_sent p t).options)
+        by : (o : Option ToSend) → IfSome o (λ t. AllFine (file_len start) (IsMapped start last n) NoLines ⊥ t.from (segment_sent p t).options)
             → IfSome o (λ t. Carries (BearsMapped start last n) t.from (segment_sent p t)) → IfSome o (λ t. Offers start last n t.from (segment_sent p t))
         by None one other = tt
         by (Some t) one other = (one, other)

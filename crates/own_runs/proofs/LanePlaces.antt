@@ -103,7 +103,7 @@ module _ (calm : Bool) (limit : ℕ) (few : limit < 2 ^ 31) (content : ℕ → �
     abbrev pub Placed : StreamValue → LaneValue → Type 0
     Placed s l = StreamPlaced calm limit s × LanePlaced l
 
-    abbrev Holds : Mapped → Type 0
+    abbrev pub Holds : Mapped → Type 0
     Holds x = Placed x.stream x.lane × All IsSummed x.learnt
 
     -- ---- a finite mapping
@@ -214,6 +214,15 @@ module _ (calm : Bool) (limit : ℕ) (few : limit < 2 ^ 31) (content : ℕ → �
         by true is = omega (arith, is)
         by false is = omega (arith, is)
 
+    -- its place, where no more was mapped
+    pub mapped_place_is : (teller : Teller) → teller.first ≡ first → (near : ℕ) (offer : Offer) (top : ℕ) (o : OfferIs first limit content where_at near offer) → top ≤ limit
+        → mapped_place teller.first top offer ≡ Some o.place
+    mapped_place_is teller is near offer top o low =
+        let within = ends_so offer o.place o.ends in
+        ap (option_and_then (λ place. if nat_lt (place + mapped_octets offer) (2 ^ 62) then Some place else None))
+        (ap (λ (n : ℕ). place_near n top offer.number) is ∙ near_so first top o.place offer.number o.number (omega (arith, low, few)) (omega (arith, within, few)))
+        ∙ ap (λ (b : Bool). if b then Some o.place else None) (lt-ltb (o.place + mapped_octets offer) (2 ^ 62) (omega (arith, within, few)))
+
     finite_so : (teller : Teller) → teller.first ≡ first → (near : ℕ) (offer : Offer) (state : Mapped) → OfferIs first limit content where_at near offer → Holds state
         → Holds (finite teller offer (mapping.position_near near offer.relative) state)
     finite_so teller is near offer state o h =
@@ -246,11 +255,7 @@ module _ (calm : Bool) (limit : ℕ) (few : limit < 2 ^ 31) (content : ℕ → �
             (sym (relative_so near offer.relative o.low))
 
         place_is : mapped_place teller.first state.stream.top offer ≡ Some o.place
-        place_is =
-            let top = h.0.0.top in let within = upto in
-            ap (option_and_then (λ place. if nat_lt (place + mapped_octets offer) (2 ^ 62) then Some place else None))
-            (ap (λ (n : ℕ). place_near n state.stream.top offer.number) is ∙ near_so first state.stream.top o.place offer.number o.number (omega (arith, top, few)) (omega (arith, within, few)))
-            ∙ ap (λ (b : Bool). if b then Some o.place else None) (lt-ltb (o.place + mapped_octets offer) (2 ^ 62) (omega (arith, within, few)))
+        place_is = mapped_place_is teller is near offer state.stream.top o h.0.0.top
 
     -- an infinite one changes neither the end of what is mapped nor what a position's mapping gave it
     infinite_so : (teller : Teller) → teller.first ≡ first → (position : ℤ) (offer : Offer) (state : Mapped) → InfiniteIs first offer → Holds state
@@ -271,7 +276,7 @@ module _ (calm : Bool) (limit : ℕ) (few : limit < 2 ^ 31) (content : ℕ → �
         by (Some finding) = ((tell_so rule.Infinite teller.packet (Found finding) state.stream refl h.0.0, h.0.1), h.1)
         by None = ((record { top = h.0.0.top; untold = h.0.0.untold }, lined h.0.1), h.1)
 
-    one_so : (teller : Teller) → teller.first ≡ first → (near : ℕ) (offer : Offer) (state : Mapped) → OfferIs first limit content where_at near offer ⊎ InfiniteIs first offer → Holds state
+    pub one_so : (teller : Teller) → teller.first ≡ first → (near : ℕ) (offer : Offer) (state : Mapped) → OfferIs first limit content where_at near offer ⊎ InfiniteIs first offer → Holds state
         → Holds (mapped_at teller offer (mapping.position_near near offer.relative) state)
     one_so teller is near offer state (inl o) h =
         let position = mapping.position_near near offer.relative in
@@ -324,7 +329,7 @@ module _ (calm : Bool) (limit : ℕ) (few : limit < 2 ^ 31) (content : ℕ → �
       abbrev payload : PayloadValue
       payload = payload_at facts position
 
-      held_is : Bears at payload.from payload.held
+      pub held_is : Bears at payload.from payload.held
       held_is j below =
           let it = part_is (max position 1 - position) (payload_len facts) facts.seen.segment.payload j below in
           it.1 ∙ bears (max position 1 - position + j) it.0 ∙ ap at (let same : position + (max position 1 - position + j) ≡ max position 1 + j = omega arith in same)
@@ -340,7 +345,7 @@ module _ (calm : Bool) (limit : ℕ) (few : limit < 2 ^ 31) (content : ℕ → �
               let from = leb-true payload.from p l in let to = ltb-true p (payload.from + length payload.held) m in
               held_is (p - payload.from) (omega (arith, from, to)) ∙ ap at (let same : payload.from + (p - payload.from) ≡ p = omega (arith, from) in same)
 
-      with_octets : (packet : ℕ) (l : LaneValue) → AreAt l.octet → AreAt (with_payload payload packet l).octet
+      pub with_octets : (packet : ℕ) (l : LaneValue) → AreAt l.octet → AreAt (with_payload payload packet l).octet
       with_octets packet l h p = by (l.octet p) (h p)
         where
           by : (o : Option Octet) → IfSome o (λ o. o.octet ≡ at p) → IfSome (option_or o (octet_by payload.from payload.held packet p)) (λ o. o.octet ≡ at p)
@@ -485,17 +490,24 @@ module _ (calm : Bool) (limit : ℕ) (few : limit < 2 ^ 31) (content : ℕ → �
 
     -- ---- all of a segment
 
+    -- before its mappings
+    pub fin_lane : (facts : Facts) (position : ℕ) (l : LaneValue) → LanePlaced l → LanePlaced (fin_taken facts position l)
+    fin_lane facts position l h = by facts.seen.segment.head.fin
+      where
+        by : (b : Bool) → LanePlaced (if b then with_fin (position + facts.seen.payload_len) l else l)
+        by true = record { placed = h.placed; octets = h.octets; waiting = h.waiting }
+        by false = h
+
+    pub none_learnt : All IsSummed []
+    none_learnt = All-nil IsSummed
+
     pub at_so : (facts : Facts) (position : ℕ) (options : List OptionValue) (keys : Keys) (peers s : StreamValue) (l : LaneValue) → IfSome (first_of facts.side keys) (λ n. n ≡ first)
         → All (OptionTells first limit content where_at position) options → All IsCalm options → Bears at position facts.seen.segment.payload → Placed s l
         → Placed (judged_at facts position options keys peers s l).stream (judged_at facts position options keys peers s l).lane
     at_so facts position options keys peers s l is all none bears h =
         let before : Mapped = record { stream = s; lane = fin_taken facts position l; learnt = []; has_line = false } in
         let told = mapped_with facts (first_of facts.side keys) position options before in
-        let held = mapped_so facts (first_of facts.side keys) is position options before all ((h.0, fin_lane facts.seen.segment.head.fin), All-nil IsSummed) in
+        let held = mapped_so facts (first_of facts.side keys) is position options before all ((h.0, fin_lane facts position l h.1), none_learnt) in
         let paid = behind_payload facts position peers.acknowledged told in
         acks_so facts (first_of (peer facts.side) keys) peers options (summed facts (first_of facts.side keys) told.learnt paid) none
         (summed_so facts (first_of facts.side keys) is told.learnt paid held.1 (payload_so facts position peers.acknowledged told bears held.0))
-      where
-        fin_lane : (b : Bool) → LanePlaced (if b then with_fin (position + facts.seen.payload_len) l else l)
-        fin_lane true = record { placed = h.1.placed; octets = h.1.octets; waiting = h.1.waiting }
-        fin_lane false = h.1

@@ -25,6 +25,8 @@ mod EndMarks
 mod EndPaths
 mod EndRuns
 mod FateWords
+mod FinRuns
+mod FinSays
 mod FineMoments
 mod FinePositions
 mod Fitting
@@ -56,8 +58,13 @@ mod KeysSent
 mod KeysShown
 mod KnownKeys
 mod LanePlaces
+mod LastLanes
 mod LateJoins
 mod Learning
+mod Lines
+mod LinesKept
+mod LinesTimes
+mod LinesTrace
 mod MapKept
 mod MapPlaces
 mod MapPositions

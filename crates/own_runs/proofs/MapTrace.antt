@@ -34,7 +34,7 @@ use Rattle.own_runs.proofs.MapKept.{IsFine}
 use Rattle.own_runs.proofs.MapPositions.{Bears, OffersWell, Sit, contents, header}
 use Rattle.own_runs.proofs.Moments.{IsSpoken}
 use Rattle.own_runs.proofs.Numbered.{first_low, number_so}
-use Rattle.own_runs.proofs.Offering.{AllFine, OptionFine}
+use Rattle.own_runs.proofs.Offering.{AllFine, NoLines, OptionFine}
 use Rattle.own_runs.proofs.Own.{IsOwn, own_initial, own_key}
 use Rattle.own_runs.proofs.OwnTrace.{from_is, is_own, path_is, payload_same, seen_of, segment, seq_is, values_are}
 use Rattle.own_runs.proofs.Placing.{PlacedIn}
@@ -104,7 +104,7 @@ module _ (start : Start) (last : Duo) (path : ℕ) (plan : PathPlan) (s : Side) 
     there : (from : ℕ) → from ≡ at → p % 2 ^ 32 ≡ from % 2 ^ 32
     there from is = same ∙ ap (λ (n : ℕ). n % 2 ^ 32) (sym is)
 
-    pub well_so : (o : PlainOption) → PlacedIn key at octets o → OptionFine (file_len start) (IsMapped start last path) ⊥ ⊥ s o → Well p (said_option spelling s o)
+    pub well_so : (o : PlainOption) → PlacedIn key at octets o → OptionFine (file_len start) (IsMapped start last path) NoLines ⊥ s o → Well p (said_option spelling s o)
     well_so (Dss next None) placed is = tt
     well_so (Dss next (Some (Bytes place from len false checksum))) placed is =
         let alike = there from placed.0 in
@@ -147,7 +147,7 @@ module _ (start : Start) (last : Duo) (path : ℕ) (plan : PathPlan) (s : Side) 
     well_so (Fail place) placed is = absurd is
     well_so _ placed is = tt
 
-    wells_so : (options : List PlainOption) → Every (PlacedIn key at octets) options → AllFine (file_len start) (IsMapped start last path) ⊥ ⊥ s options
+    wells_so : (options : List PlainOption) → Every (PlacedIn key at octets) options → AllFine (file_len start) (IsMapped start last path) NoLines ⊥ s options
         → All (Well p) (map (said_option spelling s) options)
     wells_so [] placed each = All-nil (Well p)
     wells_so (o ∷ options) placed each =
@@ -183,13 +183,13 @@ module _ (start : Start) (last : Duo) (path : ℕ) (plan : PathPlan) (s : Side) 
         ⊎_elim (λ here. inl (cover_so o (placed.each 0 o refl) here)) (λ later. inr (covered_so options (record { each = λ i y at_y. placed.each (suc i) y at_y }) later))
         (or_cases (maps_octets o) (list_any maps_octets options) is)
 
-  calm_so : (o : PlainOption) → OptionFine (file_len start) (IsMapped start last path) ⊥ ⊥ s o → TellsNoFail (said_option spelling s o)
+  calm_so : (o : PlainOption) → OptionFine (file_len start) (IsMapped start last path) NoLines ⊥ s o → TellsNoFail (said_option spelling s o)
   calm_so (Fail place) is = is
   calm_so (Capable flag_a flag_c keys) is = tt
   calm_so (Dss next mapping) is = tt
   calm_so _ is = tt
 
-  calmly : (options : List PlainOption) → AllFine (file_len start) (IsMapped start last path) ⊥ ⊥ s options → All TellsNoFail (map (said_option spelling s) options)
+  calmly : (options : List PlainOption) → AllFine (file_len start) (IsMapped start last path) NoLines ⊥ s options → All TellsNoFail (map (said_option spelling s) options)
   calmly [] each = All-nil TellsNoFail
   calmly (o ∷ options) each =
       All-cons TellsNoFail (said_option spelling s o) (map (said_option spelling s) options) (calm_so o (each.each 0 o refl))

@@ -41,7 +41,7 @@ use Rattle.subflow_send.specs.Records.{Record}
 use Rattle.subflow_send.specs.Rules.{is_unsent}
 use Rattle.subflow_send.specs.declared.record.RecordKind.TheVariants.{Syn, Data, Fin}
 use Rattle.subflow_send.specs.declared.record.RecordKind.{RecordKind}
-use Rattle.subflow_tcp.specs.Emitting.{fin_position}
+use Rattle.subflow_tcp.specs.Emitting.{fin_position, is_syn}
 use Rattle.subflow_tcp.specs.State.{has_records}
 use Rattle.world_laws.proofs.Lanes.Records.{every_at, every_find}
 use Rattle.own_runs.proofs.Speaking.{ToSend}
@@ -52,13 +52,17 @@ every_one {X} {P} x h = Every-push {xs = []} x (Every-nil P) h
 pub every_two : {X : Type 0} {P : X → Type 0} (x y : X) → P x → P y → Every P (x ∷ y ∷ [])
 every_two {X} {P} x y h g = Every-push {xs = x ∷ []} y (every_one x h) g
 
--- and each mapping has what is asked of it; infinite mappings, and MP_FAIL, are told only where so much holds
-module _ (limit : Side → ℕ) (Maps : Side → PathMapping ℕ → Type 0) (Lax Fails : Type 0) where
+-- no infinite mapping is told
+abbrev pub NoLines : Side → ℕ → ℕ → Type 0
+NoLines s place position = ⊥
+
+-- and each mapping has what is asked of it, an infinite one too; MP_FAIL is told only where so much holds
+module _ (limit : Side → ℕ) (Maps : Side → PathMapping ℕ → Type 0) (Lines : Side → ℕ → ℕ → Type 0) (Fails : Type 0) where
   -- of a side whose file has so many octets
   abbrev pub MappingFine : Side → PathMapping ℕ → Type 0
   MappingFine s (Bytes place position len fin checksum) = (1 ≤ len) × (fin ≡ false) × (place + len ≤ limit s) × Maps s (Bytes place position len fin checksum)
   MappingFine s (End place checksum) = (place ≡ limit s) × Maps s (End place checksum)
-  MappingFine s (Infinite place position) = Lax
+  MappingFine s (Infinite place position) = Lines s place position
 
   abbrev pub OptionFine : Side → PlainOption → Type 0
   OptionFine s (Dss next mapping) = IfSome mapping (MappingFine s)
@@ -79,14 +83,18 @@ module _ (limit : Side → ℕ) (Maps : Side → PathMapping ℕ → Type 0) (La
       (1 ≤ r.mapping.length) × (place_numbered c s r.mapping.number + r.mapping.length ≤ limit s) × Maps s (piece_mapping c s r) × FirstFine c s clear r
   RecordFine c s clear Fin r = Unit {0}
 
+  -- in plain TCP the infinite mapping of its position may be told beside it
+  abbrev pub PlainFine : Side → Bool → RecordKind → Record → Type 0
+  PlainFine s identity kind r = identity ≡ true → is_syn kind ≡ false → Lines s (r.pos - 1) r.pos
+
   pub record EndFine (c : Profile) (s : Side) (e : PathEnd) : Type 0 where
-    pub identity : e.modes.identity ≡ true → Lax
-    pub infinite : IfSome e.modes.own_infinite (λ _. Lax)
+    pub fins : e.modes.identity ≡ true → Lines s (fin_position e.tcp.send - 1) (fin_position e.tcp.send)
+    pub infinite : IfSome e.modes.own_infinite (λ m. Lines s m.place m.position)
     pub told : IfSome e.modes.failed_mapping (λ _. Fails)
     pub telling : IfSome e.treated.failed_mapping (λ _. Fails)
     pub known : IfSome e.sending.known_end (λ n. n ≡ limit s)
     pub ends : (place : ℕ) → place ≡ limit s → Maps s (End place (checksum_told c (checksum_in c (bare_mapping c s place 0 1) [])))
-    pub records : Every (λ r. RecordFine c s e.modes.clear r.kind r) e.tcp.send.records
+    pub records : Every (λ r. RecordFine c s e.modes.clear r.kind r × PlainFine s e.modes.identity r.kind r) e.tcp.send.records
 
   none_fine : (s : Side) → AllFine s []
   none_fine s = Every-nil (OptionFine s)
@@ -104,14 +112,14 @@ module _ (limit : Side → ℕ) (Maps : Side → PathMapping ℕ → Type 0) (La
   broken_fine s failed lax (Some reason) = Every-append {xs = fail_options failed} (fail_fine s failed lax) (reset_fine s (Some reason))
 
   -- the infinite mapping of an end that fell back
-  plain_tells : (s : Side) (position : ℕ) (e : PathEnd) → Lax → AllFine s (plain_options position e)
+  plain_tells : (s : Side) (position : ℕ) (e : PathEnd) → Lines s (position - 1) position → AllFine s (plain_options position e)
   plain_tells s position e lax = by (owes_mapping e)
     where
       by : (b : Bool) → AllFine s (if b then Dss None (Some (Infinite (position - 1) position)) ∷ [] else [])
       by true = every_one _ lax
       by false = none_fine s
 
-  infinite_tells : (s : Side) (mapping : InfiniteMapping) (e : PathEnd) → Lax → AllFine s (infinite_options mapping e)
+  infinite_tells : (s : Side) (mapping : InfiniteMapping) (e : PathEnd) → Lines s mapping.place mapping.position → AllFine s (infinite_options mapping e)
   infinite_tells s mapping e lax = by (owes_mapping e)
     where
       by : (b : Bool) → AllFine s (Dss (Some e.receiving.next) (if b then Some (Infinite mapping.place mapping.position) else None) ∷ [])
@@ -119,11 +127,13 @@ module _ (limit : Side → ℕ) (Maps : Side → PathMapping ℕ → Type 0) (La
       by false = every_one _ tt
 
   -- by how it sends
-  either_tells : (s : Side) (position : ℕ) (options : List PlainOption) (e : PathEnd) → (e.modes.identity ≡ true → Lax) → IfSome e.modes.own_infinite (λ _. Lax) → AllFine s options
+  either_tells : (s : Side) (position : ℕ) (options : List PlainOption) (e : PathEnd) → (e.modes.identity ≡ true → Lines s (position - 1) position)
+      → IfSome e.modes.own_infinite (λ m. Lines s m.place m.position) → AllFine s options
       → AllFine s (if e.modes.identity then plain_options position e else infinite_or e.modes.own_infinite options e)
   either_tells s position options e plain endless fine = by e.modes.identity refl e.modes.own_infinite endless
     where
-      by : (b : Bool) → e.modes.identity ≡ b → (o : Option InfiniteMapping) → IfSome o (λ _. Lax) → AllFine s (if b then plain_options position e else infinite_or o options e)
+      by : (b : Bool) → e.modes.identity ≡ b → (o : Option InfiniteMapping) → IfSome o (λ m. Lines s m.place m.position)
+          → AllFine s (if b then plain_options position e else infinite_or o options e)
       by true is o lax = plain_tells s position e (plain is)
       by false is None lax = fine
       by false is (Some mapping) lax = infinite_tells s mapping e lax
@@ -188,24 +198,24 @@ module _ (limit : Side → ℕ) (Maps : Side → PathMapping ℕ → Type 0) (La
         every_one _ (is.0, let within = is.1 in omega (arith, within), is.3 of_a.0 (not-true e.modes.clear unclear.0) (eqb-true r.pos 1 unclear.1))
     first_fine None r is first = none_fine s
 
-    piece_fine : (r : Record) → RecordFine c s e.modes.clear Data r → AllFine s (piece_options c s r e)
-    piece_fine r is = either_tells s r.pos (mapped_options c s r e) e h.identity h.infinite (by (is_first_piece s r e) refl)
+    piece_fine : (r : Record) → RecordFine c s e.modes.clear Data r → PlainFine s e.modes.identity Data r → AllFine s (piece_options c s r e)
+    piece_fine r is plain = either_tells s r.pos (mapped_options c s r e) e (λ identity. plain identity refl) h.infinite (by (is_first_piece s r e) refl)
       where
         by : (b : Bool) → is_first_piece s r e ≡ b → AllFine s (if b then first_piece_options c e.modes.peer_key r e else Dss (Some e.receiving.next) (Some (piece_mapping c s r)) ∷ [])
         by true first = first_fine e.modes.peer_key r is first
         by false first = every_one _ (is.0, refl, is.1, is.2)
 
-    fin_fine : (position : ℕ) → AllFine s (fin_options position e)
-    fin_fine position = either_tells s position (Dss (Some e.receiving.next) None ∷ []) e h.identity h.infinite (every_one _ tt)
+    fin_fine : (position : ℕ) → (e.modes.identity ≡ true → Lines s (position - 1) position) → AllFine s (fin_options position e)
+    fin_fine position plain = either_tells s position (Dss (Some e.receiving.next) None ∷ []) e plain h.infinite (every_one _ tt)
 
-    kind_fine : (kind : RecordKind) (r : Record) → RecordFine c s e.modes.clear kind r → AllFine s (record_options kind c s r e)
-    kind_fine Syn r is = syn_fine
-    kind_fine Data r is = piece_fine r is
-    kind_fine Fin r is = fin_fine r.pos
+    kind_fine : (kind : RecordKind) (r : Record) → RecordFine c s e.modes.clear kind r → PlainFine s e.modes.identity kind r → AllFine s (record_options kind c s r e)
+    kind_fine Syn r is plain = syn_fine
+    kind_fine Data r is plain = piece_fine r is plain
+    kind_fine Fin r is plain = fin_fine r.pos (λ identity. plain identity refl)
 
-    record_fine : (o : Option Record) → IfSome o (λ r. RecordFine c s e.modes.clear r.kind r) → AllFine s (record_or_ack c s o e).options
+    record_fine : (o : Option Record) → IfSome o (λ r. RecordFine c s e.modes.clear r.kind r × PlainFine s e.modes.identity r.kind r) → AllFine s (record_or_ack c s o e).options
     record_fine None is = plain_fine
-    record_fine (Some r) is = kind_fine r.kind r is
+    record_fine (Some r) is = kind_fine r.kind r is.0 is.1
 
     unsent_fine : AllFine s (record_or_ack c s (first_unsent e) e).options
     unsent_fine = record_fine (first_unsent e) (every_find is_unsent e.tcp.send.records h.records)
@@ -284,7 +294,7 @@ module _ (limit : Side → ℕ) (Maps : Side → PathMapping ℕ → Type 0) (La
     duty_fine (Duty.Send (SendDuty.FastClose s)) = carried_fine p.profile s (end_at s p) (h s) (end_at s p).notices.carrier
     duty_fine (Duty.Send (SendDuty.Notice s)) = noted_fine p.profile s (end_at s p) (h s) (first_of (end_at s p).notices.queue)
     duty_fine (Duty.Send (SendDuty.DataFin s)) = ack_fine p.profile s (end_at s p) (h s) (end_at s p).tcp.send.nxt (end_at s p).sending.known_end (h s).known
-    duty_fine (Duty.Send (SendDuty.Fin s)) = fin_fine p.profile s (end_at s p) (h s) (fin_position (end_at s p).tcp.send)
+    duty_fine (Duty.Send (SendDuty.Fin s)) = fin_fine p.profile s (end_at s p) (h s) (fin_position (end_at s p).tcp.send) (h s).fins
     duty_fine (Duty.Send (SendDuty.SynAck s)) = syn_fine p.profile s (end_at s p) (h s)
     duty_fine (Duty.Send (SendDuty.Refuse s)) = reset_fine s (Some 1)
     duty_fine (Duty.Send (SendDuty.Again s)) = first_record_fine p.profile s (end_at s p) (h s)

@@ -21,7 +21,7 @@ use Rattle.stream_lanes.specs.Streams.{Direction, StreamEvent, after, asks, asks
 use Rattle.stream_lanes.specs.View.{View, view_of}
 use Rattle.stream_lanes.specs.Words.{Cells, From}
 use Rattle.world_laws.proofs.Lanes.Roads.{put_there}
-use Rattle.own_runs.proofs.SentGrows.{LanesGrow, Longer, asks_grow, event_lanes, set_lanes}
+use Rattle.own_runs.proofs.SentGrows.{LanesGrow, Longer, asks_grow, event_lanes, no_more, set_lanes}
 
 -- the position of a path, before its receiver's edge
 pub record WasPassed (lanes : List Lane) (place : ℕ) : Type 0 where
@@ -80,7 +80,7 @@ module _ (v : View) (d : Direction) (path : ℕ) (p : Lane) (there : slice_get d
   passing = record p { edge = p.edge + length bytes; kept = drop (length bytes) p.kept; due = true; asking = Ask.Nothing }
 
   grown : LanesGrow d.lanes (set d.lanes path passing)
-  grown = set_lanes d.lanes path p passing there (record { more = []; is = sym (append-nil p.sent); edge = omega arith })
+  grown = set_lanes d.lanes path p passing there (record { more = []; is = sym (append-nil p.sent); edge = omega arith; says = no_more p _ refl refl })
 
   there_now : slice_get (set d.lanes path passing) path ≡ Some passing
   there_now = put_there d.lanes path passing (slice_get_within d.lanes path p there)
@@ -117,8 +117,8 @@ module _ (v : View) (d : Direction) (path : ℕ) (p : Lane) (there : slice_get d
     where
       by : (far : Bool) (c : Option ℕ) → AllPassed (set d.lanes path (takes_placed (length bytes) (if far then Beyond (edge d.arrived) else placed_reply c at bytes d.arrived) p))
           (if (if far then false else (if is_some c then false else true)) then record d.arrived { places = places_after at bytes d.arrived } else d.arrived)
-      by true c = left (record p { asking = Ask.Nothing }) (record { more = []; is = sym (append-nil p.sent); edge = omega arith })
-      by false (Some e) = left (record p { asking = Ask.Nothing }) (record { more = []; is = sym (append-nil p.sent); edge = omega arith })
+      by true c = left (record p { asking = Ask.Nothing }) (record { more = []; is = sym (append-nil p.sent); edge = omega arith; says = no_more p _ refl refl })
+      by false (Some e) = left (record p { asking = Ask.Nothing }) (record { more = []; is = sym (append-nil p.sent); edge = omega arith; says = no_more p _ refl refl })
       by false None = taken
 
 -- ---- events

@@ -214,7 +214,7 @@ module _ (calm : Bool) (d : Drawn) (limit : Side → ℕ) (few : (s : Side) → 
         options_are : seen_options keys.checksums seen.segment.options ≡ map Readable own.values
         options_are = ap (λ (c : Bool). seen_options c seen.segment.options) k.checksums ∙ own.options
 
-  new_lane : (path : ℕ) (s : Side) → Laned path s empty_lane
+  pub new_lane : (path : ℕ) (s : Side) → Laned path s empty_lane
   new_lane path s =
       record { placed = λ p. tt; octets = λ p. tt; waiting = All-nil (IsWaiting calm (limit s) (few s) (content s) (first_at s) (where_at path s)) }
 

@@ -33,6 +33,7 @@ use Rattle.own_runs.specs.Fitting.{RunFits}
 use Rattle.own_runs.specs.Runs.{NoPlainRunBreaks, NoRunBreaks, capture_of}
 use Rattle.own_runs.specs.Traces.{FitsCapture, packet_for}
 use Rattle.own_runs.proofs.Bearing.{Carries}
+use Rattle.own_runs.proofs.EndMaps.{LineAt}
 use Rattle.own_runs.proofs.FineMoments.{IsMapped, content, file_len, lane_of, place_at}
 use Rattle.own_runs.proofs.FinePositions.{TellsNoFail}
 use Rattle.own_runs.proofs.Fitting.{traces_fit}
@@ -61,7 +62,7 @@ module _ (start : Start) (Fails : Type 0) (last : Duo) (path : ℕ) (plan : Path
   Well p option = OptionTells (first_number (own_key (drawn start) s)) (file_len start s) (content start s) (where_in last path s) p option
 
   module _ (key at octets p : ℕ) (same : p % 2 ^ 32 ≡ at % 2 ^ 32) (short : (octets ≡ 0) ⊎ (at + octets < 2 ^ 31)) where
-    tells_so : (o : PlainOption) → PlacedIn key at octets o → OptionFine (file_len start) (IsMapped start last path) (Unit {0}) Fails s o → IsSmall (path_begins start path plan).profile s o
+    tells_so : (o : PlainOption) → PlacedIn key at octets o → OptionFine (file_len start) (IsMapped start last path) (LineAt start last path) Fails s o → IsSmall (path_begins start path plan).profile s o
         → Well p (said_option spelling s o)
     tells_so (Dss next None) placed is small = tt
     tells_so (Dss next (Some (Bytes place from len fin checksum))) placed is small =
@@ -76,7 +77,7 @@ module _ (start : Start) (Fails : Type 0) (last : Duo) (path : ℕ) (plan : Path
     tells_so (Capable flag_a flag_c (Both sender receiver)) placed is small = tt
     tells_so _ placed is small = tt
 
-    all_tell : (options : List PlainOption) → Every (PlacedIn key at octets) options → AllFine (file_len start) (IsMapped start last path) (Unit {0}) Fails s options
+    all_tell : (options : List PlainOption) → Every (PlacedIn key at octets) options → AllFine (file_len start) (IsMapped start last path) (LineAt start last path) Fails s options
         → All (IsSmall (path_begins start path plan).profile s) options → All (Well p) (map (said_option spelling s) options)
     all_tell [] placed each small = All-nil (Well p)
     all_tell (o ∷ options) placed each small =
@@ -87,13 +88,13 @@ module _ (start : Start) (Fails : Type 0) (last : Duo) (path : ℕ) (plan : Path
 
   -- where MP_FAIL may not be told
   module _ (never : Fails → ⊥) where
-    calm_so : (o : PlainOption) → OptionFine (file_len start) (IsMapped start last path) (Unit {0}) Fails s o → TellsNoFail (said_option spelling s o)
+    calm_so : (o : PlainOption) → OptionFine (file_len start) (IsMapped start last path) (LineAt start last path) Fails s o → TellsNoFail (said_option spelling s o)
     calm_so (Fail place) is = never is
     calm_so (Capable flag_a flag_c keys) is = tt
     calm_so (Dss next mapping) is = tt
     calm_so _ is = tt
 
-    calmly : (options : List PlainOption) → AllFine (file_len start) (IsMapped start last path) (Unit {0}) Fails s options → All TellsNoFail (map (said_option spelling s) options)
+    calmly : (options : List PlainOption) → AllFine (file_len start) (IsMapped start last path) (LineAt start last path) Fails s options → All TellsNoFail (map (said_option spelling s) options)
     calmly [] each = All-nil TellsNoFail
     calmly (o ∷ options) each =
         All-cons TellsNoFail (said_option spelling s o) (map (said_option spelling s) options) (calm_so o (each.each 0 o refl))
@@ -116,18 +117,18 @@ module _ (start : Start) (calm : Bool) (Fails : Type 0) (never : calm ≡ true �
     payload = s.segment.payload
 
     -- its payload, if it has one
-    borne : ((length payload ≡ 0) ⊎ (position + length payload < 2 ^ 31)) × Bears (λ q. content start x.from (place_at (lane_of last x.path x.from) q)) position payload
+    pub borne : ((length payload ≡ 0) ⊎ (position + length payload < 2 ^ 31)) × Bears (λ q. content start x.from (place_at (lane_of last x.path x.from) q)) position payload
     borne = by s.also.1
       where
         by : Carries (Bearing start Fails last x.path) x.from s.segment
             → ((length payload ≡ 0) ⊎ (position + length payload < 2 ^ 31)) × Bears (λ q. content start x.from (place_at (lane_of last x.path x.from) q)) position payload
         by (inl none) = let empty : length payload ≡ 0 = ap (λ (xs : List ℕ). length xs) none in (inl empty, λ j below. absurd (omega (arith, empty, below)))
-        by (inr is) = (inr is.0, is.1)
+        by (inr is) = (inr is.0.0, is.0.1)
 
-    abbrev own : IsOwn (drawn start) (seen_of (Tells start Fails last) start x s short)
+    abbrev pub own : IsOwn (drawn start) (seen_of (Tells start Fails last) start x s short)
     own = is_own (Tells start Fails last) start x s short
 
-    good : Good (seen_of (Tells start Fails last) start x s short)
+    pub good : Good (seen_of (Tells start Fails last) start x s short)
     good = record {
       own = own;
       at = position;
@@ -153,6 +154,23 @@ module _ (start : Start) (calm : Bool) (Fails : Type 0) (never : calm ≡ true �
 
         Wells : ℕ → ℕ → Side → List OptionValue → Type 0
         Wells = λ p path from values. All (OptionTells (first_number (own_key (drawn start) from)) (file_len start from) (content start from) (where_in last path from) p) values
+
+    -- by its path, its sender, its position and its options
+    pub good_path : good.own.path ≡ x.path
+    unfolding good
+    good_path = path_is (Tells start Fails last) start x s short
+
+    pub good_from : good.own.from ≡ x.from
+    unfolding good
+    good_from = from_is (Tells start Fails last) start x s short
+
+    pub good_at : good.at ≡ s.segment.position
+    unfolding good
+    good_at = refl
+
+    pub good_values : good.own.values ≡ map (said_option (path_begins start x.path s.plan).profile.spelling x.from) s.segment.options
+    unfolding good
+    good_values = values_are (Tells start Fails last) start x s short
 
     packet_good : Fit (packet_for x)
     packet_good = subst (λ (o : Option Seen). IfSome o Good) (sym (found (Tells start Fails last) start x s short)) good

@@ -33,8 +33,12 @@ module _ {X : Type 0} {T : Type 0} (step : T → X → X) (R : X → Type 0) (du
   tail_is : {t u : T} {ts us : List T} → (let one : List T = t ∷ ts in one) ≡ u ∷ us → ts ≡ us
   tail_is e = cc
 
-  pub reaches : (ts : List T) (x : X) (r : R x) → AllGo ts x → (last : Duo) × Grows (duo x r) last × AllReach ts x last
-  reaches [] x r go = (duo x r, same_grows (duo x r), by)
+  -- the last one is one that is reached
+  abbrev pub IsReached : List T → X → Duo → Type 0
+  IsReached ts x last = (r : R (steps ts x)) × (duo (steps ts x) r ≡ last)
+
+  pub reaches : (ts : List T) (x : X) (r : R x) → AllGo ts x → (last : Duo) × Grows (duo x r) last × AllReach ts x last × IsReached ts x last
+  reaches [] x r go = (duo x r, same_grows (duo x r), by, (r, refl))
     where
       by : AllReach [] x (duo x r)
       by [] later e = (r, same_grows (duo x r))
@@ -43,7 +47,7 @@ module _ {X : Type 0} {T : Type 0} (step : T → X → X) (R : X → Type 0) (du
       let next = go.0 r in
       let rest = reaches ts (step t x) next.0 go.1 in
       let grown = then_grows (duo x r) (duo (step t x) next.0) rest.0 next.1 rest.1 in
-      (rest.0, grown, by rest.0 grown rest.2)
+      (rest.0, grown, by rest.0 grown rest.2, rest.3)
     where
       by : (last : Duo) → Grows (duo x r) last → AllReach ts (step t x) last → AllReach (t ∷ ts) x last
       by last grown all [] later e = (r, grown)
@@ -90,11 +94,18 @@ module _ (start : Start) (can : Carries start) where
   EachReaches turns last = (more later : List Turn) → more ++ later ≡ turns
       → (q : Reached can.links start (world_run values more (opened_world start))) × Grows (duo_at (world_run values more (opened_world start)) q) last
 
-  pub run_reaches : (turns : List Turn) → RunIsFirm can.links turns (opened_world start) → (last : Duo) × EachReaches turns last
+  -- these lanes are those behind them all
+  abbrev pub EndsAs : List Turn → Duo → Type 0
+  EndsAs turns last = (q : Reached can.links start (world_run values turns (opened_world start))) × (duo_at (world_run values turns (opened_world start)) q ≡ last)
+
+  pub run_reaches : (turns : List Turn) → RunIsFirm can.links turns (opened_world start) → (last : Duo) × EachReaches turns last × EndsAs turns last
   run_reaches turns firm =
       let all = reaches {X = WorldState Carried} (after_turn values) HasReached duo_at turns (opened_world start) (opened_reached start can)
-      (all_go turns (opened_world start) firm (always_steady start)) in
-      (all.0, λ more later is. moment all.0 more (all.2 more later is))
+      (all_go turns (opened_world start) firm (always_steady start)) in (
+        all.0,
+        λ more later is. moment all.0 more (all.2 more later is),
+        subst (λ (w : WorldState Carried). (q : HasReached w) × (duo_at w q ≡ all.0)) (steps_are turns (opened_world start)) all.3,
+      )
     where
       moment : (last : Duo) (more : List Turn) → (q : HasReached (runs more (opened_world start))) × Grows (duo_at (runs more (opened_world start)) q) last
           → (q : HasReached (world_run values more (opened_world start))) × Grows (duo_at (world_run values more (opened_world start)) q) last

@@ -25,7 +25,7 @@ use Rattle.own_runs.proofs.FineMoments.{IsMapped, Offered, content, file_len, la
 use Rattle.own_runs.proofs.MapKept.{IsFine}
 use Rattle.own_runs.proofs.MapTrace.{few, where_in}
 use Rattle.own_runs.proofs.Moments.{IsSpoken, Nothing}
-use Rattle.own_runs.proofs.Offering.{AllFine, OptionFine}
+use Rattle.own_runs.proofs.Offering.{AllFine, NoLines, OptionFine}
 use Rattle.own_runs.proofs.Own.{own_initial, own_key, same_place}
 use Rattle.own_runs.proofs.OwnTrace.{found, from_is, is_own, path_is, payload_same, seen_of, seq_is, values_are}
 use Rattle.own_runs.proofs.ShownAcks.{IsShown}
@@ -57,7 +57,7 @@ all_say spelling s (o ∷ os) is =
 
 -- where no other maps so
 module _ (start : Start) (last : Duo) (path : ℕ) (s : Side) (spelling : Spelling) (first : ℕ) where
-  one_ends : (o : PlainOption) → OptionFine (file_len start) (IsMapped start last path) ⊥ ⊥ s o → value_ends (said_option spelling s o) ≡ true → EndsOffer (offer_of first (said_option spelling s o))
+  one_ends : (o : PlainOption) → OptionFine (file_len start) (IsMapped start last path) NoLines ⊥ s o → value_ends (said_option spelling s o) ≡ true → EndsOffer (offer_of first (said_option spelling s o))
   one_ends (Dss next (Some (Bytes place position len false checksum))) fine is = absurd (let some = fine.0 in let none = eqb-true len 0 is in omega (arith, some, none))
   one_ends (Dss next (Some (Bytes place position len true checksum))) fine is = refl
   one_ends (Dss next (Some (End place checksum))) fine is = refl
@@ -67,7 +67,7 @@ module _ (start : Start) (last : Duo) (path : ℕ) (s : Side) (spelling : Spelli
   one_ends (Fail place) fine is = absurd fine
   one_ends _ fine is = absurd (false≢true is)
 
-  all_end : (os : List PlainOption) → AllFine (file_len start) (IsMapped start last path) ⊥ ⊥ s os → list_any value_ends (map (said_option spelling s) os) ≡ true
+  all_end : (os : List PlainOption) → AllFine (file_len start) (IsMapped start last path) NoLines ⊥ s os → list_any value_ends (map (said_option spelling s) os) ≡ true
       → EndsIn first (map (said_option spelling s) os)
   all_end [] fine is = absurd (false≢true is)
   all_end (o ∷ os) fine is =

@@ -1,6 +1,7 @@
 -- What each segment of a trace maps and bears, whatever its script does: each finite mapping lies within its side's file, gives its positions the places
--- that they have at the end of the run, and has the checksum of the octets of these places, and each payload has these octets.
-use Rattle.std.proofs.Common.{◌≡◌, refl, sym, ap, ◌∙◌, subst, ℕ, suc, ◌+◌, ◌≤◌, ◌<◌, ◌^◌, ◌⊎◌, inl, inr, Bool, true, false, if◌then◌else◌, Option, Some, None, List, [], ◌++◌, length, length-append, take, drop, arith}
+-- that they have at the end of the run, and has the checksum of the octets of these places, and each payload has these octets. So does an infinite mapping
+-- give the positions behind it their places, or it stands behind the FIN (RFC 8684, section 3.7).
+use Rattle.std.proofs.Common.{◌≡◌, refl, sym, ap, ◌∙◌, subst, ℕ, suc, ◌+◌, ◌-◌, ◌≤◌, ◌<◌, ◌^◌, ◌⊎◌, not, inl, inr, ⊎_elim, Bool, true, false, if◌then◌else◌, Option, Some, None, List, [], ◌++◌, length, length-append, take, drop, arith}
 use Rattle.std.specs.Prelude.{get_or}
 use Rattle.std.specs.Option.{IfSome}
 use Rattle.std.specs.List.{slice_get}
@@ -21,22 +22,24 @@ use Rattle.path_core.specs.Shown.{shown_path}
 use Rattle.path_core.specs.State.{end_at, PathState, path_of}
 use Rattle.path_core.specs.Values.{Carried, values}
 use Rattle.path_segments.specs.Spelled.{PlainSegment}
+use Rattle.path_store.specs.declared.infinite_mapping.InfiniteMapping.{InfiniteMapping}
 use Rattle.send_book.specs.State.{Sending}
 use Rattle.sides.specs.declared.side.Side.TheVariants.{A, B}
 use Rattle.sides.specs.declared.side.Side.{Side}
 use Rattle.stream_lanes.proofs.Duos.{any_held}
 use Rattle.stream_lanes.proofs.Lists.{in_map}
-use Rattle.stream_lanes.specs.Duo.{Duo}
+use Rattle.stream_lanes.specs.Duo.{Duo, flags_ab, flags_ba}
 use Rattle.stream_lanes.specs.Holding.{Holds, LaneHolds}
 use Rattle.stream_lanes.specs.Lane.{Lane}
-use Rattle.stream_lanes.specs.View.{View, end_of}
+use Rattle.stream_lanes.specs.View.{View, end_of, view_of}
 use Rattle.stream_lanes.specs.Words.{Every}
 use Rattle.subflow_send.specs.Records.{Record}
 use Rattle.subflow_send.specs.declared.record.RecordKind.TheVariants.{Syn, Data, Fin}
 use Rattle.subflow_send.specs.declared.record.RecordKind.{RecordKind}
+use Rattle.subflow_tcp.specs.Emitting.{fin_position}
 use Rattle.world_laws.proofs.Lanes.Answering.{BeginsFirst}
 use Rattle.world_laws.proofs.Lanes.OfAWorld.{Carries as MayCarry, NoneIsFirm, PathIsSteady, PathThere, Reached, WorldShows, anyhow, anyhow_free, duo_of, free_run, plainly, plainly_free}
-use Rattle.world_laws.proofs.Lanes.Showing.{EndShows, IsPiece, KindShows}
+use Rattle.world_laws.proofs.Lanes.Showing.{EndShows, IsPiece, KindShows, OwnIs, PairTold}
 use Rattle.world_laws.proofs.Numbers.EveryTurn.{always_tells}
 use Rattle.world_laws.proofs.Numbers.PathSteps.{PathTells}
 use Rattle.world_laws.proofs.Numbers.TellSmall.{EndTells, RecordKindTells}
@@ -52,15 +55,16 @@ use Rattle.world_laws.specs.Promises.{HasRoom, IsPlain, NumbersFit}
 use Rattle.world_laws.specs.Worlds.{WorldState, Turn, world_run}
 use Rattle.world_laws.specs.declared.member.Member.TheVariants.{App, Path}
 use Rattle.own_runs.proofs.Bearing.{Carries, RecordsCarry, first_carries}
-use Rattle.own_runs.proofs.EndMaps.{IsMapped, content, end_told, file_len, kind_so, known_so, lane_of}
+use Rattle.own_runs.proofs.EndMaps.{IsMapped, LineAt, LineOn, content, end_told, file_len, kind_so, known_so, lane_of, upto_of}
 use Rattle.own_runs.proofs.FineMoments.{BorneOn, IsBorne}
+use Rattle.own_runs.proofs.LastLanes.{AtLast, alone_so, at_last, either_plain, fin_line, pair_line, plain_line}
 use Rattle.own_runs.proofs.MapPlaces.{first_at, place_on, sits}
 use Rattle.own_runs.proofs.MapPositions.{Bears}
 use Rattle.own_runs.proofs.Moments.{MemberAlso, PathAlso, WorldAlso, end_shown, first_same}
-use Rattle.own_runs.proofs.Offering.{AllFine, EndFine, first_fine_sent}
+use Rattle.own_runs.proofs.Offering.{AllFine, EndFine, PlainFine, first_fine_sent}
 use Rattle.own_runs.proofs.Own.{own_key}
 use Rattle.own_runs.proofs.PiecesTold.{IsPart, PieceOf, always_pieces}
-use Rattle.own_runs.proofs.Reached.{duo_at, run_reaches}
+use Rattle.own_runs.proofs.Reached.{EachReaches, duo_at, run_reaches}
 use Rattle.own_runs.proofs.SentGrows.{Grows, Longer}
 use Rattle.own_runs.proofs.Speaking.{ToSend}
 use Rattle.own_runs.proofs.Values.{drawn}
@@ -68,19 +72,19 @@ use Rattle.own_runs.proofs.Values.{drawn}
 -- ---- by the lanes of the last moment
 
 module _ (start : Start) (Fails : Type 0) (last : Duo) where
-  -- a payload
+  -- a payload, at positions that the lane has
   abbrev pub Bearing : ℕ → Side → PlainSegment → Type 0
-  Bearing path s sg = IsBorne start last path s sg.position sg.payload
+  Bearing path s sg = IsBorne start last path s sg.position sg.payload × (sg.position + length sg.payload ≤ suc (upto_of (lane_of last path s)))
 
-  -- each option of a segment maps such, and infinite mappings may be told, too, and MP_FAIL where so much holds
+  -- each option of a segment maps such, an infinite mapping, too, and MP_FAIL is told where so much holds
   abbrev pub Tells : ℕ → Side → PlainSegment → Type 0
-  Tells path s sg = AllFine (file_len start) (IsMapped start last path) (Unit {0}) Fails s sg.options × Carries (Bearing path) s sg
+  Tells path s sg = AllFine (file_len start) (IsMapped start last path) (LineAt start last path) Fails s sg.options × Carries (Bearing path) s sg
 
 -- ---- a path at a moment
 
 -- links that alter payload only where MP_FAIL may be told
 module _ (start : Start) (can : MayCarry start) (Fails : Type 0) (failing : can.links.alters ≡ true → Fails) (turns : List Turn) (size : HasRoom start) (fit : NumbersFit start) (last : Duo)
-    (q : Reached can.links start (world_run values turns (opened_world start))) (grown : Grows (duo_at start can (world_run values turns (opened_world start)) q) last) where
+    (q : Reached can.links start (world_run values turns (opened_world start))) (grown : Grows (duo_at start can (world_run values turns (opened_world start)) q) last) (ended : AtLast start last) where
   abbrev v : WorldState Carried
   v = world_run values turns (opened_world start)
 
@@ -136,7 +140,9 @@ module _ (start : Start) (can : MayCarry start) (Fails : Type 0) (failing : can.
     module _ (s : Side) (e : PathEnd) (out back : Lane) (view : View) (shown : EndShows c s e out back) (hold : LaneHolds view n out) (tells : EndTells c s e)
         (begins : IsPrefix view.written (pick s start.file_a start.file_b)) (ends : (k : ℕ) → view.end ≡ Some k → k ≡ file_len start s)
         (later : Lane) (later_there : lane_of last n s ≡ Some later) (longer : Longer out later) (first_is : BeginsFirst s e out)
-        (pieces : Every (IsPart c s (pick s start.file_a start.file_b)) e.tcp.send.records) (alters : out.alters ≡ can.links.alters) where
+        (pieces : Every (IsPart c s (pick s start.file_a start.file_b)) e.tcp.send.records) (alters : out.alters ≡ can.links.alters)
+        (view_last : View) (hold_last : LaneHolds view_last n later) (most : length view_last.written ≤ file_len start s) (closed : (k : ℕ) → view_last.end ≡ Some k → k ≡ file_len start s)
+        (alone : e.modes.identity ≡ true → view_last.alone ≡ true) where
       abbrev first : ℕ
       first = first_number (own_key (drawn start) s)
 
@@ -156,29 +162,64 @@ module _ (start : Start) (can : MayCarry start) (Fails : Type 0) (failing : can.
           ∙ ap (content start s) (sym (sits view n out later hold longer place r.pos r.mapping.length is.mapping j (omega (arith, below, same))))
 
       carries_so : (kind : RecordKind) (r : Record) → KindShows c s out.alters out.sent out.datas out.fins kind r → RecordKindTells c s kind r → r.pos + length r.piece < 2 ^ 31
-          → PieceOf c s (pick s start.file_a start.file_b) kind r → (r.piece ≡ []) ⊎ IsBorne start last n s r.pos r.piece
+          → PieceOf c s (pick s start.file_a start.file_b) kind r → (r.piece ≡ []) ⊎ (IsBorne start last n s r.pos r.piece × (r.pos + length r.piece ≤ suc (upto_of (lane_of last n s))))
       carries_so Syn r is kept few part = inl is
       carries_so Fin r is kept few part = inl is.0
       carries_so Data r is kept few part =
-          inr (subst (λ (o : Option Lane). BorneOn (content start s) o r.pos r.piece) (sym later_there) (few, part_bears r is kept part))
+          inr (
+            subst (λ (o : Option Lane). BorneOn (content start s) o r.pos r.piece) (sym later_there) (few, part_bears r is kept part),
+            let within = is.summed.within in let same = kept.4 in let more = ap length longer.is in
+                subst (λ (o : Option Lane). r.pos + length r.piece ≤ suc (upto_of o)) (sym later_there) (omega (arith, within, same, more, length-append out.sent longer.more)),
+          )
 
-      whatever : {X : Type 0} → (o : Option X) → IfSome o (λ _. Unit {0})
-      whatever None = tt
-      whatever (Some x) = tt
+      -- its infinite mappings
+      on_last : (place position : ℕ) → LineOn (Some later) (file_len start s) place position → LineAt start last n s place position
+      on_last place position is = subst (λ (o : Option Lane). LineOn o (file_len start s) place position) (sym later_there) is
+
+      told_line : (place position : ℕ) → PairTold out.pairs out.fins place position → LineAt start last n s place position
+      told_line place position (inl has) =
+          let line = pair_line view_last n later hold_last (file_len start s) most closed has.at has.item (longer.says.pairs has.at has.item has.there) in
+          on_last place position (subst (λ (q : ℕ). LineOn (Some later) (file_len start s) place q) has.holds.position_is (subst (λ (q : ℕ). LineOn (Some later) (file_len start s) q (suc has.item.pos)) has.holds.place_is line))
+      told_line place position (inr has) = on_last place position (fin_line view_last n later hold_last (file_len start s) has.at has.item (longer.says.fins has.at has.item has.there) place position has.holds)
+
+      own_line : (o : Option InfiniteMapping) → IfSome o (OwnIs out.pair out.pairs out.fins out.alters) → IfSome o (λ m. LineAt start last n s m.place m.position)
+      own_line None is = tt
+      own_line (Some m) is = told_line m.place m.position is.told
+
+      plain_at : e.modes.identity ≡ true → (position : ℕ) → 1 ≤ position → LineAt start last n s (position - 1) position
+      plain_at fell position some = on_last (position - 1) position (plain_line view_last n later hold_last (file_len start s) closed (alone fell) position some)
+
+      record_line : (kind : RecordKind) (r : Record) → KindShows c s out.alters out.sent out.datas out.fins kind r → PlainFine (file_len start) (IsMapped start last n) (LineAt start last n) Fails s e.modes.identity kind r
+      record_line Syn r is fell not_syn = absurd (false≢true (sym not_syn))
+      record_line Data r is fell not_syn = plain_at fell r.pos (let at = is.octets.holds.position_is in omega (arith, at))
+      record_line Fin r is fell not_syn = plain_at fell r.pos (let at = is.1.holds in omega (arith, at))
+
+      behind_first : 1 ≤ fin_position e.tcp.send
+      behind_first = by e.tcp.send.finished refl
+        where
+          by : (b : Bool) → e.tcp.send.finished ≡ b → 1 ≤ (if b then e.tcp.send.nxt - 1 else e.tcp.send.nxt)
+          by true is = let has = shown.sender.sent.fin is in let at = has.holds in omega (arith, at)
+          by false is = let next = shown.sender.sent.next is in omega (arith, next)
 
       may_fail : {X : Type 0} → (o : Option X) → IfSome o (λ _. out.alters ≡ true) → IfSome o (λ _. Fails)
       may_fail None is = tt
       may_fail (Some x) is = failing (sym alters ∙ is)
 
-      end_so : EndFine (file_len start) (IsMapped start last n) (Unit {0}) Fails c s e
+      end_so : EndFine (file_len start) (IsMapped start last n) (LineAt start last n) Fails c s e
       end_so = record {
-        identity = λ is. tt;
-        infinite = whatever e.modes.own_infinite;
+        fins = λ fell. plain_at fell (fin_position e.tcp.send) behind_first;
+        infinite = own_line e.modes.own_infinite shown.pairs.0;
         told = may_fail e.modes.failed_mapping shown.pairs.4;
         telling = may_fail e.treated.failed_mapping shown.pairs.5;
-        known = known_so start last n there.plan s e out back view shown hold begins ends later later_there longer first_is (Unit {0}) Fails;
-        ends = λ place is. end_told start last n there.plan s e out back view shown hold begins ends later later_there longer first_is (Unit {0}) Fails place;
-        records = record { each = λ i r there_one. kind_so start last n there.plan s e out back view shown hold begins ends later later_there longer first_is (Unit {0}) Fails r.kind r (shown.sender.pieces.each i r there_one) (tells.sender.records.each i r there_one).mapped };
+        known = known_so start last n there.plan s e out back view shown hold begins ends later later_there longer first_is (LineAt start last n) Fails;
+        ends = λ place is. end_told start last n there.plan s e out back view shown hold begins ends later later_there longer first_is (LineAt start last n) Fails place;
+        records = record {
+          each = λ i r there_one. (
+            kind_so start last n there.plan s e out back view shown hold begins ends later later_there longer first_is (LineAt start last n) Fails r.kind r (shown.sender.pieces.each i r there_one)
+                (tells.sender.records.each i r there_one).mapped,
+            record_line r.kind r (shown.sender.pieces.each i r there_one),
+          );
+        };
       }
 
       bears_so : RecordsCarry (Bearing start Fails last n) c s e
@@ -208,36 +249,62 @@ module _ (start : Start) (can : MayCarry start) (Fails : Type 0) (failing : can.
         let hold = holds.ab.lanes.each n n there.ab (omega arith) there.ab_there in
         first_at _ n six.control_b.fall.joined p there.ab there.ba refl hold steady there.stands unclear place len has
 
-    fine : (s : Side) → EndFine (file_len start) (IsMapped start last n) (Unit {0}) Fails c s (end_at s p) × RecordsCarry (Bearing start Fails last n) c s (end_at s p)
+    -- the lanes of the last moment
+    last_ab : (later : Lane) → slice_get last.ab.lanes n ≡ Some later → LaneHolds (view_of (flags_ab last.modes) last.ab.send last.ab.arrived) n later
+    last_ab later at = ended.holds.ab.lanes.each n n later (omega arith) at
+
+    last_ba : (later : Lane) → slice_get last.ba.lanes n ≡ Some later → LaneHolds (view_of (flags_ba last.modes) last.ba.send last.ba.arrived) n later
+    last_ba later at = ended.holds.ba.lanes.each n n later (omega arith) at
+
+    fell_so : (duo.modes.plain_a ≡ true) ⊎ (duo.modes.plain_b ≡ true) → not last.modes.answered ≡ true
+    fell_so fell = alone_so last ended.holds (⊎_elim (λ a. inl (grows.plain.a a)) (λ b. inr (grows.plain.b b)) fell)
+
+    swapped : (duo.modes.plain_b ≡ true) ⊎ (duo.modes.plain_a ≡ true) → (duo.modes.plain_a ≡ true) ⊎ (duo.modes.plain_b ≡ true)
+    swapped (inl b) = inr b
+    swapped (inr a) = inl a
+
+    alone_a : p.a.modes.identity ≡ true → not last.modes.answered ≡ true
+    alone_a is =
+        let hold = holds.ab.lanes.each n n there.ab (omega arith) there.ab_there in
+        fell_so (either_plain duo.modes.plain_a duo.modes.plain_b (hold.modes.sender (there.shows.a.sender.plain ∙ is)))
+
+    alone_b : p.b.modes.identity ≡ true → not last.modes.answered ≡ true
+    alone_b is =
+        let hold = holds.ba.lanes.each n n there.ba (omega arith) there.ba_there in
+        fell_so (swapped (either_plain duo.modes.plain_b duo.modes.plain_a (hold.modes.sender (there.shows.b.sender.plain ∙ is))))
+
+    fine : (s : Side) → EndFine (file_len start) (IsMapped start last n) (LineAt start last n) Fails c s (end_at s p) × RecordsCarry (Bearing start Fails last n) c s (end_at s p)
     fine A =
         let hold = holds.ab.lanes.each n n there.ab (omega arith) there.ab_there in
         let later = grows.ab n there.ab there.ab_there in (
-          end_so A p.a there.ab there.ba _ there.shows.a hold told.a writes_a.prefix (closed_so start.file_a six.send_a writes_a.whole) later.0 later.1 later.2 first_a (own_pieces A) hold.link.alters_is,
-          bears_so A p.a there.ab there.ba _ there.shows.a hold told.a writes_a.prefix (closed_so start.file_a six.send_a writes_a.whole) later.0 later.1 later.2 first_a (own_pieces A) hold.link.alters_is,
+          end_so A p.a there.ab there.ba _ there.shows.a hold told.a writes_a.prefix (closed_so start.file_a six.send_a writes_a.whole) later.0 later.1 later.2 first_a (own_pieces A)
+              hold.link.alters_is (view_of (flags_ab last.modes) last.ab.send last.ab.arrived) (last_ab later.0 later.1) (ended.written A) (ended.closed A) alone_a,
+          bears_so A p.a there.ab there.ba _ there.shows.a hold told.a writes_a.prefix (closed_so start.file_a six.send_a writes_a.whole) later.0 later.1 later.2 first_a (own_pieces A)
+              hold.link.alters_is (view_of (flags_ab last.modes) last.ab.send last.ab.arrived) (last_ab later.0 later.1) (ended.written A) (ended.closed A) alone_a,
         )
     fine B =
         let hold = holds.ba.lanes.each n n there.ba (omega arith) there.ba_there in
         let later = grows.ba n there.ba there.ba_there in (
           end_so B p.b there.ba there.ab _ there.shows.b hold told.b writes_b.prefix (closed_so start.file_b six.send_b writes_b.whole) later.0 later.1 later.2
-              (λ own unclear place len has. absurd (false≢true own)) (own_pieces B) hold.link.alters_is,
+              (λ own unclear place len has. absurd (false≢true own)) (own_pieces B) hold.link.alters_is (view_of (flags_ba last.modes) last.ba.send last.ba.arrived) (last_ba later.0 later.1) (ended.written B) (ended.closed B) alone_b,
           bears_so B p.b there.ba there.ab _ there.shows.b hold told.b writes_b.prefix (closed_so start.file_b six.send_b writes_b.whole) later.0 later.1 later.2
-              (λ own unclear place len has. absurd (false≢true own)) (own_pieces B) hold.link.alters_is,
+              (λ own unclear place len has. absurd (false≢true own)) (own_pieces B) hold.link.alters_is (view_of (flags_ba last.modes) last.ba.send last.ba.arrived) (last_ba later.0 later.1) (ended.written B) (ended.closed B) alone_b,
         )
 
     offers : PathAlso (Tells start Fails last) p
     offers = subst (λ (k : ℕ). IfSome (first_sends p.agenda p) (λ t. Tells start Fails last k t.from (segment_sent p t))) (sym there.numbered) (by (first_sends p.agenda p) maps carries)
       where
-        maps : IfSome (first_sends p.agenda p) (λ t. AllFine (file_len start) (IsMapped start last n) (Unit {0}) Fails t.from (segment_sent p t).options)
+        maps : IfSome (first_sends p.agenda p) (λ t. AllFine (file_len start) (IsMapped start last n) (LineAt start last n) Fails t.from (segment_sent p t).options)
         maps =
-            first_fine_sent (file_len start) (IsMapped start last n) (Unit {0}) Fails p
-            (λ s. subst (λ (d : Profile). EndFine (file_len start) (IsMapped start last n) (Unit {0}) Fails d s (end_at s p)) (sym there.shows.profile) (fine s).0) p.agenda
+            first_fine_sent (file_len start) (IsMapped start last n) (LineAt start last n) Fails p
+            (λ s. subst (λ (d : Profile). EndFine (file_len start) (IsMapped start last n) (LineAt start last n) Fails d s (end_at s p)) (sym there.shows.profile) (fine s).0) p.agenda
 
         carries : IfSome (first_sends p.agenda p) (λ t. Carries (Bearing start Fails last n) t.from (segment_sent p t))
         carries =
             first_carries (Bearing start Fails last n) p
             (λ s. subst (λ (d : Profile). RecordsCarry (Bearing start Fails last n) d s (end_at s p)) (sym there.shows.profile) (fine s).1) p.agenda
 
-        by : (o : Option ToSend) → IfSome o (λ t. AllFine (file_len start) (IsMapped start last n) (Unit {0}) Fails t.from (segment_sent p t).options)
+        by : (o : Option ToSend) → IfSome o (λ t. AllFine (file_len start) (IsMapped start last n) (LineAt start last n) Fails t.from (segment_sent p t).options)
             → IfSome o (λ t. Carries (Bearing start Fails last n) t.from (segment_sent p t)) → IfSome o (λ t. Tells start Fails last n t.from (segment_sent p t))
         by None one other = tt
         by (Some t) one other = (one, other)
@@ -266,26 +333,40 @@ module _ (start : Start) (Fails : Type 0) (last : Duo) where
 
 -- at each moment of a run, by its last lanes
 abbrev pub RunTells : Start → Type 0 → List Turn → Type 0
-RunTells start Fails turns = (last : Duo) × ((more later : List Turn) → more ++ later ≡ turns → WorldAlso (Tells start Fails last) (world_run octets more (opened_world start)))
+RunTells start Fails turns =
+    (last : Duo) × ((more later : List Turn) → more ++ later ≡ turns → WorldAlso (Tells start Fails last) (world_run octets more (opened_world start))) × AtLast start last
+
+-- and how these lanes were reached
+abbrev pub RunTold : (start : Start) → MayCarry start → Type 0 → List Turn → Type 0
+RunTold start can Fails turns =
+    (last : Duo) × ((more later : List Turn) → more ++ later ≡ turns → WorldAlso (Tells start Fails last) (world_run octets more (opened_world start))) × AtLast start last
+    × EachReaches start can turns last
 
 module _ (start : Start) (can : MayCarry start) (free : NoneIsFirm can.links) (Fails : Type 0) (failing : can.links.alters ≡ true → Fails) (size : HasRoom start) (fit : NumbersFit start) where
-  tells_by : (turns : List Turn) → RunTells start Fails turns
-  tells_by turns =
+  told_by : (turns : List Turn) → RunTold start can Fails turns
+  told_by turns =
       let reached = run_reaches start can turns (free_run can.links free turns (opened_world start)) in
-      (reached.0, λ more later is. moment reached.0 more (reached.1 more later is))
+      let ended = at_last start can turns reached.0 reached.2 in
+      (reached.0, λ more later is. moment reached.0 ended more (reached.1 more later is), ended, reached.1)
     where
-      moment : (last : Duo) (more : List Turn) → (q : Reached can.links start (world_run values more (opened_world start))) × Grows (duo_at start can (world_run values more (opened_world start)) q) last
+      moment : (last : Duo) → AtLast start last → (more : List Turn) → (q : Reached can.links start (world_run values more (opened_world start))) × Grows (duo_at start can (world_run values more (opened_world start)) q) last
           → WorldAlso (Tells start Fails last) (world_run octets more (opened_world start))
-      moment last more r =
+      moment last ended more r =
           subst (λ (w : WorldState (List ℕ)). WorldAlso (Tells start Fails last) w) (sym (run_fresh start more size fit))
           (λ i c at.
           let found = in_map shown_crew (world_run values more (opened_world start)).crew i c at in
           subst (λ (y : ActorCrew (List ℕ)). MemberAlso (Tells start Fails last) y.member) found.2
-          (member_shown start Fails last found.0.member (valued start can Fails failing more size fit last r.0 r.1 i found.0 found.1)))
+          (member_shown start Fails last found.0.member (valued start can Fails failing more size fit last r.0 r.1 ended i found.0 found.1)))
+
+  tells_by : (turns : List Turn) → RunTells start Fails turns
+  tells_by turns = let told = told_by turns in (told.0, told.1, told.2)
 
 -- whatever the script does
 pub run_tells : (start : Start) (turns : List Turn) → HasRoom start → NumbersFit start → RunTells start (Unit {0}) turns
 run_tells start turns size fit = tells_by start (anyhow start size) (anyhow_free start size) (Unit {0}) (λ is. tt) size fit turns
+
+pub run_told : (start : Start) (turns : List Turn) (size : HasRoom start) → NumbersFit start → RunTold start (anyhow start size) (Unit {0}) turns
+run_told start turns size fit = told_by start (anyhow start size) (anyhow_free start size) (Unit {0}) (λ is. tt) size fit turns
 
 -- no MP_FAIL where it alters no payload
 pub plain_tells : (start : Start) (turns : List Turn) → IsPlain start → NumbersFit start → RunTells start ⊥ turns

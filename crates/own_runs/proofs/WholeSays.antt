@@ -37,7 +37,7 @@ use Rattle.own_runs.proofs.EndRuns.{TellsEnd}
 use Rattle.own_runs.proofs.FineMoments.{BearsMapped, IsMapped, Offered, file_len}
 use Rattle.own_runs.proofs.Fitting.{traces_fit}
 use Rattle.own_runs.proofs.Moments.{IsSpoken, MemberAlso, WorldAlso, trace_spoken, turn_spoken, world_speaks}
-use Rattle.own_runs.proofs.Offering.{AllFine, OptionFine}
+use Rattle.own_runs.proofs.Offering.{AllFine, NoLines, OptionFine}
 use Rattle.own_runs.proofs.Placing.{PlacedIn}
 use Rattle.own_runs.proofs.ShownAcks.{EndTold, IsShown, OfferedAndAcked, delivered_ends, whole_acks}
 use Rattle.own_runs.proofs.ShownSeen.{ends_here, value_ends}
@@ -91,7 +91,7 @@ module _ (key position octets : ℕ) where
 -- ---- a DATA_FIN
 
 module _ (start : Start) (last : Duo) (path : ℕ) (s : Side) (spelling : Spelling) where
-  fin_one : (o : PlainOption) → OptionFine (file_len start) (IsMapped start last path) ⊥ ⊥ s o → value_ends (said_option spelling s o) ≡ true → IsDataFin (file_len start s) o
+  fin_one : (o : PlainOption) → OptionFine (file_len start) (IsMapped start last path) NoLines ⊥ s o → value_ends (said_option spelling s o) ≡ true → IsDataFin (file_len start s) o
   fin_one (Dss next (Some (Bytes place at len false checksum))) fine is = absurd (let some = fine.0 in let none = eqb-true len 0 is in omega (arith, some, none))
   fin_one (Dss next (Some (Bytes place at len true checksum))) fine is = absurd (false≢true (sym fine.1))
   fin_one (Dss next (Some (End place checksum))) fine is = fine.0
@@ -101,7 +101,7 @@ module _ (start : Start) (last : Duo) (path : ℕ) (s : Side) (spelling : Spelli
   fin_one (Fail place) fine is = absurd fine
   fin_one _ fine is = absurd (false≢true is)
 
-  fin_all : (os : List PlainOption) → AllFine (file_len start) (IsMapped start last path) ⊥ ⊥ s os → list_any value_ends (map (said_option spelling s) os) ≡ true → Has (IsDataFin (file_len start s)) os
+  fin_all : (os : List PlainOption) → AllFine (file_len start) (IsMapped start last path) NoLines ⊥ s os → list_any value_ends (map (said_option spelling s) os) ≡ true → Has (IsDataFin (file_len start s)) os
   fin_all [] fine is = absurd (false≢true is)
   fin_all (o ∷ os) fine is =
       ⊎_elim (λ here. has_first o os (fin_one o (fine.each 0 o refl) here)) (λ later. has_rest o os (fin_all os (rest_each o os fine) later))

@@ -42,6 +42,8 @@ pub fn traces_are_their_segments()
 /// HMACs of both keys and nonces (`join_hmac`, section 3.2), an ADD_ADDR that of its address (`address_hmac`, section 3.4.1), and MP_FASTCLOSE
 /// the key of its receiver (`fast_close_key`, section 3.5). Nor is payload sent outside of a mapping of its segment (`within`, section 3.3.1),
 /// nor has a position of a subflow two places, nor a number none (`mapping`), and each checksum is that of its mapping and its octets (`dss_sum`).
+/// Nor has a place two octets, also where an infinite mapping gives it its octet (`place_content`, section 3.7). The DATA_FIN stands at one place,
+/// and no data behind it, also where a FIN stands for it under an infinite mapping (`data_fin`, sections 3.3.3 and 3.7).
 /// Where the script alters no payload no MP_FAIL names what is no mapping (`fail`, section 3.7), as there is none.
 ///
 /// The capture is that of a trace (`traces_are_their_segments`), with sums checked. It holds of every list of turns, lawful or not, whatever the
@@ -57,6 +59,8 @@ pub fn own_runs_break_no_rule()
     ensures within { NoRunBreaks Within }
     ensures mapping { NoRunBreaks Mapping }
     ensures dss_sum { NoRunBreaks DssSum }
+    ensures place_content { NoRunBreaks PlaceContent }
+    ensures data_fin { NoRunBreaks DataFin }
     ensures fail { NoPlainRunBreaks Fail }
 {}
 

@@ -1,48 +1,72 @@
 -- A wait for an answer goes on by each turn between open ends, or something is counted.
-use Rattle.std.proofs.Common.{◌≡◌, sym, subst, ap, ◌∙◌, ◌⊎◌, ⊎_elim, inl, inr, ℕ, ◌+◌, ◌<◌, ◌≤◌, arith, true, List, [], ◌∷◌, ◌++◌}
+use Rattle.std.proofs.Common.{◌≡◌, sym, subst, ap, ◌∙◌, ◌⊎◌, ⊎_elim, inl, inr, ℕ, ◌+◌, ◌<◌, ◌≤◌, arith, true, List, [], ◌∷◌, ◌++◌, Bool, false, if◌then◌else◌, Option, Some, None, IfSome, IsSome, is_some, map, refl, true≢false}
 use Rattle.std.proofs.lemmas.Bool.{cases_lt}
 use Rattle.sides.specs.declared.side.Side.{Side}
 use Rattle.sides.specs.Side.{peer}
 use Rattle.actor_desk.specs.Books.{books_in}
-use Rattle.actor_desk.specs.Desk.{SixBooks}
+use Rattle.actor_desk.specs.Desk.{SixBooks, reassembly_of}
 use Rattle.path_core.specs.State.{PathState, end_at}
 use Rattle.path_core.specs.Values.{Carried, values}
-use Rattle.world_laws.specs.Actors.{Actor, is_over}
+use Rattle.world_laws.specs.Actors.{Actor, is_over, ActorCrew, member_next}
 use Rattle.world_laws.specs.Members.{HoldsOfKind}
 use Rattle.world_laws.specs.Openings.{PathPlan, Start, opened_world}
 use Rattle.world_laws.specs.RoundDone.{EndsAt, reached}
-use Rattle.world_laws.specs.Worlds.{WorldState, Turn, after_turn}
+use Rattle.world_laws.specs.Worlds.{WorldState, Turn, after_turn, all_over, begins, greatest}
 use Rattle.world_laws.proofs.Rounds.DoneByTheEnd.{rounds_end_on_time}
 use Rattle.world_laws.proofs.Rounds.Lifting.{all_over_each}
 use Rattle.world_laws.proofs.Weaving.WholeRounds.{run_append}
-use Rattle.whole_paths.specs.AnswerWaits.{AnswersAreAwaitedAlways, AwaitsAnAnswer, HasAnAsk}
+use Rattle.whole_paths.specs.AnswerWaits.{AnswersAreAwaitedAlways, AwaitsAnAnswer, HasAnAsk, AnswersAreAwaited, IsWantedOrUnknown}
 use Rattle.whole_paths.specs.AskStages.{AnswerIsAwaitedBy, AnswerIsAwaitedFrom, AnswerIsAwaitedOn, IsAnswerAwaited}
 use Rattle.whole_paths.specs.AskStages.{AnswerIsAwaitedOn as goes}
 use Rattle.whole_paths.specs.Courses.{BeginsARound, TakesAStep, counted, round_end}
 use Rattle.whole_paths.specs.Finish.{IsPathAt}
 use Rattle.whole_paths.specs.Mild.{IsMildStart}
 use Rattle.whole_paths.specs.News.{Counts as counts}
-use Rattle.whole_paths.specs.OpenAsks.{AskIsDue, IsHardlyAwry}
+use Rattle.whole_paths.specs.OpenAsks.{AskIsDue, IsHardlyAwry, IsUnansweredAt}
+use Rattle.whole_paths.specs.News.{Gains as gains}
 use Rattle.whole_paths.specs.OpenAsks.{IsHardlyAwry as hardly}
 use Rattle.whole_paths.specs.OpenCourses.{HoldUpsCount, IsOpenAfter, IsOpenNow}
 use Rattle.whole_paths.specs.Straying.{IsOpen}
 use Rattle.whole_paths.specs.Timers.{TimersAreNear}
 use Rattle.whole_paths.proofs.AskStages.{open_asks_are_answered}
-use Rattle.whole_paths.proofs.Counted.{what_holds_up_counts}
+use Rattle.whole_paths.proofs.Counted.{what_holds_up_counts, by_news}
 use Rattle.whole_paths.proofs.InTime.{nil_so}
 use Rattle.whole_paths.proofs.OpenAsksGoOn.{open_asks_are_in_time, past_the_end}
-use Rattle.whole_paths.proofs.RecordWaits.{counts_so, edge_up, here, path_is}
+use Rattle.whole_paths.proofs.RecordWaits.{counts_so, edge_up, here, path_is, with_both}
 use Rattle.whole_paths.proofs.RoundBegins.{no_round_counts}
 use Rattle.whole_paths.proofs.Timing.{timers_run_out}
 use Rattle.whole_paths.specs.Closing.{IsFinHeard}
-use Rattle.whole_paths.specs.ClosingKnown.{HeardIsWanted}
-use Rattle.whole_paths.specs.DataAcksNow.{KnowsWhatCame}
+use Rattle.whole_paths.specs.ClosingKnown.{HasTheEnd}
 use Rattle.whole_paths.specs.DataAcksOwed.{KnowsWhereItSends}
-use Rattle.whole_paths.proofs.ClosingKnown.{what_is_heard_is_wanted}
-use Rattle.whole_paths.proofs.DataAcksNow.{each_data_ack_is_up_to_date}
-use Rattle.whole_paths.proofs.DataAcksOwed.{wants_known}
+use Rattle.whole_paths.proofs.ClosingKnown.{each_end_is_told_first, wanted_or_unknown, who_heard_the_end_knows_it}
+use Rattle.std.specs.List.{slice_get}
+use Rattle.std.proofs.lemmas.Option.{same_Some}
+use Rattle.reassembly_book.specs.Steps.{next_wanted}
+use Rattle.actor_desk.specs.declared.ask.Note.{Note}
+use Rattle.subflow_tcp.specs.States.{is_dead}
+use Rattle.path_core.specs.Looking.{first_sends, segment_sent}
+use Rattle.path_core.specs.Steps.{next_round}
+use Rattle.stream_lanes.proofs.Lists.{in_map}
+use Rattle.whole_paths.specs.Between.{PathsBetween}
+use Rattle.whole_paths.specs.Wanted.{WantsOn, WantsUpTo}
+use Rattle.whole_paths.proofs.News.{each_gain_counts}
+use Rattle.whole_paths.proofs.Saying.{ToSend}
+use Rattle.whole_paths.proofs.Wanted.{what_is_wanted_is_told}
 
-module _ (start : Start) (plan : PathPlan) (one : start.paths ≡ plan ∷ []) (mild : IsMildStart start) where
+-- ---- a round begins
+
+round_is : (w : WorldState Carried) → all_over w.crew ≡ true → after_turn values Turn.Round w ≡ record w { crew = map (begins (greatest 0 w.crew)) w.crew }
+round_is w over = ap (λ b. if b then record w { crew = map (begins (greatest 0 w.crew)) w.crew } else w) over
+
+-- the path is the next round's then
+at_round : (w : WorldState Carried) → all_over w.crew ≡ true → (p q : PathState Carried) → IsPathAt 0 w p → IsPathAt 0 (after_turn values Turn.Round w) q → (P : PathState Carried → Type 0) → P (next_round p) → P q
+at_round w over p q here there P h =
+    let found = in_map (begins (greatest 0 w.crew)) w.crew 2 there.crew (subst (λ (u : WorldState Carried). slice_get u.crew 2 ≡ Some there.crew) (round_is w over) there.there) in
+    let first : found.0 ≡ here.crew = same_Some found.0 here.crew (sym found.1 ∙ here.there) in
+    let member : member_next here.crew.member ≡ there.crew.member = ap (λ (c : ActorCrew Carried). member_next c.member) (sym first) ∙ ap (λ (c : ActorCrew Carried). c.member) found.2 in
+    subst (HoldsOfKind (λ app. Unit {0}) P) there.is (subst (HoldsOfKind (λ app. Unit {0}) P) member (subst (λ (m : Actor Carried). HoldsOfKind (λ app. Unit {0}) P (member_next m)) (sym here.is) h))
+
+module _ (start : Start) (mild : IsMildStart start) where
   -- ---- a turn
 
   module _ (turns : List Turn) (turn : Turn) where
@@ -61,15 +85,15 @@ module _ (start : Start) (plan : PathPlan) (one : start.paths ≡ plan ∷ []) (
     last : reached values start more ≡ v
     last = run_append values turns (turn ∷ []) (opened_world start)
 
-    module _ (x : ℕ) (before : IsOpenNow w) (after : IsOpenNow v) (h : AwaitsAnAnswer start x turns) where
+    -- an end of an open path waits for an answer
+    module _ (x : ℕ) (before : IsOpenNow w) (after : IsOpenNow v) (s : Side) (place : ℕ) (fin : Bool) (by : ℕ) (soon : by ≤ x)
+        (room : (end_at (peer s) before.path).tcp.send.nxt ≤ (end_at s before.path).tcp.recv.edge + 1048576)
+        (waits : IsAnswerAwaited (books_in w.books) s place fin by before.path) where
       abbrev p : PathState Carried
       p = before.path
 
       abbrev q : PathState Carried
       q = after.path
-
-      abbrev s : Side
-      s = h.side
 
       abbrev six : SixBooks
       six = books_in w.books
@@ -77,24 +101,11 @@ module _ (start : Start) (plan : PathPlan) (one : start.paths ≡ plan ∷ []) (
       abbrev later : SixBooks
       later = books_in v.books
 
-      same : h.path ≡ p
-      same = path_is w h.path p h.here before.here
-
-      room : (end_at (peer s) p).tcp.send.nxt ≤ (end_at s p).tcp.recv.edge + 1048576
-      room = subst (λ (y : PathState Carried). (end_at (peer s) y).tcp.send.nxt ≤ (end_at s y).tcp.recv.edge + 1048576) same h.room
-
-      waits : IsAnswerAwaited six s h.place h.fin h.by p
-      waits = subst (IsAnswerAwaited six s h.place h.fin h.by) same h.waits
-
-      -- over one path the peer's end knows what its book wants, and the book knows of the DATA_FIN that was heard
-      knows : (h.fin ≡ true → IsFinHeard (peer s) p) → KnowsWhereItSends (peer s) h.place p
-      knows came = wants_known six (peer s) h.place p
-          (subst (HoldsOfKind (λ app. Unit {0}) (KnowsWhatCame six)) before.here.is ((each_data_ack_is_up_to_date values start turns plan one).each 2 before.here.crew before.here.there))
-          (subst (HoldsOfKind (λ app. Unit {0}) (HeardIsWanted w.books)) before.here.is (what_is_heard_is_wanted start turns mild.plain.size 2 before.here.crew before.here.there)
-          s h.place h.fin (past_the_end h.place h.fin _ _ waits.unanswered) waits.has came)
-
       abbrev Next : Type 0
       Next = Rises ⊎ AwaitsAnAnswer start x more
+
+      abbrev IsWanted : SixBooks → PathState Carried → Type 0
+      IsWanted books p = IsWantedOrUnknown books (peer s) place fin p
 
       so_counted : counts p q → Rises
       so_counted is = counts_so start mild turns turn before after is
@@ -105,39 +116,71 @@ module _ (start : Start) (plan : PathPlan) (one : start.paths ≡ plan ∷ []) (
           (λ few. still (let up = edge_up start mild turns turn before after s in omega (arith, few, room, up)))
           (cases_lt (end_at (peer s) p).tcp.send.nxt (end_at (peer s) q).tcp.send.nxt)
 
-      goes_by : IsAnswerAwaited later s h.place h.fin h.by q → Next
-      goes_by then_waits = if_room (λ then_room. inr (record {
+      goes_by : IsWanted later q → IsAnswerAwaited later s place fin by q → Next
+      goes_by wanted then_waits = if_room (λ then_room. inr (record {
         path = q;
         here = subst (λ (y : WorldState Carried). IsPathAt 0 y q) (sym last) after.here;
         side = s;
-        place = h.place;
-        fin = h.fin;
-        by = h.by;
-        soon = h.soon;
+        place = place;
+        fin = fin;
+        by = by;
+        soon = soon;
         room = then_room;
-        waits = subst (λ (y : WorldState Carried). IsAnswerAwaited (books_in y.books) s h.place h.fin h.by q) (sym last) then_waits;
+        waits = subst (λ (y : WorldState Carried). IsAnswerAwaited (books_in y.books) s place fin by q) (sym last) then_waits;
+        wanted = subst (λ (y : WorldState Carried). IsWanted (books_in y.books) q) (sym last) wanted;
       }))
 
       is_awry : IsHardlyAwry s p q → Next
       is_awry (hardly.past_window past) = absurd (omega (arith, past, room))
 
-      by_answer : AnswerIsAwaitedOn later s h.place h.fin h.by p q → Next
-      by_answer (goes.on then_waits) = goes_by then_waits
-      by_answer (goes.sends more_sent) = inl (so_counted (counts.sent_more s more_sent))
-      by_answer (goes.held_up held) = inl (here start mild turns turn before after (λ m n. HoldUps m n)
+      by_answer : IsWanted later q → AnswerIsAwaitedOn later s place fin by p q → Next
+      by_answer wanted (goes.on then_waits) = goes_by wanted then_waits
+      by_answer wanted (goes.sends more_sent) = inl (so_counted (counts.sent_more s more_sent))
+      by_answer wanted (goes.held_up held) = inl (here start mild turns turn before after (λ m n. HoldUps m n)
           (what_holds_up_counts start turns turn before.here.crew after.here.crew before.here.there after.here.there) before.is_open.living after.is_open.living before.few s held)
         where
           HoldUps : Actor Carried → Actor Carried → Type 0
           HoldUps m n = HoldUpsCount Rises m n
-      by_answer (goes.awry is) = is_awry is
+      by_answer wanted (goes.awry is) = is_awry is
 
-      goes_on : Next
-      goes_on = by_answer (here start mild turns turn before after (AnswerIsAwaitedBy six later)
+      goes_on : ((fin ≡ true → IsFinHeard (peer s) p) → KnowsWhereItSends (peer s) place p) → IsWanted later q → Next
+      goes_on knows wanted = by_answer wanted (here start mild turns turn before after (AnswerIsAwaitedBy six later)
           (open_asks_are_answered.goes_on start turns turn mild 2 before.here.crew after.here.crew before.here.there after.here.there)
-          before.is_open after.is_open before.few s h.place h.fin h.by knows waits)
+          before.is_open after.is_open before.few s place fin by knows waits)
+
+      -- the peer's end knows what its book wants as it sends; where the book isn't told the end, none was heard as a segment goes
+      knows_so : IsWanted six p → (fin ≡ true → IsFinHeard (peer s) p) → KnowsWhereItSends (peer s) place p
+      knows_so (inl wants) came = (what_is_wanted_is_told values).sends six (peer s) place p wants
+      knows_so (inr unknown) came = none_sent (first_sends p.agenda p) (each_end_is_told_first p (peer s) (came unknown.0))
+        where
+          has_end : HasTheEnd six p
+          has_end = subst (HoldsOfKind (λ app. Unit {0}) (HasTheEnd six)) before.here.is ((who_heard_the_end_knows_it values start turns).each 2 before.here.crew before.here.there)
+
+          none_sent : (o : Option ToSend) → IfSome o (λ t. t.from ≡ peer s → (segment_sent p t).rst ≡ false → (end_at (peer s) p).sending.close.peer_came ≡ true)
+              → IfSome o (λ t. t.from ≡ peer s → is_dead (end_at (peer s) p).tcp.state ≡ false → (segment_sent p t).rst ≡ false → place ≤ (end_at (peer s) p).receiving.next)
+          none_sent None told = tt
+          none_sent (Some t) told = λ own living unreset. absurd (true≢false (sym (subst IsSome unknown.1 (has_end (peer s) (told own unreset)))))
+
+      -- it is wanted still, or the book is told the end, which counts
+      wanted_on : IsWanted six p → Rises ⊎ IsWanted later q
+      wanted_on (inl wants) = inr (inl ((with_both start mild turns turn before after (λ m n. (steps : List Note) × PathsBetween WantsOn w.books v.books steps m n)
+          (let found = (what_is_wanted_is_told values).goes_on w turn 2 before.here.crew before.here.there in (found.0, found.1, (found.0.list, found.2)))).1 (peer s) place wants))
+      wanted_on (inr unknown) = by_end (reassembly_of (peer s) later).known_end refl
+        where
+          by_end : (o : Option ℕ) → (reassembly_of (peer s) later).known_end ≡ o → Rises ⊎ IsWanted later q
+          by_end None now = inr (inr (unknown.0, now))
+          by_end (Some e) now = inl (by_news start turns turn (each_gain_counts values start turns (turn ∷ []) (peer s) (gains.learns (ap is_some unknown.1) (ap is_some now))))
+
+      waits_on : IsWanted six p → Next
+      waits_on wanted = ⊎_elim (λ rises. inl rises) (λ then_wanted. goes_on (knows_so wanted) then_wanted) (wanted_on wanted)
 
     turn_on : (x : ℕ) → IsOpenAfter start turns → IsOpenAfter start more → AwaitsAnAnswer start x turns → Rises ⊎ AwaitsAnAnswer start x more
-    turn_on x before after h = goes_on x before (subst IsOpenNow last after) h
+    turn_on x before after h =
+        let same : h.path ≡ before.path = path_is w h.path before.path h.here before.here in
+        waits_on x before (subst IsOpenNow last after) h.side h.place h.fin h.by h.soon
+        (subst (λ (y : PathState Carried). (end_at (peer h.side) y).tcp.send.nxt ≤ (end_at h.side y).tcp.recv.edge + 1048576) same h.room)
+        (subst (IsAnswerAwaited (books_in w.books) h.side h.place h.fin h.by) same h.waits)
+        (subst (IsWantedOrUnknown (books_in w.books) (peer h.side) h.place h.fin) same h.wanted)
 
   -- ---- rounds
 
@@ -182,27 +225,49 @@ module _ (start : Start) (plan : PathPlan) (one : start.paths ≡ plan ∷ []) (
 
       wait_begins : HasAnAsk start v → AwaitsAnAnswer start (round_end values start v + 60800) u
       wait_begins h = ⊎_elim
-          (λ rises. absurd (let same = ap (counted values start) step.is ∙ no_round_counts start v step.over in omega (arith, rises, same)))
-          (λ waits. waits)
-          (opens_on (round_end values start v + 60800) awaited)
+          (λ rises. absurd (let same = ap (counted values start) step.is ∙ no_round_counts start v step.over in let up = subst (λ t. counted values start v < counted values start t) (sym step.is) rises in omega (arith, up, same)))
+          (λ waits. subst (AwaitsAnAnswer start (round_end values start v + 60800)) (sym step.is) waits)
+          (goes_on v Turn.Round (round_end values start v + 60800) step.before after h.side h.place h.fin (q.clock + 60000 + 400 + 400)
+          (let clock = (near q step.before.here).clock in let ends = until q step.before.here in omega (arith, clock, ends))
+          (subst (λ (y : PathState Carried). (end_at (peer h.side) y).tcp.send.nxt ≤ (end_at h.side y).tcp.recv.edge + 1048576) same h.room)
+          (begun q step.before.here step.before.is_open (silent q step.before.here) h.side (subst (λ (y : PathState Carried). (end_at h.side y).tcp.send.records ≡ []) same h.none) h.place h.fin unanswered h.has)
+          (λ came. subst (λ ds. IfSome (first_sends ds q) (λ t. t.from ≡ peer h.side → is_dead (end_at (peer h.side) q).tcp.state ≡ false → (segment_sent q t).rst ≡ false → h.place ≤ (end_at (peer h.side) q).receiving.next))
+          (sym (silent q step.before.here)) tt)
+          wanted)
         where
-          awaited : AwaitsAnAnswer start (round_end values start v + 60800) v
-          awaited = record {
-            path = h.path;
-            here = h.here;
-            side = h.side;
-            place = h.place;
-            fin = h.fin;
-            by = h.path.clock + 60000 + 400 + 400;
-            soon = (let clock = (near h.path h.here).clock in let ends = until h.path h.here in omega (arith, clock, ends));
-            room = h.room;
-            waits = begun h.path h.here (opened h.path h.here) (silent h.path h.here) h.side h.none h.place h.fin h.unanswered h.has;
-          }
+          q : PathState Carried
+          q = step.before.path
 
-pub answers_are_awaited_always : AnswersAreAwaitedAlways
-answers_are_awaited_always start plan most one mild = record {
-  begins = λ v u step h. wait_begins start plan one mild most v u step h;
-  on = λ x v u step h. steps_on start plan one mild most x v u step h;
-  next = λ x v u step h. opens_on start plan one mild most v u step x h;
-  due = λ x v u step h late. absurd (none_late start plan one mild most v u step x h late);
+          same : h.path ≡ q
+          same = path_is ended h.path q h.here step.before.here
+
+          now : WorldState Carried
+          now = after_turn values Turn.Round ended
+
+          after : IsOpenNow now
+          after = subst IsOpenNow (run_append values v (Turn.Round ∷ []) (opened_world start)) (subst (IsOpenAfter start) step.is step.after)
+
+          unanswered : IsUnansweredAt (books_in ended.books) h.side h.place h.fin q
+          unanswered = subst (IsUnansweredAt (books_in ended.books) h.side h.place h.fin) same h.unanswered
+
+          same_books : books_in now.books ≡ books_in ended.books
+          same_books = ap (λ (y : WorldState Carried). books_in y.books) (round_is ended step.over)
+
+          wanted : IsWantedOrUnknown (books_in now.books) (peer h.side) h.place h.fin after.path
+          wanted = ⊎_elim
+              (λ wants. inl (at_round ended step.over q after.path step.before.here after.here (WantsUpTo (books_in now.books) (peer h.side) h.place)
+              ((what_is_wanted_is_told values).begins (books_in now.books) (peer h.side) h.place q (subst (λ (six : SixBooks). h.place ≤ next_wanted (reassembly_of (peer h.side) six)) (sym same_books) wants))))
+              (λ unknown. inr (unknown.0, ap (λ (six : SixBooks). (reassembly_of (peer h.side) six).known_end) same_books ∙ unknown.1))
+              (wanted_or_unknown start v mild.plain.size h.side h.place h.fin (past_the_end h.place h.fin _ _ unanswered) h.has)
+
+pub answers_are_awaited : AnswersAreAwaitedAlways
+answers_are_awaited start most mild = record {
+  begins = λ v u step h. wait_begins start mild most v u step h;
+  on = λ x v u step h. steps_on start mild most x v u step h;
+  next = λ x v u step h. opens_on start mild most v u step x h;
+  due = λ x v u step h late. absurd (none_late start mild most v u step x h late);
 }
+
+-- over one path
+pub answers_are_awaited_always : (start : Start) (plan : PathPlan) (most : ℕ) → start.paths ≡ plan ∷ [] → IsMildStart start → AnswersAreAwaited start most
+answers_are_awaited_always start plan most one mild = answers_are_awaited start most mild

@@ -42,7 +42,7 @@ use Rattle.whole_paths.proofs.Turns.{books_by_turns}
 
 -- ---- what stays by a call
 
-abbrev is_done : Option ByteMark → Bool
+abbrev pub is_done : Option ByteMark → Bool
 is_done None = false
 is_done (Some mark) = is_acked mark
 

@@ -300,6 +300,17 @@ module _ (start : Start) (turns : List Turn) (size : HasRoom start) where
   streams : (s : Side) → IsOfTheStream (reassembly_of (peer s) (books_in w.books)) (send_of s (books_in w.books))
   streams = (let shown = always_shown start turns size in shown_books (anyhow start size).links start shown.0 w shown.1.1 shown.1.0)
 
+  -- what is received before this place, or all but the place of the DATA_FIN, the book wants, or it doesn't know the end yet
+  pub wanted_or_unknown : (s : Side) (place : ℕ) (fin : Bool) → IsPastTheEnd w.books s place fin → place ≤ received (reassembly_of (peer s) (books_in w.books)) + one_if fin
+      → (place ≤ next_wanted (reassembly_of (peer s) (books_in w.books))) ⊎ ((fin ≡ true) × ((reassembly_of (peer s) (books_in w.books)).known_end ≡ None))
+  wanted_or_unknown s place false past low = inl (let within : place ≤ received (reassembly_of (peer s) (books_in w.books)) + 0 = low in omega (arith, within))
+  wanted_or_unknown s place true past low = by (reassembly_of (peer s) (books_in w.books)).known_end refl
+    where
+      by : (o : Option ℕ) → (reassembly_of (peer s) (books_in w.books)).known_end ≡ o
+          → (place ≤ next_wanted (reassembly_of (peer s) (books_in w.books))) ⊎ ((true ≡ true) × ((reassembly_of (peer s) (books_in w.books)).known_end ≡ None))
+      by None at = inr (refl, at)
+      by (Some e) at = inl (past_all (reassembly_of (peer s) (books_in w.books)) place e low at (let all = (streams s).ends e at in let most = (streams s).within in let far = past refl in omega (arith, all, most, far, low)))
+
   module _ (p : PathState Carried) (known : HasTheEnd (books_in w.books) p) (s : Side) (place : ℕ) where
     abbrev b : Arriving
     b = reassembly_of (peer s) (books_in w.books)

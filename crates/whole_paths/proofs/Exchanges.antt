@@ -22,7 +22,7 @@ use Rattle.stream_lanes.specs.Words.{Every}
 use Rattle.subflow_recv.specs.Receiving.{Receiving}
 use Rattle.subflow_send.specs.Records.{Record, end_of, occupied}
 use Rattle.subflow_send.specs.declared.record.RecordKind.TheVariants.{Data}
-use Rattle.subflow_tcp.specs.Judging.{ends_in_window, is_acceptable, is_at_right_edge, is_in_window, meaning_of}
+use Rattle.subflow_tcp.specs.Judging.{ends_in_window, is_acceptable, is_at_right_edge, is_in_window}
 use Rattle.subflow_tcp.specs.Segments.{occupied as occupied_by}
 use Rattle.subflow_tcp.specs.State.{is_at_limit}
 use Rattle.subflow_tcp.specs.States.{is_dead, is_opening}
@@ -43,7 +43,6 @@ use Rattle.path_core.specs.Profile.{Profile}
 use Rattle.path_core.specs.State.{PathState, end_at}
 use Rattle.path_core.specs.Values.{Carried, as_arrived, carried_by, values, stripped, altered}
 use Rattle.path_core.specs.declared.events.Event.TheVariants as happenings
-use Rattle.path_core.specs.declared.judged.Judged.TheVariants as judged
 use Rattle.world_laws.specs.declared.member.Member.TheVariants.{App, Path}
 use Rattle.world_laws.specs.Actors.{Actor, ActorCrew}
 use Rattle.world_laws.specs.Members.{HoldsOfKind}

@@ -1,7 +1,7 @@
 -- Where a script's text tells that few segments are lost, and none of A's, both files are delivered in time; until then the connection goes on.
-use Rattle.std.proofs.Common.{◌≡◌, refl, subst, ap, ◌∙◌, ◌⊎◌, inl, inr, ℕ, zero, suc, ◌≤◌, arith, Bool, true, false, ◌&&◌, List, [], ◌∷◌, Some}
-use Rattle.std.specs.Prelude.{All}
-use Rattle.std.specs.List.{slice_get}
+use Rattle.std.proofs.Common.{◌≡◌, refl, subst, ap, ◌∙◌, ◌⊎◌, inl, inr, ℕ, zero, suc, ◌+◌, ◌≤◌, arith, Bool, true, false, ◌&&◌, List, [], ◌∷◌, Some}
+use Rattle.std.specs.Prelude.{not, if◌then◌else◌, length, All}
+use Rattle.std.specs.List.{list_all, slice_get}
 use Rattle.std.proofs.lemmas.List.Elements.{All-head}
 use Rattle.std.proofs.lemmas.Option.{same_Some}
 use Rattle.sides.specs.declared.side.Side.TheVariants.{A, B}
@@ -9,6 +9,7 @@ use Rattle.link_script.specs.Scripts.{IsPath}
 use Rattle.link_script.specs.declared.script.PathLine.{PathLine}
 use Rattle.link_script.specs.declared.script.Script.{Script}
 use Rattle.subflow_tcp.specs.States.{is_dead}
+use Rattle.link_model.specs.Laws.{moves}
 use Rattle.path_core.specs.Events.{is_dead_or_listening}
 use Rattle.path_core.specs.Octets.{octets}
 use Rattle.path_core.specs.Start.{waiting_path}
@@ -16,14 +17,15 @@ use Rattle.path_core.specs.Steps.{begins_turn}
 use Rattle.path_core.specs.Values.{Carried, values}
 use Rattle.world_laws.specs.declared.outcome.Outcome.TheVariants.{Delivered, Going}
 use Rattle.world_laws.specs.Actors.{ActorCrew}
-use Rattle.world_laws.specs.Openings.{PathPlan, Start, opened_world, path_begins, plan_of, start_of}
+use Rattle.world_laws.specs.Openings.{PathPlan, Start, opened_world, path_begins, plan_of, plans_from, start_of}
 use Rattle.world_laws.specs.Outcomes.{are_all_dead, is_no_live_path, notes_of, outcome_by, outcome_of, tells_abort, tells_end, was_told}
 use Rattle.world_laws.specs.RoundDone.{reached}
 use Rattle.world_laws.specs.Worlds.{Turn, AreLawful}
-use Rattle.whole_paths.specs.FewTexts.{FewTextsFinish, FewTextsGoOn, LosesFew}
-use Rattle.whole_paths.specs.Finish.{AnEndDied, IsBrief, harmed, harms_to, opened, patience, rounds_in}
+use Rattle.whole_paths.specs.FewTexts.{FewTextsFinish, FewTextsGoOn, LosesFew, early_by_text}
+use Rattle.whole_paths.specs.FilesFit.{FitsFirstWindow}
+use Rattle.whole_paths.specs.Finish.{AnEndDied, IsBrief, harmed, harms_to, opened, patience, rounds_in, segments}
 use Rattle.whole_paths.specs.OnePathScripts.{BeginsWithOnePath}
-use Rattle.whole_paths.specs.QuietOpenings.{lost_early}
+use Rattle.whole_paths.specs.QuietOpenings.{lost_early, segments_on}
 use Rattle.whole_paths.proofs.AckedData.{opened_here}
 use Rattle.whole_paths.proofs.Deliveries.{never_aborted}
 use Rattle.whole_paths.proofs.FewLossesDeliver.{few_losses_end_none}
@@ -32,6 +34,7 @@ use Rattle.whole_paths.proofs.OnePathScripts.{mild_scripts_begin_with_one_path}
 use Rattle.whole_paths.proofs.OpeningEnds.{LaterPath, later_path}
 use Rattle.whole_paths.proofs.OverOctets.{as_far}
 use Rattle.whole_paths.proofs.PatientPaths.{few_losses_finish_patiently_in_octets}
+use Rattle.whole_paths.proofs.QuietOpenings.{lost_early_fits}
 use Rattle.whole_paths.proofs.QuietTexts.{nothing_comes_early_by_text}
 
 -- a path lives
@@ -66,13 +69,23 @@ module _ (script : Script) (path : PathLine) (file_a file_b : List ℕ) (turns :
   short : plan.delay ≤ 400
   short = let most = (All-head IsPath path [] (subst (λ (ps : List PathLine). All IsPath ps) h.mild.one h.mild.ranges.paths)).delay.most in omega (arith, most)
 
-  none_early : lost_early start turns ≡ 0
-  none_early = nothing_comes_early_by_text start plan turns one short h.none_of_a brief.few living
+  -- no more count than come early by the text
+  few_early : lost_early start turns ≤ early_by_text script path file_a
+  few_early = by (list_all (λ line. not (moves A line)) script.lines) refl h.early
+    where
+      one_path : segments_on start.paths file_a ≡ segments path.mss (length file_a)
+      one_path = ap (λ lines. segments_on (plans_from script 0 lines) file_a) h.mild.one
 
-  finishes : AreLawful octets turns (opened script file_a file_b) → patience script path file_a file_b (harms_to 0 script) ≤ rounds_in turns
+      by : (b : Bool) → list_all (λ line. not (moves A line)) script.lines ≡ b → (b ≡ true) ⊎ FitsFirstWindow start A
+          → lost_early start turns ≤ (if b then 0 else segments path.mss (length file_a))
+      by true all early = let none = nothing_comes_early_by_text start plan turns one short all brief.few living in omega (arith, none)
+      by false some (inl none) = cc (none)
+      by false some (inr fits) = let few = lost_early_fits start turns fits in let same = one_path in omega (arith, few, same)
+
+  finishes : AreLawful octets turns (opened script file_a file_b) → patience script path file_a file_b (harms_to 0 script + early_by_text script path file_a) ≤ rounds_in turns
       → outcome_of (reached octets start turns).crew ≡ Delivered
   finishes lawful many = few_losses_finish_patiently_in_octets script path file_a file_b turns h.mild brief h.harmless (let low = uses in let most = h.few in omega (arith, low, most)) lawful
-      (let none = none_early in let low = uses in omega (arith, none, low, many))
+      (let early = few_early in let low = uses in omega (arith, early, low, many))
 
   -- ---- until then
 

@@ -319,3 +319,6 @@ pub mod FewTexts
 pub mod BriefRuns
 pub mod FirstMissing
 pub mod GrantReasons
+pub mod MissingBytes
+pub mod ReturnWaits
+pub mod CountedCourses

@@ -277,7 +277,7 @@ module _ {C : Type 0} (k : Codec C) (start : Start) (since : List Turn) (s : Sid
     why = λ free goes owner refused. absurd (true≢false (sym refused));
   }
 
-some_crew : {X : Type 0} (i : ℕ) (xs : List X) → i < length xs → (x : X) × (slice_get xs i ≡ Some x)
+pub some_crew : {X : Type 0} (i : ℕ) (xs : List X) → i < length xs → (x : X) × (slice_get xs i ≡ Some x)
 some_crew i [] low = absurd (omega (arith, low))
 some_crew zero (x ∷ xs) low = (x, refl)
 some_crew (suc i) (x ∷ xs) low = some_crew i xs (omega (arith, low))

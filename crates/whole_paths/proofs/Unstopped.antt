@@ -63,16 +63,16 @@ use Rattle.world_laws.proofs.Falls.ChecksPass.{is_failure}
 use Rattle.world_laws.proofs.Rounds.Frame.{first_keeps, takes_keeps}
 use Rattle.world_laws.proofs.Rounds.Lifting.{opened_lifted, run_lifted}
 use Rattle.world_laws.proofs.Weaving.Journals.{books_after}
-use Rattle.world_laws.proofs.Whole.Falls.{MemberUpright, PathUpright, each_upright, sides_never_fall}
+use Rattle.world_laws.proofs.Whole.Falls.{MemberUpright, each_upright, sides_never_fall}
 use Rattle.world_laws.proofs.Worlds.Turns.{turn_so}
 use Rattle.world_laws.proofs.Writes.Asks.{asks_no_more}
 use Rattle.whole_paths.specs.AgendaSteps.{Follows, Happened, is_told}
 use Rattle.whole_paths.specs.AgendaSteps.{Follows as follows}
 use Rattle.whole_paths.specs.AgendaSteps.{Happened as happened}
-use Rattle.whole_paths.specs.Mild.{IsUnbroken, IsNeverBroken, IsMildStart, is_harsh}
+use Rattle.whole_paths.specs.Mild.{IsMildStart}
 use Rattle.whole_paths.specs.Unstopped.{MildPathsAreNeverStopped, NothingIsStopped}
 use Rattle.whole_paths.proofs.Agendas.{answered_follows}
-use Rattle.whole_paths.proofs.Breaking.{never_breaks, none_noted, stops_speak}
+use Rattle.whole_paths.proofs.Breaking.{none_noted, stops_speak}
 use Rattle.whole_paths.proofs.Unbroken.{none_heard}
 use Rattle.sides.specs.Side.{peer}
 use Rattle.link_script.specs.Places.{same_side}

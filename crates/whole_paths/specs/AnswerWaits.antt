@@ -1,13 +1,13 @@
 -- A wait for the answer of an ask: until its exchange is over by this tick (RFC 8684, section 3.3.2).
-use Rattle.std.specs.Prelude.{ℕ, ◌+◌, ◌≡◌, ◌<◌, ◌≤◌, ◌⊎◌, Bool, List, [], ◌∷◌}
+use Rattle.std.specs.Prelude.{ℕ, ◌+◌, ◌≡◌, ◌<◌, ◌≤◌, ◌⊎◌, Bool, true, List, [], None}
 use Rattle.sides.specs.declared.side.Side.{Side}
 use Rattle.sides.specs.Side.{peer}
 use Rattle.reassembly_book.specs.State.{received}
 use Rattle.actor_desk.specs.Books.{books_in}
-use Rattle.actor_desk.specs.Desk.{reassembly_of}
+use Rattle.actor_desk.specs.Desk.{SixBooks, reassembly_of}
 use Rattle.path_core.specs.State.{PathState, end_at}
 use Rattle.path_core.specs.Values.{Carried, values}
-use Rattle.world_laws.specs.Openings.{PathPlan, Start}
+use Rattle.world_laws.specs.Openings.{Start}
 use Rattle.world_laws.specs.RoundDone.{reached}
 use Rattle.world_laws.specs.Worlds.{Turn}
 use Rattle.whole_paths.specs.AskStages.{IsAnswerAwaited}
@@ -17,9 +17,15 @@ use Rattle.whole_paths.specs.Mild.{IsMildStart}
 use Rattle.whole_paths.specs.News.{one_if}
 use Rattle.whole_paths.specs.OpenAsks.{IsUnansweredAt}
 use Rattle.whole_paths.specs.RecordWaits.{Opens, Steps}
+use Rattle.whole_paths.specs.Wanted.{WantsUpTo}
+
+-- the side's book wants this place, and its end knows so or asks before it sends; or the book doesn't know yet where the stream ends
+abbrev pub IsWantedOrUnknown : SixBooks → Side → ℕ → Bool → PathState Carried → Type 0
+IsWantedOrUnknown six s place fin p = WantsUpTo six s place p ⊎ ((fin ≡ true) × ((reassembly_of s six).known_end ≡ None))
 
 module _ (start : Start) where
-  -- After these turns an end of path 0 without a record waits for an answer, and its peer sent no more than the end's window has room for.
+  -- After these turns an end of path 0 without a record waits for an answer, and its peer sent no more than the end's window has room for. The peer's
+  -- book wants the place, and its end knows so or asks before it sends; or the book isn't told yet where the stream ends.
   pub record AwaitsAnAnswer (x : ℕ) (turns : List Turn) : Type 0 where
     pub path : PathState Carried
     pub here : IsPathAt 0 (reached values start turns) path
@@ -30,6 +36,7 @@ module _ (start : Start) where
     pub soon : by ≤ x
     pub room : (end_at (peer side) path).tcp.send.nxt ≤ (end_at side path).tcp.recv.edge + 1048576
     pub waits : IsAnswerAwaited (books_in (reached values start turns).books) side place fin by path
+    pub wanted : IsWantedOrUnknown (books_in (reached values start turns).books) (peer side) place fin path
 
   -- such an end is to be answered by a place all before which its peer's book has, but for the byte of the DATA_FIN
   pub record HasAnAsk (turns : List Turn) : Type 0 where
@@ -51,6 +58,6 @@ module _ (start : Start) where
     pub next : (x : ℕ) (v u : List Turn) → Opens start most v u → AwaitsAnAnswer x v → (counted values start v < counted values start u) ⊎ AwaitsAnAnswer x u
     pub due : (x : ℕ) (v u : List Turn) → Opens start most v u → AwaitsAnAnswer x v → x < round_end values start v → counted values start v < counted values start u
 
--- in each mild connection over one path
+-- in each mild connection, over however many paths
 abbrev pub AnswersAreAwaitedAlways : Type 0
-AnswersAreAwaitedAlways = (start : Start) (plan : PathPlan) (most : ℕ) → start.paths ≡ plan ∷ [] → IsMildStart start → AnswersAreAwaited start most
+AnswersAreAwaitedAlways = (start : Start) (most : ℕ) → IsMildStart start → AnswersAreAwaited start most

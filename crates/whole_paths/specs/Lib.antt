@@ -192,3 +192,6 @@ pub mod Refusals
 pub mod QuietTexts
 pub mod FewTexts
 pub mod FirstMissing
+pub mod MissingBytes
+pub mod ReturnWaits
+pub mod CountedCourses

@@ -1,5 +1,5 @@
 -- Connections that nobody stops: no side closes at once, so no book is aborted (RFC 8684, section 3.5).
-use Rattle.std.specs.Prelude.{◌≡◌, false, None, List, [], ◌∷◌}
+use Rattle.std.specs.Prelude.{◌≡◌, false, None, List}
 use Rattle.sides.specs.declared.side.Side.{Side}
 use Rattle.path_core.specs.Values.{values}
 use Rattle.world_laws.specs.Openings.{Start, opened_world}

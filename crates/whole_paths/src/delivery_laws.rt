@@ -364,11 +364,13 @@ pub fn open_asks_are_answered()
     ensures { OpenAsksAreAnswered }
 {}
 
-/// A law: a wait for such an answer goes on between open ends of a mild connection over one path until the end is answered, or something is
-/// counted, and it is never late.
+/// A law: a wait for such an answer goes on between open ends of path 0 of a mild connection until the end is answered, or something is counted,
+/// and it is never late, over any number of paths.
 ///
 /// So it is while the peer sent no more than the end's window has room for: nothing leads the exchange awry then, between two moments at which
-/// path 0 is open. As a round begins, such a wait begins for an end without a record, for a minute and 800 ticks.
+/// path 0 is open. As a round begins, such a wait begins for an end without a record, for a minute and 800 ticks: the peer's book wants the
+/// place, of which its end learns by its path's next turn, before that sends; or the book isn't told yet where the stream ends, and to learn it
+/// counts.
 pub fn answers_are_awaited_always()
     ensures { AnswersAreAwaitedAlways }
 {}

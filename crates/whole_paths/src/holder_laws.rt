@@ -4,11 +4,14 @@ ghost use Rattle.path_core.specs.Values.{values};
 ghost use Rattle.world_laws.specs.Laws.{Always};
 ghost use Rattle.world_laws.specs.Promises.{HoldsAnyway, HoldsAnywayOfOctets};
 ghost use Rattle.whole_paths.specs.BookNews.{BookNewsIsBounded, BookNewsNeverFalls, EachByteCounts, WhatIsGivenBackCounts};
+ghost use Rattle.whole_paths.specs.CountedCourses.{PathsAreCounted};
 ghost use Rattle.whole_paths.specs.FirstMissing.{EachMissingByteIsHeld};
 ghost use Rattle.whole_paths.specs.GivenBack.{EachReturnCounts, GivenBackIsBounded, GivenBackNeverFalls};
 ghost use Rattle.whole_paths.specs.HolderWaits.{HoldersLetGo};
 ghost use Rattle.whole_paths.specs.Holders.{HoldersLive, WhatIsTriedIsAwaited};
+ghost use Rattle.whole_paths.specs.MissingBytes.{WhatIsMissingIsAwaited};
 ghost use Rattle.whole_paths.specs.Refusals.{WhoAsksIsRefused};
+ghost use Rattle.whole_paths.specs.ReturnWaits.{AllNewsIsBounded, ReturnsAreAwaitedAlways};
 
 /// A law: a byte that a path tried and that isn't acknowledged stands in a piece that the path's end waits for, whatever the links do, over any number of
 /// paths (RFC 8684, section 3.3.6).
@@ -80,4 +83,32 @@ pub fn who_asks_is_refused()
 /// (`holders_let_go`); or the path may take it. So it is over any number of paths, whatever the links do.
 pub fn each_missing_byte_is_held()
     ensures { EachMissingByteIsHeld }
+{}
+
+/// A law: as a round of a mild connection is over, a byte that was written as it began and isn't acknowledged is waited for, whichever path is asked that
+/// may ask for bytes (RFC 8684, sections 3.3.5, 3.3.6 and 3.3.8).
+///
+/// The path's end waits for a piece that has the byte; or another path holds it, and gives it back within a minute (`holders_let_go`); or the end knows that
+/// the window is shut, which didn't reach past the byte as the round began; or something became of a byte of the stream in the round
+/// (`each_byte_counts`). Or the path was on standby when it asked last.
+pub fn what_is_missing_is_awaited()
+    ensures { WhatIsMissingIsAwaited }
+{}
+
+/// A law: how far a connection over any number of paths is, as one number, never falls, and is bounded by files, buffers, paths and lines; and a wait for
+/// a byte that another path holds ends with news.
+///
+/// The number is that of `news_never_falls` and, of both streams, that of `each_byte_counts` (`bounded`). A byte that a path holds is waited for, for a
+/// minute from the round's end on; by any turn the wait goes on, or the number rises; and no round whose turns are over ends past its tick (`awaited`).
+pub fn returns_are_awaited_always()
+    ensures bounded { AllNewsIsBounded }
+    ensures awaited { ReturnsAreAwaitedAlways }
+{}
+
+/// A law: how far a connection over any number of paths is, with the harmed segments of one path, never falls, and is bounded by what is harmed.
+///
+/// So a connection in which something is waited for as each round begins, for so long, and in which what is waited for is counted, is over after rounds
+/// enough for all that can be counted.
+pub fn paths_are_counted()
+    ensures { PathsAreCounted }
 {}

@@ -1,5 +1,5 @@
 -- A world as its values have it: its state, and whether it failed for want of memory.
-use Rattle.std.specs.Prelude.{ℕ, ◌≡◌, ◌<◌, Bool, true, false, List, [], length}
+use Rattle.std.specs.Prelude.{ℕ, ◌≡◌, ◌<◌, ◌^◌, Bool, true, false, List, [], length}
 use Rattle.stream_lanes.specs.Words.{Every}
 use Rattle.path_core.specs.Octets.{octets}
 use Rattle.world_laws.specs.Fine.{IsFine}
@@ -44,6 +44,10 @@ pub record IsSound (w : WorldState (List ℕ)) : Type 0 where
   pub timely : AreTimely w.crew
   -- the stamp is that one
   pub round : IsInRoundAbove top w
+
+-- each actor has fewer than 2^57 notes
+abbrev pub HasFewNotes : WorldState (List ℕ) → Type 0
+HasFewNotes w = Every (λ c. length c.list < 2 ^ 57) w.crew
 
 -- a world with what its readers were told
 pub record IsKept (failed : Bool) (w : WorldState (List ℕ)) (h : Hearing) : Type 0 where

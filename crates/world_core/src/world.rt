@@ -4,7 +4,7 @@ ghost use Rattle.std.specs.Prelude.{◌≡◌, ◌<◌, false, length};
 ghost use Rattle.std.specs.List.{list_all};
 ghost use Rattle.sides.specs.declared.side.Side.TheVariants.{A, B};
 ghost use Rattle.world_core.specs.Hearing.{WasHeard, heard_by};
-ghost use Rattle.world_core.specs.Kept.{IsSound, standing, world};
+ghost use Rattle.world_core.specs.Kept.{HasFewNotes, IsSound, standing, world};
 ghost use Rattle.world_laws.specs.Outcomes.{are_all_dead, is_no_live_path, notes_at, notes_of, outcome_of};
 ghost use Rattle.world_laws.specs.Serial.{goes_on};
 
@@ -104,9 +104,10 @@ fn heard_now(crew: &[Crew], failed: bool, heard: Heard) -> Hearing
 }
 
 impl World {
-    /// How the connection stands. Takes no memory.
+    /// How the connection stands. Takes no memory. Unless the connection failed, each actor has fewer than 2^57 notes.
     pub fn outcome(&self) -> Outcome
-        ensures { result ≡ outcome_of self.now.state.crew }
+        ensures value { result ≡ outcome_of self.now.state.crew }
+        ensures few { self.now.failed ≡ false → HasFewNotes self.now.state }
     {
         if self.hearing.a.abort {
             Outcome::Aborted(Side::A)

@@ -2,7 +2,7 @@ use Rattle.std.proofs.Common.{sym, map, string_bytes}
 use Rattle.run_words.specs.Lines.{as_line}
 use Rattle.mptcp_run.specs.Messages.{messages_in}
 use Rattle.mptcp_run.proofs.MessagesShown.{messages_shown, messages_called, taken, not_taken, taken_is_asked, of_line, of_nothing, not_nothing, unread_messages, unread_lines, unread_called}
-use Rattle.mptcp_run.proofs.MessagesClean.{clean_if_messages}
+use Rattle.mptcp_run.proofs.MessagesClean.{clean_if_messages, few_if_messages}
 use Rattle.mptcp_run.proofs.Asking.{unread}
 use Rattle.mptcp_run.proofs.messages.run_messages.Goals as goal
 
@@ -26,6 +26,10 @@ pub returns-in-Ok-clause-clean : goal.returns-in-Ok-clause-clean
 returns-in-Ok-clause-clean g c =
     clean_if_messages (g.O.Outside.told c.args.outside) (g.O.Outside.told c.run_line.result.1) c.run_line.result.0 (messages_in (map string_bytes c.args.words.now)) (returns-in-Ok-clause-answer g c)
 
+pub returns-in-Ok-clause-few : goal.returns-in-Ok-clause-few
+returns-in-Ok-clause-few g c =
+    few_if_messages (g.O.Outside.told c.args.outside) (g.O.Outside.told c.run_line.result.1) c.run_line.result.0 (messages_in (map string_bytes c.args.words.now)) (returns-in-Ok-clause-answer g c)
+
 pub returns-in-Ok-clause-neither : goal.returns-in-Ok-clause-neither
 returns-in-Ok-clause-neither g c none =
     absurd (not_nothing (messages_in (map string_bytes c.args.words.now)) (as_line c.in-Ok.line)
@@ -38,6 +42,11 @@ returns-in-Ok-2-clause-answer g c =
 
 pub returns-in-Ok-2-clause-clean : goal.returns-in-Ok-2-clause-clean
 returns-in-Ok-2-clause-clean g c =
+    of_nothing (messages_in (map string_bytes c.args.words.now)) _
+    (not_taken (map string_bytes c.args.words.now) (as_line c.in-Ok.line) c.in-Ok.ensures.line (sym c.if-takes_messages.ensures))
+
+pub returns-in-Ok-2-clause-few : goal.returns-in-Ok-2-clause-few
+returns-in-Ok-2-clause-few g c =
     of_nothing (messages_in (map string_bytes c.args.words.now)) _
     (not_taken (map string_bytes c.args.words.now) (as_line c.in-Ok.line) c.in-Ok.ensures.line (sym c.if-takes_messages.ensures))
 
@@ -61,6 +70,10 @@ returns-in-Err-clause-neither g c none =
 pub returns-in-Err-clause-clean : goal.returns-in-Err-clause-clean
 returns-in-Err-clause-clean g c =
     clean_if_messages (g.O.Outside.told c.args.outside) (g.O.Outside.told c.args.outside) c.in-Err.status (messages_in (map string_bytes c.args.words.now)) (returns-in-Err-clause-answer g c)
+
+pub returns-in-Err-clause-few : goal.returns-in-Err-clause-few
+returns-in-Err-clause-few g c =
+    few_if_messages (g.O.Outside.told c.args.outside) (g.O.Outside.told c.args.outside) c.in-Err.status (messages_in (map string_bytes c.args.words.now)) (returns-in-Err-clause-answer g c)
 
 -- ---- the calls
 

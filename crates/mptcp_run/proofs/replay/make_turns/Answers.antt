@@ -68,6 +68,9 @@ returns-clause-ok g c =
     (sym (at_drop_all (λ ts. ts) c.args.order.now c.loop-turn.turn-index (let over = c.loop-turn-test.false in omega (arith, over))))
     (turns_over c.loop-turn.run.opening c.loop-turn.run.rounds c.loop-turn.invariant.0 c.loop-turn.run.world.state (g.O.Outside.told c.loop-turn.outside))))
 
+pub returns-clause-stands : goal.returns-clause-stands
+returns-clause-stands g c = c.loop-turn.invariant.1.under.stands
+
 pub returns-in_err-make_turn-clause-cause : goal.returns-in_err-make_turn-clause-cause
 returns-in_err-make_turn-clause-cause g c =
     let inv = c.loop-turn.invariant.1 in let turn = c.in_err-make_turn.ensures.turn c.loop-turn.invariant.0 inv.under in

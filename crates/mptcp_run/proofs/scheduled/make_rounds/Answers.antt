@@ -57,6 +57,12 @@ returns-clause-ok g c =
     (rounds_over (RoundBy c.args.schedule) (λ n ts w. AreRoundsBy c.args.schedule n ts w) (kind_by c.args.schedule) c.loop-round.run.opening (c.args.most - c.loop-round._round) c.loop-round._round
     c.loop-round.run.rounds c.loop-round.run.world.state _ (omega (arith, c.loop-round-test.false)) inv.rounds))
 
+pub returns-then-not-goes_on-clause-stands : goal.returns-then-not-goes_on-clause-stands
+returns-then-not-goes_on-clause-stands g c = c.in_ok-make_round.ensures.begins.stands
+
+pub returns-clause-stands : goal.returns-clause-stands
+returns-clause-stands g c = c.loop-round.invariant.begins.stands
+
 pub returns-in_err-make_round-clause-fault : goal.returns-in_err-make_round-clause-fault
 returns-in_err-make_round-clause-fault g c =
     let p = err_from_is_err_and c.from_residual.result c.from_residual.ensures.1 in

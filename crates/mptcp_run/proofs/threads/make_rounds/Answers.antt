@@ -51,6 +51,7 @@ loop-round-preserved g c =
 pub returns-in-Err-clause-made : goal.returns-in-Err-clause-made
 returns-in-Err-clause-made g c = record {
   ok = tt;
+  stands = tt;
   cut = (let inv = c.loop-round.invariant in
       woven_cut c.args.run.opening c.args.most c.args.run.world.state _ _ c.in-Err.status
       (inv.cut _ c.in-Err.status
@@ -71,6 +72,7 @@ returns-then-not-goes_on-clause-made g c = record {
       c.make_round-next.result.0.rounds c.loop-round.run.world.state c.make_round-next.result.0.world.state _ _ (sym c.goes_on.ensures ∙ c.if-not-goes_on.true)
       (when_ok c.make_round-next.result.1 c.in-Ok.field-0 c.in-Ok.is c.make_round-next.ensures.made)
       (when_ok c.make_round-next.result.1 c.in-Ok.field-0 c.in-Ok.is c.make_round-next.ensures.rounds ∙ ap (λ n. n + 1) inv.rounds))));
+  stands = (when_ok c.make_round-next.result.1 c.in-Ok.field-0 c.in-Ok.is c.make_round-next.ensures.begins).stands;
   cut = tt;
   fault = tt;
   only = (only_then _ _ _ c.loop-round.invariant.only c.make_round-next.ensures.only);
@@ -83,6 +85,7 @@ returns-clause-made g c = record {
       (inv.put _ _ _
       (rounds_over WovenTo AreWovenRounds woven_kind c.loop-round.run.opening (c.args.most - c.loop-round._round) c.loop-round._round
       c.loop-round.run.rounds c.loop-round.run.world.state _ (omega (arith, c.loop-round-test.false)) inv.rounds)));
+  stands = c.loop-round.invariant.begins.stands;
   cut = tt;
   fault = tt;
   only = (c.loop-round.invariant.only);

@@ -4,7 +4,7 @@ use Rattle.mptcp_run.specs.Answers.{IsAnswer, IsMadeAnswer}
 use Rattle.mptcp_run.specs.Asked.{asked_in}
 use Rattle.mptcp_run.specs.Made.{Bench}
 use Rattle.mptcp_run.proofs.AskedRounds.{line_asked}
-use Rattle.mptcp_run.proofs.CleanRuns.{clean_if_asked}
+use Rattle.mptcp_run.proofs.CleanRuns.{clean_if_asked, few_if_asked}
 use Rattle.mptcp_run.proofs.Asking.{asked_is, bench_is, delivered_files, delivered_many, unread_answer, unread_bench, unread}
 use Rattle.mptcp_run.proofs.top_call.run.Goals as goal
 
@@ -31,6 +31,11 @@ returns-in-Ok-clause-counted g c is =
 pub returns-in-Ok-clause-clean : goal.returns-in-Ok-clause-clean
 returns-in-Ok-clause-clean g c =
     clean_if_asked (g.O.Outside.told c.args.outside.now) (g.O.Outside.told c.run_line.new.outside) (asked_in (map string_bytes c.args.words.now)) c.run_line.result
+    (returns-in-Ok-clause-answer g c)
+
+pub returns-in-Ok-clause-few : goal.returns-in-Ok-clause-few
+returns-in-Ok-clause-few g c =
+    few_if_asked (g.O.Outside.told c.args.outside.now) (g.O.Outside.told c.run_line.new.outside) (asked_in (map string_bytes c.args.words.now)) c.run_line.result
     (returns-in-Ok-clause-answer g c)
 
 pub returns-in-Ok-clause-bench : goal.returns-in-Ok-clause-bench
@@ -63,6 +68,11 @@ returns-in-Err-clause-counted g c is =
 pub returns-in-Err-clause-clean : goal.returns-in-Err-clause-clean
 returns-in-Err-clause-clean g c =
     clean_if_asked (g.O.Outside.told c.args.outside.now) (g.O.Outside.told c.args.outside.now) (asked_in (map string_bytes c.args.words.now)) c.in-Err.status
+    (returns-in-Err-clause-answer g c)
+
+pub returns-in-Err-clause-few : goal.returns-in-Err-clause-few
+returns-in-Err-clause-few g c =
+    few_if_asked (g.O.Outside.told c.args.outside.now) (g.O.Outside.told c.args.outside.now) (asked_in (map string_bytes c.args.words.now)) c.in-Err.status
     (returns-in-Err-clause-answer g c)
 
 pub returns-in-Err-clause-bench : goal.returns-in-Err-clause-bench

@@ -51,7 +51,7 @@ returns-clause-ended g c =
     (record { read_by_b = c.in_ok-bind_readers.ensures.read_by_b; read_by_a = c.in_ok-bind_readers.ensures.read_by_a; log = c.bind_readers.ensures.log })
     c.in_ok-bind_readers.ensures.puts.made
     (course.rounds c.args.schedule c.args.rounds) c.make_rounds.new.run.rounds c.make_rounds.new.run.world.state status (g.O.Outside.told c.end.new.outside)
-    c.in_ok-make_rounds.ensures.ok is
+    c.in_ok-make_rounds.ensures.ok (c.end.ensures.few c.in_ok-make_rounds.ensures.stands) is
     (record {
       read_by_b = c.end.ensures.other_ports ReadByB b_isnt_log;
       read_by_a = c.end.ensures.other_ports ReadByA a_isnt_log;

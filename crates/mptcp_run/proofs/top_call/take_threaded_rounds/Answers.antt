@@ -54,7 +54,8 @@ returns-in-Ok-told-clause-ended g c =
     (record { read_by_b = c.in-Ok.ensures.read_by_b; read_by_a = c.in-Ok.ensures.read_by_a; log = c.bind_readers.ensures.log })
     c.in-Ok.ensures.puts.made
     (course.threads c.args.rounds) c.make_threaded_rounds-run.result.0.rounds c.make_threaded_rounds-run.result.0.world.state status (g.O.Outside.told c.end-told.new.outside)
-    (when_ok c.make_threaded_rounds-run.result.1 c.in-Ok-told.field-0 c.in-Ok-told.is c.make_threaded_rounds-run.ensures.ok) is
+    (when_ok c.make_threaded_rounds-run.result.1 c.in-Ok-told.field-0 c.in-Ok-told.is c.make_threaded_rounds-run.ensures.ok)
+    (c.end-told.ensures.few (when_ok c.make_threaded_rounds-run.result.1 c.in-Ok-told.field-0 c.in-Ok-told.is c.make_threaded_rounds-run.ensures.stands)) is
     (record {
       read_by_b = c.end-told.ensures.other_ports ReadByB b_isnt_log;
       read_by_a = c.end-told.ensures.other_ports ReadByA a_isnt_log;

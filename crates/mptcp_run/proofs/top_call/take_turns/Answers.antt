@@ -63,7 +63,7 @@ returns-clause-ended g c =
     (all_turns c.args.replay.now.turns.items) c.make_turns.new.run.rounds c.make_turns.new.run.world.state status (g.O.Outside.told c.end.new.outside)
     (subst (λ (ts : List Turn). CourseMade (course.told (all_turns ts)) c.args.run.now.opening c.args.run.now.world.state c.make_turns.new.run.world.state
     (g.O.Outside.told c.bind_readers.new.outside) (g.O.Outside.told c.make_turns.new.outside))
-    c.deref.ensures.value c.in_ok-make_turns.ensures.ok) is
+    c.deref.ensures.value c.in_ok-make_turns.ensures.ok) (c.end.ensures.few c.in_ok-make_turns.ensures.stands) is
     (record {
       read_by_b = c.end.ensures.other_ports ReadByB b_isnt_log;
       read_by_a = c.end.ensures.other_ports ReadByA a_isnt_log;

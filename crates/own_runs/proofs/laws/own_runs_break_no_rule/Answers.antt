@@ -1,6 +1,7 @@
 use Rattle.std.proofs.Common.{refl}
-use Rattle.judge_rules.specs.declared.finding.Rule.TheVariants.{AddressHmac, DssSum, Fail, FastCloseKey, Form, JoinHmac, Keys, Mapping, Token, Within}
+use Rattle.judge_rules.specs.declared.finding.Rule.TheVariants.{AddressHmac, DataFin, DssSum, Fail, FastCloseKey, Form, JoinHmac, Keys, Mapping, PlaceContent, Token, Within}
 use Rattle.own_runs.proofs.Kept.{no_run_breaks}
+use Rattle.own_runs.proofs.LinesTimes as lines
 use Rattle.own_runs.proofs.PlacesTrace as places
 use Rattle.own_runs.proofs.laws.own_runs_break_no_rule.Goals as goal
 
@@ -30,6 +31,12 @@ returns-clause-mapping c = places.no_run_breaks Mapping refl
 
 pub returns-clause-dss_sum : goal.returns-clause-dss_sum
 returns-clause-dss_sum c = places.no_run_breaks DssSum refl
+
+pub returns-clause-place_content : goal.returns-clause-place_content
+returns-clause-place_content c = lines.no_run_breaks PlaceContent refl
+
+pub returns-clause-data_fin : goal.returns-clause-data_fin
+returns-clause-data_fin c = lines.no_run_breaks DataFin refl
 
 pub returns-clause-fail : goal.returns-clause-fail
 returns-clause-fail c = places.no_plain_run_breaks Fail refl

@@ -1,0 +1,538 @@
+-- Where each infinite mapping of a side's segments gives the positions behind it the places that they have (RFC 8684, section 3.7), and all payload stands
+-- among the positions of its lane, what comes to a place is its octet: none of them breaks `place-content`. Where a FIN stands so that the infinite
+-- mapping gives it the end of the stream, none breaks `data-fin`.
+use Rattle.std.proofs.Common.{◌≡◌, refl, sym, ap, ◌∙◌, subst, ℕ, ℤ, zero, suc, ◌⊎◌, inl, inr, ⊎_elim, ◌+◌, ◌-◌, ◌<◌, ◌≤◌, ◌^◌, ◌==◌, ◌&&◌, ◌||◌, max, pos, nat_le, nat_lt, Bool, true, false, if◌then◌else◌, Option, Some, None, is_some, Result, Ok, Err, List, [], ◌∷◌, ◌++◌, drop, arith}
+use Rattle.std.specs.Prelude.{All, IfSome, get_or, int_lt, slice_get}
+use Rattle.std.specs.Int.{from_bool}
+use Rattle.std.specs.Option.{option_map, option_or}
+use Rattle.std.proofs.lemmas.Bool.{and_parts, eq-eqb, le-ltb, leb-true, ltb-true, ne_eqb, or_cases}
+use Rattle.std.proofs.lemmas.List.Elements.{All-head, All-tail}
+use Rattle.std.proofs.lemmas.Option.{slice_get-get_or, slice_get_within}
+use Rattle.first_runs.specs.Runs.{Told}
+use Rattle.judge_rules.specs.Acks.{ack_place}
+use Rattle.judge_rules.specs.Clashes.{first_clash}
+use Rattle.judge_rules.specs.Mappings as mapping
+use Rattle.judge_rules.specs.Mappings.{fin_fault, fin_told, is_too_early, mapped_octets, mapped_place, natural, offer_of, place_on_line}
+use Rattle.judge_rules.specs.Numbers.{place_near}
+use Rattle.judge_rules.specs.declared.acks.ToldPlace.{ToldPlace}
+use Rattle.judge_rules.specs.declared.finding.Finding.{Finding}
+use Rattle.judge_rules.specs.declared.finding.Finding.TheVariants.{BeyondFin, MappedBeyond, NoMapping, NoPosition, OtherFin}
+use Rattle.judge_rules.specs.declared.finding.Rule.{Rule}
+use Rattle.judge_rules.specs.declared.finding.Rule.TheVariants as rule
+use Rattle.judge_rules.specs.declared.mappings.Line.{Line}
+use Rattle.judge_rules.specs.declared.mappings.Offer.{Offer}
+use Rattle.mptcp_options.specs.Value.{OptionValue, Dss, Fail}
+use Rattle.rule_book.specs.Facts.{Facts, first_of, payload_at, payload_len}
+use Rattle.rule_book.specs.Stream.{acked_each, acked_one, behind_acks, behind_payload, failed_each, failed_one, fin_taken, judged_at, mapped_each, mapped_one, mapped_with, summed, told_in, within_each, within_found, within_one}
+use Rattle.seen_connections.specs.declared.connections.Keys.{Keys}
+use Rattle.seen_octets.specs.Octets.{octet_by}
+use Rattle.seen_octets.specs.Others.{first_other, other_by}
+use Rattle.seen_octets.specs.declared.octet.Octet.{Octet}
+use Rattle.seen_octets.specs.declared.octet.OtherOctet.{OtherOctet}
+use Rattle.seen_streams.specs.Acks.{Acked, ack_counted, ack_facts, acked_by, ended_by_fin, fin_place, fin_told as line_fin, named_place}
+use Rattle.seen_streams.specs.Content.{PayloadValue, as_part, at_place, comes, content_fault, is_mapped_by, octet_of, other_octet, shown_from, with_payload}
+use Rattle.seen_streams.specs.Mapped as mapped
+use Rattle.seen_streams.specs.Mapped.{Mapped, against_infinite, by_rule, fin_after, finite, finite_at, finite_by, finite_fault, infinite_by, line_fault, lowest_line, mapped_at, octets_fault, one_more, placed_fault, told_mapping}
+use Rattle.seen_streams.specs.Positions.{with_fin}
+use Rattle.seen_streams.specs.Same.{same_mapping}
+use Rattle.seen_streams.specs.State.{FaultValue, Found, LaneValue, StreamValue, line_place, place_of, with_broken, with_found}
+use Rattle.seen_streams.specs.Sums.{is_whole, sum_fault, summed_by, tried_if_whole, tried_sum, tried_sums, with_sums}
+use Rattle.seen_streams.specs.declared.told.Broke.{Broke}
+use Rattle.seen_streams.specs.declared.told.Teller.{Teller}
+use Rattle.seen_streams.specs.declared.told.ToldMapping.{ToldMapping}
+use Rattle.seen_streams.specs.declared.told.Waiting.{Waiting}
+use Rattle.sides.specs.Side.{peer}
+use Rattle.own_runs.proofs.FinePositions.{EndsAt, NumberIs, near_so}
+use Rattle.own_runs.proofs.LanePlaces as lane
+use Rattle.own_runs.proofs.LanePlaces.{LanePlaced, StreamPlaced}
+use Rattle.own_runs.proofs.MapPositions.{Bears, OfferIs}
+use Rattle.own_runs.proofs.PayloadHeld.{none_left}
+use Rattle.own_runs.proofs.Telling.{Untold, others_keep}
+
+-- that on octets and, where it is asked for, that on the end of a stream
+abbrev pub is_line : Bool → Rule → Bool
+is_line ends rule.PlaceContent = true
+is_line ends rule.DataFin = ends
+is_line ends _ = false
+
+module _ (ends : Bool) (limit : ℕ) (few : limit < 2 ^ 31) (content : ℕ → ℕ) where
+  -- each place that was seen has its octet, the DATA_FIN stands at the end, and the rules weren't broken
+  pub record StreamLined (s : StreamValue) : Type 0 where
+    pub octets : (q : ℕ) → IfSome (s.octet q) (λ o. o.octet ≡ content q)
+    pub fin : ends ≡ true → IfSome s.fin (λ told. told.place ≡ limit)
+    pub untold : Untold (is_line ends) s.broken
+
+  tell_so : (r : Rule) (packet : ℕ) (fault : FaultValue) (s : StreamValue) → is_line ends r ≡ false → StreamLined s
+      → StreamLined (record s { broken = with_broken (record { rule = r; packet = packet; fault = fault }) s.broken })
+  tell_so r packet fault s other h = record { octets = h.octets; fin = h.fin; untold = others_keep (is_line ends) r packet fault s.broken other h.untold }
+
+  found_so : (r : Rule) (packet : ℕ) (finding : Option Finding) (s : StreamValue) → is_line ends r ≡ false → StreamLined s
+      → StreamLined (record s { broken = with_found r packet finding s.broken })
+  found_so r packet None s other h = record { octets = h.octets; fin = h.fin; untold = h.untold }
+  found_so r packet (Some finding) s other h = tell_so r packet (Found finding) s other h
+
+  -- where the positions of a lane up to one have these places, and its FIN stands at such a position
+  module _ (first : ℕ) (where_at : ℕ → ℕ) (upto : ℕ) (IsEnd : ℕ → Type 0) where
+    abbrev at : ℕ → ℕ
+    at p = content (where_at p)
+
+    -- a line gives each of them its place, and the FIN the end of the stream
+    pub record LineIs (line : Line) : Type 0 where
+      pub places : (p : ℕ) → p ≤ upto → IfSome (place_on_line line p) (λ q. q ≡ where_at p)
+      pub end : ends ≡ true → (p : ℕ) → IsEnd p → IfSome (place_on_line line p) (λ q. q ≡ limit)
+
+    -- an infinite mapping in a segment at a position
+    pub record InfiniteLined (near : ℕ) (offer : Offer) : Type 0 where
+      pub place : ℕ
+      pub number : NumberIs first offer.number place
+      pub small : place < 2 ^ 31
+      pub none : offer.length ≡ 0
+      pub line : LineIs (record { position = mapping.position_near near offer.relative; place = place })
+
+    abbrev pub OptionLined : ℕ → OptionValue → Type 0
+    OptionLined near option = IfSome (offer_of first option) (λ offer. OfferIs first limit content where_at near offer ⊎ InfiniteLined near offer)
+
+    -- and what was seen on it ends so
+    module _ (high : ℕ) where
+      pub record LaneLined (l : LaneValue) : Type 0 where
+        pub line : IfSome l.line LineIs
+        pub seen : (p : ℕ) → l.seen p ≡ true → p ≤ upto
+        pub fin : ends ≡ true → IfSome l.fin IsEnd
+        pub top : l.top ≤ high
+
+      abbrev pub Lined : StreamValue → LaneValue → Type 0
+      Lined s l = StreamLined s × LaneLined l
+
+      abbrev pub Placed : StreamValue → LaneValue → Type 0
+      Placed s l = StreamPlaced false limit s × LanePlaced false limit few content first where_at l
+
+      abbrev Holds : Mapped → Type 0
+      Holds x = Lined x.stream x.lane
+
+      -- ---- a finite mapping
+
+      abbrev Other : Option Broke → Type 0
+      Other o = IfSome o (λ broke. is_line ends broke.rule ≡ false)
+
+      infinite_other : (o : Option Finding) → Other (by_rule rule.Infinite o)
+      infinite_other None = tt
+      infinite_other (Some finding) = refl
+
+      octets_other : (teller : Teller) (s : StreamValue) (l : LaneValue) (offer : Offer) (position : ℤ) (place : ℕ) → Other (octets_fault teller s l offer position place)
+      octets_other teller s l offer position place = by (mapped_octets offer == 0) (int_lt position (pos 0)) (first_clash l.placed (natural position) place (mapped_octets offer))
+        where
+          rest : Option Broke
+          rest = by_rule rule.Infinite (against_infinite s.infinite teller.flow s.top l.line (pos (natural position)) place (mapped_octets offer))
+
+          low : Broke
+          low = record { rule = rule.Mapping; finding = NoPosition offer.relative }
+
+          by : (none below : Bool) (clash : Option Finding) → Other (if none then None else (if below then Some low else option_or (by_rule rule.Mapping clash) rest))
+          by true below clash = tt
+          by false true clash = refl
+          by false false (Some finding) = refl
+          by false false None = infinite_other (against_infinite s.infinite teller.flow s.top l.line (pos (natural position)) place (mapped_octets offer))
+
+      -- nothing is mapped behind the end
+      module _ (s : StreamValue) (top : s.top ≤ limit) (fin : IfSome s.fin (λ told. told.place ≡ limit)) (offer : Offer) (place : ℕ) (is : EndsAt limit offer.fin place offer.length) where
+        abbrev end : ℕ
+        end = place + mapped_octets offer
+
+        within_so : (fin : Bool) → EndsAt limit fin place offer.length → place + (offer.length - from_bool fin) ≤ limit
+        within_so true is = omega (arith, is)
+        within_so false is = omega (arith, is)
+
+        at_end : (fin : Bool) → fin ≡ true → EndsAt limit fin place offer.length → place + (offer.length - from_bool fin) ≡ limit
+        at_end true same is = is
+        at_end false same is = cc
+
+        fin_so : fin_fault s.fin s.top end offer.fin ≡ None
+        fin_so = by s.fin fin offer.fin refl
+          where
+            early : (told : Bool) → offer.fin ≡ told → is_too_early s.top end told ≡ None
+            early false same = refl
+            early true same =
+                let last = at_end offer.fin same is in
+                ap (λ (b : Bool). if b then Some (MappedBeyond end s.top) else None) (le-ltb end s.top (omega (arith, top, last)))
+
+            by : (o : Option ToldPlace) → IfSome o (λ t. t.place ≡ limit) → (told : Bool) → offer.fin ≡ told → option_or (fin_told o end told) (is_too_early s.top end told) ≡ None
+            by None at told same = early told same
+            by (Some t) at true same =
+                let last = at_end offer.fin same is in
+                ap (λ (b : Bool). option_or (if b then None else Some (OtherFin end t.place t.packet)) (is_too_early s.top end true)) (eq-eqb t.place end (omega (arith, at, last)))
+                ∙ early true same
+            by (Some t) at false same =
+                let most = within_so offer.fin is in
+                ap (λ (b : Bool). option_or (if b then Some (BeyondFin end t.place t.packet) else None) (is_too_early s.top end false)) (le-ltb t.place end (omega (arith, at, most)))
+
+        fin_learnt : (position : ℤ) (packet : ℕ) → IfSome (fin_after s.fin (told_mapping offer position place).fin end packet) (λ t. t.place ≡ limit)
+        fin_learnt position packet = by s.fin fin offer.fin refl
+          where
+            by : (o : Option ToldPlace) → IfSome o (λ t. t.place ≡ limit) → (told : Bool) → offer.fin ≡ told → IfSome (fin_after o told end packet) (λ t. t.place ≡ limit)
+            by (Some t) at told same = at
+            by None at true same = at_end offer.fin same is
+            by None at false same = tt
+
+      fault_so : (teller : Teller) (s : StreamValue) (l : LaneValue) → s.top ≤ limit → StreamLined s → (offer : Offer) (position : ℤ) (place : ℕ) → EndsAt limit offer.fin place offer.length
+          → Other (finite_fault teller s l offer position place)
+      fault_so teller s l top h offer position place is =
+          by (octets_fault teller s l offer position place) (octets_other teller s l offer position place) ends refl (fin_fault s.fin s.top (place + mapped_octets offer) offer.fin) (λ asked. fin_so s top (h.fin asked) offer place is)
+        where
+          by : (o : Option Broke) → Other o → (b : Bool) → ends ≡ b → (fin : Option Finding) → (ends ≡ true → fin ≡ None) → Other (option_or o (by_rule rule.DataFin fin))
+          by (Some broke) is b e fin none = is
+          by None is b e None none = tt
+          by None is false e (Some finding) none = e
+          by None is true e (Some finding) none = absurd (never (none e))
+            where
+              never : Some finding ≡ None → ⊥
+              never e = cc
+
+      finite_by_so : (fault : Option Broke) → Other fault → (packet : ℕ) (offer : Offer) (position : ℤ) (place : ℕ) (state : Mapped) → state.stream.top ≤ limit → EndsAt limit offer.fin place offer.length → Holds state
+          → Holds (finite_by fault packet (told_mapping offer position place) state)
+      finite_by_so (Some broke) other packet offer position place state top is h = (tell_so broke.rule packet (Found broke.finding) state.stream other h.0, h.1)
+      finite_by_so None other packet offer position place state top is h = (
+        record { octets = h.0.octets; fin = λ asked. fin_learnt state.stream top (h.0.fin asked) offer place is position packet; untold = h.0.untold },
+        record { line = h.1.line; seen = h.1.seen; fin = h.1.fin; top = h.1.top },
+      )
+
+      finite_so : (teller : Teller) → teller.first ≡ first → (near : ℕ) (offer : Offer) (state : Mapped) → OfferIs first limit content where_at near offer → state.stream.top ≤ limit → Holds state
+          → Holds (finite teller offer (mapping.position_near near offer.relative) state)
+      finite_so teller is near offer state o top h =
+          let position = mapping.position_near near offer.relative in
+          let more = one_more state in
+          let held : Holds more = (record { octets = h.0.octets; fin = h.0.fin; untold = h.0.untold }, h.1) in
+          subst (λ (p : Option ℕ). Holds (finite_at p teller offer position more)) (sym (lane.mapped_place_is false limit few content first where_at teller is near offer state.stream.top o top))
+          (finite_by_so (finite_fault teller more.stream more.lane offer position o.place) (fault_so teller more.stream more.lane top held.0 offer position o.place o.ends)
+          teller.packet offer position o.place more top o.ends held)
+
+      -- ---- an infinite one
+
+      lowest_so : (old : Option Line) (position : ℤ) (place : ℕ) → IfSome old LineIs → LineIs (record { position = position; place = place }) → LineIs (lowest_line old position place)
+      lowest_so None position place was new = new
+      lowest_so (Some line) position place was new = by (int_lt position line.position)
+        where
+          by : (b : Bool) → LineIs (if b then record { position = position; place = place } else line)
+          by true = new
+          by false = was
+
+      infinite_so : (teller : Teller) → teller.first ≡ first → (near : ℕ) (offer : Offer) (state : Mapped) → InfiniteLined near offer → state.stream.top ≤ limit → Holds state
+          → Holds (mapped.infinite_at (place_near teller.first state.stream.top offer.number) teller offer (mapping.position_near near offer.relative) state)
+      infinite_so teller is near offer state o top h =
+          subst (λ (p : Option ℕ). Holds (mapped.infinite_at p teller offer position state)) (sym place_is)
+          (by (line_fault state.stream.infinite teller.flow state.lane.line position o.place))
+        where
+          position : ℤ
+          position = mapping.position_near near offer.relative
+
+          place_is : place_near teller.first state.stream.top offer.number ≡ Some o.place
+          place_is = ap (λ (n : ℕ). place_near n state.stream.top offer.number) is ∙ near_so first state.stream.top o.place offer.number o.number (omega (arith, top, few)) o.small
+
+          by : (fault : Option Finding) → Holds (infinite_by fault teller position o.place state)
+          by (Some finding) = (tell_so rule.Infinite teller.packet (Found finding) state.stream refl h.0, h.1)
+          by None = (
+            record { octets = h.0.octets; fin = h.0.fin; untold = h.0.untold },
+            record { line = lowest_so state.lane.line position o.place h.1.line o.line; seen = h.1.seen; fin = h.1.fin; top = h.1.top },
+          )
+
+      one_so : (teller : Teller) → teller.first ≡ first → (near : ℕ) (offer : Offer) (state : Mapped) → OfferIs first limit content where_at near offer ⊎ InfiniteLined near offer → state.stream.top ≤ limit → Holds state
+          → Holds (mapped_at teller offer (mapping.position_near near offer.relative) state)
+      one_so teller is near offer state (inl o) top h =
+          let position = mapping.position_near near offer.relative in
+          subst (λ (b : Bool). Holds (if b then mapped.infinite_at (place_near teller.first state.stream.top offer.number) teller offer position state else finite teller offer position state))
+          (sym (ne_eqb offer.length 0 (λ none. let some = o.some in omega (arith, some, none)))) (finite_so teller is near offer state o top h)
+      one_so teller is near offer state (inr o) top h =
+          let position = mapping.position_near near offer.relative in
+          subst (λ (b : Bool). Holds (if b then mapped.infinite_at (place_near teller.first state.stream.top offer.number) teller offer position state else finite teller offer position state))
+          (sym (eq-eqb offer.length 0 o.none)) (infinite_so teller is near offer state o top h)
+
+      -- ---- all mappings of a segment
+
+      abbrev Both : Mapped → Type 0
+      Both x = lane.Holds false limit few content first where_at x × Holds x
+
+      as_told : (near : ℕ) (offer : Offer) → OfferIs first limit content where_at near offer ⊎ InfiniteLined near offer → OfferIs first limit content where_at near offer ⊎ lane.InfiniteIs first offer
+      as_told near offer (inl o) = inl o
+      as_told near offer (inr o) = inr (record { place = o.place; number = o.number; small = o.small; none = o.none })
+
+      offer_so : (teller : Teller) → teller.first ≡ first → (near : ℕ) (offer : Option Offer) (state : Mapped) → IfSome offer (λ o. OfferIs first limit content where_at near o ⊎ InfiniteLined near o)
+          → Both state → Both (mapped_one teller near offer state)
+      offer_so teller is near None state o h = h
+      offer_so teller is near (Some offer) state o h =
+          (lane.one_so false limit few content first where_at teller is near offer state (as_told near offer o) h.0, one_so teller is near offer state o h.0.0.0.top h.1)
+
+      offers_so : (teller : Teller) → teller.first ≡ first → (near : ℕ) (options : List OptionValue) (state : Mapped) → All (OptionLined near) options → Both state
+          → Both (mapped_each teller near options state)
+      offers_so teller is near [] state all h = h
+      offers_so teller is near (option ∷ options) state all h =
+          offers_so teller is near options (mapped_one teller near (offer_of teller.first option) state) (All-tail (OptionLined near) option options all)
+          (offer_so teller is near (offer_of teller.first option) state
+          (subst (λ (n : ℕ). IfSome (offer_of n option) (λ o. OfferIs first limit content where_at near o ⊎ InfiniteLined near o)) (sym is) (All-head (OptionLined near) option options all)) h)
+
+      mapped_so : (facts : Facts) (known : Option ℕ) → IfSome known (λ n. n ≡ first) → (near : ℕ) (options : List OptionValue) (state : Mapped)
+          → All (OptionLined near) options → Both state → Both (mapped_with facts known near options state)
+      mapped_so facts None is near options state all h = h
+      mapped_so facts (Some known) is near options state all h = offers_so (told_in facts known) is near options state all h
+
+      -- ---- payload
+
+      within_each_so : (facts : Facts) (position : ℕ) (mappings : List ToldMapping) (s : StreamValue) → StreamLined s → StreamLined (within_each facts position mappings s)
+      within_each_so facts position [] s h = h
+      within_each_so facts position (m ∷ mappings) s h =
+          within_each_so facts position mappings (within_one facts position m s) (found_so rule.Within facts.packet (within_found facts position m) s refl h)
+
+      ended_so : (packet : ℕ) (s : StreamValue) (l : LaneValue) → Lined s l → StreamLined (ended_by_fin l packet s)
+      ended_so packet s l h = record { octets = h.0.octets; fin = λ asked. by s.fin l.line l.fin (h.0.fin asked) h.1.line (h.1.fin asked) asked; untold = h.0.untold }
+        where
+          on_line : (line : Line) (fin : ℕ) → IfSome (place_on_line line fin) (λ q. q ≡ limit) → IfSome (line_fin None (Some line) (Some fin) packet) (λ t. t.place ≡ limit)
+          on_line line fin is = placed (place_on_line line fin) is
+            where
+              placed : (place : Option ℕ) → IfSome place (λ q. q ≡ limit) → IfSome (fin_place place packet) (λ t. t.place ≡ limit)
+              placed None is = tt
+              placed (Some q) is = is
+
+          by : (fin : Option ToldPlace) (line : Option Line) (at : Option ℕ) → IfSome fin (λ t. t.place ≡ limit) → IfSome line LineIs → IfSome at IsEnd → ends ≡ true
+              → IfSome (line_fin fin line at packet) (λ t. t.place ≡ limit)
+          by (Some t) line at is lined last asked = is
+          by None None at is lined last asked = tt
+          by None (Some line) None is lined last asked = tt
+          by None (Some line) (Some p) is lined last asked = on_line line p (lined.end asked p last)
+
+      -- an octet that is the place's is no other one
+      content_none : (acknowledged place : ℕ) (octet : Option ℕ) (s : StreamValue) → StreamLined s → IfSome octet (λ x. x ≡ content place)
+          → content_fault acknowledged s.octet place (as_part octet) ≡ None
+      content_none acknowledged place None s h is = ap (λ (part : List ℕ). other_octet (first_other s.octet (max place acknowledged) part)) (none_left (acknowledged - place))
+      content_none acknowledged place (Some x) s h is = by (acknowledged - place) refl
+        where
+          no_other : (was : Option Octet) → IfSome was (λ o. o.octet ≡ content place) → other_by was place x ≡ None
+          no_other None has = refl
+          no_other (Some was) has =
+              ap (λ (b : Bool). if b then None else Some (record { place = place; was = was.octet; teller = was.teller; is = x })) (eq-eqb was.octet x (has ∙ sym is))
+
+          by : (n : ℕ) → acknowledged - place ≡ n → other_octet (first_other s.octet (max place acknowledged) (drop n (x ∷ []))) ≡ None
+          by zero none =
+              ap (λ (q : ℕ). other_octet (option_or (other_by (s.octet q) q x) None)) (let same : max place acknowledged ≡ place = omega (arith, none) in same)
+              ∙ ap (λ (o : Option OtherOctet). other_octet (option_or o None)) (no_other (s.octet place) (h.octets place))
+          by (suc n) none = ap (λ (part : List ℕ). other_octet (first_other s.octet (max place acknowledged) part)) (none_left n)
+
+      -- it stays there
+      shown_octet : (packet place : ℕ) (octet : Option ℕ) (s : StreamValue) → StreamLined s → IfSome octet (λ x. x ≡ content place)
+          → (q : ℕ) → IfSome (option_or (s.octet q) (octet_by place (as_part octet) packet q)) (λ o. o.octet ≡ content q)
+      shown_octet packet place octet s h is q = by (s.octet q) (h.octets q)
+        where
+          new : (octet : Option ℕ) → IfSome octet (λ x. x ≡ content place) → IfSome (octet_by place (as_part octet) packet q) (λ o. o.octet ≡ content q)
+          new None is = none (nat_le place q) (nat_lt q (place + 0)) refl refl
+            where
+              none : (low over : Bool) → nat_le place q ≡ low → nat_lt q (place + 0) ≡ over
+                  → IfSome {T = Octet} (if low && over then Some (record { octet = get_or [] (q - place) 0; teller = packet }) else None) (λ o. o.octet ≡ content q)
+              none false over l m = tt
+              none true false l m = tt
+              none true true l m = absurd (let from = leb-true place q l in let to = ltb-true q (place + 0) m in omega (arith, from, to))
+          new (Some x) is = some (nat_le place q) (nat_lt q (place + 1)) refl refl
+            where
+              some : (low over : Bool) → nat_le place q ≡ low → nat_lt q (place + 1) ≡ over
+                  → IfSome {T = Octet} (if low && over then Some (record { octet = get_or (x ∷ []) (q - place) 0; teller = packet }) else None) (λ o. o.octet ≡ content q)
+              some false over l m = tt
+              some true false l m = tt
+              some true true l m =
+                  let from = leb-true place q l in let to = ltb-true q (place + 1) m in
+                  let same : place ≡ q = omega (arith, from, to) in
+                  ap (λ (i : ℕ). get_or (x ∷ []) i 0) (let none : q - place ≡ 0 = omega (arith, same) in none) ∙ is ∙ ap content same
+
+          by : (was : Option Octet) → IfSome was (λ o. o.octet ≡ content q) → IfSome (option_or was (octet_by place (as_part octet) packet q)) (λ o. o.octet ≡ content q)
+          by (Some was) has = has
+          by None has = new octet is
+
+      -- what comes to a position is its octet, at one of the lane's, and its place is that which it has
+      abbrev Comes : ℕ → Option (Option ℕ) → Type 0
+      Comes p come = IfSome come (λ octet. (p ≤ upto) × IfSome octet (λ x. x ≡ at p))
+
+      abbrev Sits : ℕ → Option ℕ → Type 0
+      Sits p place = IfSome place (λ q. p ≤ upto → q ≡ where_at p)
+
+      place_so : (acknowledged packet p : ℕ) (come : Option (Option ℕ)) (place : Option ℕ) (s : StreamValue) → Comes p come → Sits p place → StreamLined s
+          → StreamLined (at_place acknowledged packet come place s)
+      place_so acknowledged packet p None place s came sits h = h
+      place_so acknowledged packet p (Some octet) None s came sits h = h
+      place_so acknowledged packet p (Some octet) (Some place) s came sits h =
+          let is = right octet came.1 in
+          let it : StreamLined (record s { broken = with_found rule.PlaceContent packet (content_fault acknowledged s.octet place (as_part octet)) s.broken }) =
+          subst (λ (o : Option Finding). StreamLined (record s { broken = with_found rule.PlaceContent packet o s.broken })) (sym (content_none acknowledged place octet s h is))
+          (record { octets = h.octets; fin = h.fin; untold = h.untold }) in
+          record { octets = shown_octet packet place octet s h is; fin = it.fin; untold = it.untold }
+        where
+          right : (octet : Option ℕ) → IfSome octet (λ x. x ≡ at p) → IfSome octet (λ x. x ≡ content place)
+          right None is = tt
+          right (Some x) is = is ∙ ap content (sym (sits came.0))
+
+      shown_so : (place : ℕ → Option ℕ) (come : ℕ → Option (Option ℕ)) (acknowledged packet p n : ℕ) (s : StreamValue) → ((q : ℕ) → Comes q (come q)) → ((q : ℕ) → Sits q (place q)) → StreamLined s
+          → StreamLined (shown_from place come acknowledged packet p n s)
+      shown_so place come acknowledged packet p zero s came sits h = h
+      shown_so place come acknowledged packet p (suc n) s came sits h =
+          shown_so place come acknowledged packet (p + 1) n (at_place acknowledged packet (come p) (place p) s) came sits (place_so acknowledged packet p (come p) (place p) s (came p) (sits p) h)
+
+      -- the places of a lane
+      place_is : (l : LaneValue) → LanePlaced false limit few content first where_at l → LaneLined l → (p : ℕ) → Sits p (place_of l p)
+      place_is l h lined p = by (l.placed p) (h.placed p) l.line lined.line
+        where
+          on_line : (line : Option Line) → IfSome line LineIs → Sits p (line_place line p)
+          on_line None is = tt
+          on_line (Some line) is = placed (place_on_line line p) (is.places p)
+            where
+              placed : (place : Option ℕ) → (p ≤ upto → IfSome place (λ q. q ≡ where_at p)) → Sits p place
+              placed None is = tt
+              placed (Some q) is = is
+
+          by : (o : Option Told) → IfSome o (λ told. told.image ≡ where_at p) → (line : Option Line) → IfSome line LineIs
+              → Sits p (option_or (option_map (λ (told : Told). told.image) o) (line_place line p))
+          by None is line lined = on_line line lined
+          by (Some told) is line lined = λ within. is
+
+      module _ (facts : Facts) (position : ℕ) (bears : Bears at position facts.seen.segment.payload) (within : (payload_len facts ≡ 0) ⊎ (position + payload_len facts ≤ suc upto)) where
+        abbrev payload : PayloadValue
+        payload = payload_at facts position
+
+        payload_within : (p : ℕ) → payload.from ≤ p → p < payload.to → p ≤ upto
+        payload_within p low below = ⊎_elim (λ none. absurd (omega (arith, none, low, below))) (λ most. omega (arith, most, low, below)) within
+
+        with_seen : (packet : ℕ) (l : LaneValue) → LaneLined l → (p : ℕ) → (with_payload payload packet l).seen p ≡ true → p ≤ upto
+        with_seen packet l h p is =
+            ⊎_elim (h.seen p)
+            (λ now. let both = and_parts (nat_le payload.from p) (nat_lt p payload.to) now in payload_within p (leb-true payload.from p both.0) (ltb-true p payload.to both.1))
+            (or_cases (l.seen p) (nat_le payload.from p && nat_lt p payload.to) is)
+
+        comes_so : (x : Mapped) (l : LaneValue) → ((p : ℕ) → IfSome (l.octet p) (λ o. o.octet ≡ at p)) → ((p : ℕ) → l.seen p ≡ true → p ≤ upto) → (p : ℕ) → Comes p (comes payload x l p)
+        comes_so x l octets seen p =
+            by (nat_le payload.from p) (nat_lt p payload.to) (is_mapped_by x.learnt x.has_line l.line p && l.seen p) refl refl refl
+          where
+            held : (o : Option ℕ) → slice_get payload.held (p - payload.from) ≡ o → payload.from ≤ p → IfSome o (λ x. x ≡ at p)
+            held None e low = tt
+            held (Some x) e low =
+                let below = slice_get_within payload.held (p - payload.from) x e in
+                some_is (sym e ∙ slice_get-get_or payload.held (p - payload.from) 0 below)
+                ∙ lane.held_is false limit few content first where_at facts position bears (p - payload.from) below ∙ ap at (let same : payload.from + (p - payload.from) ≡ p = omega (arith, low) in same)
+              where
+                some_is : {a b : ℕ} → (let one : Option ℕ = Some a in one) ≡ Some b → a ≡ b
+                some_is e = cc
+
+            was : (o : Option Octet) → IfSome o (λ o. o.octet ≡ at p) → IfSome (option_map (λ (octet : Octet). octet.octet) o) (λ x. x ≡ at p)
+            was None is = tt
+            was (Some o) is = is
+
+            earlier : is_mapped_by x.learnt x.has_line l.line p && l.seen p ≡ true → (p ≤ upto) × IfSome (octet_of l p) (λ x. x ≡ at p)
+            earlier m = (seen p (and_parts (is_mapped_by x.learnt x.has_line l.line p) (l.seen p) m).1, was (l.octet p) (octets p))
+
+            by : (low over m : Bool) → nat_le payload.from p ≡ low → nat_lt p payload.to ≡ over → is_mapped_by x.learnt x.has_line l.line p && l.seen p ≡ m
+                → Comes p (if low && over then Some (slice_get payload.held (p - payload.from)) else (if m then Some (octet_of l p) else None))
+            by true true m is less told =
+                let low = leb-true payload.from p is in (payload_within p low (ltb-true p payload.to less), held (slice_get payload.held (p - payload.from)) refl low)
+            by true false true is less told = earlier told
+            by true false false is less told = tt
+            by false over true is less told = earlier told
+            by false over false is less told = tt
+
+      payload_so : (facts : Facts) (position acknowledged : ℕ) (x : Mapped) → Bears at position facts.seen.segment.payload → (payload_len facts ≡ 0) ⊎ (position + payload_len facts ≤ suc upto)
+          → (payload_at facts position).to ≤ high → Placed x.stream x.lane → Holds x
+          → Lined (behind_payload facts position acknowledged x).stream (behind_payload facts position acknowledged x).lane
+      payload_so facts position acknowledged x bears within to h lined =
+          let payload = payload_at facts position in
+          let behind = with_payload payload facts.packet x.lane in
+          let octets = lane.with_octets false limit few content first where_at facts position bears facts.packet x.lane h.1.octets in
+          let new : LaneLined behind = record {
+            line = lined.1.line;
+            seen = with_seen facts position bears within facts.packet x.lane lined.1;
+            fin = lined.1.fin;
+            top = let low = lined.1.top in omega (arith, low, to);
+          } in
+          let s = within_each facts position x.learnt x.stream in (
+            shown_so (place_of behind) (comes payload x behind) acknowledged facts.packet 1 (behind.top - 1) (ended_by_fin x.lane facts.packet s)
+                (comes_so facts position bears within x behind octets new.seen) (place_is behind (record { placed = h.1.placed; octets = octets; waiting = h.1.waiting }) new)
+                (ended_so facts.packet s x.lane (within_each_so facts position x.learnt x.stream lined.0, lined.1)),
+            new,
+          )
+
+      -- ---- checksums, Data ACKs and MP_FAIL tell of none of these
+
+      tried_so : (packet known : ℕ) (octet : ℕ → Option Octet) (waiting : List Waiting) (s : StreamValue) → StreamLined s → StreamLined (tried_sums packet known octet waiting s)
+      tried_so packet known octet [] s h = h
+      tried_so packet known octet (one ∷ waiting) s h = tried_so packet known octet waiting (tried_if_whole packet known octet one s) (by (is_whole octet one))
+        where
+          by : (b : Bool) → StreamLined (if b then tried_sum packet known octet one s else s)
+          by true = let it = found_so rule.DssSum packet (sum_fault known octet one) s refl h in record { octets = it.octets; fin = it.fin; untold = it.untold }
+          by false = h
+
+      sum_lane : (packet : ℕ) (m : ToldMapping) (l : LaneValue) → LaneLined l → LaneLined (summed_by packet m l)
+      sum_lane packet m l h = by (is_some m.checksum) (l.summed m)
+        where
+          by : (some known : Bool) → LaneLined (if some then (if known then l else record l {
+            summed = λ other. l.summed other || same_mapping other m;
+            waiting = l.waiting ++ record { mapping = m; packet = packet } ∷ [];
+          }) else l)
+          by true true = h
+          by true false = record { line = h.line; seen = h.seen; fin = h.fin; top = h.top }
+          by false known = h
+
+      sums_lane : (packet : ℕ) (mappings : List ToldMapping) (l : LaneValue) → LaneLined l → LaneLined (with_sums packet mappings l)
+      sums_lane packet [] l h = h
+      sums_lane packet (m ∷ mappings) l h = sums_lane packet mappings (summed_by packet m l) (sum_lane packet m l h)
+
+      summed_so : (facts : Facts) (known : Option ℕ) (learnt : List ToldMapping) (acked : Acked) → Lined acked.stream acked.lane
+          → Lined (summed facts known learnt acked).stream (summed facts known learnt acked).lane
+      summed_so facts None learnt acked h = h
+      summed_so facts (Some known) learnt acked h =
+          let behind = with_sums facts.packet learnt acked.lane in
+          let it = sums_lane facts.packet learnt acked.lane h.1 in
+          (tried_so facts.packet known behind.octet behind.waiting acked.stream h.0, record { line = it.line; seen = it.seen; fin = it.fin; top = it.top })
+
+      acked_one_so : (facts : Facts) (known : ℕ) (peers : StreamValue) (option : OptionValue) (acked : Acked) → Lined acked.stream acked.lane
+          → Lined (acked_one facts known peers option acked).stream (acked_one facts known peers option acked).lane
+      acked_one_so facts known peers (Dss (Some number) told fin) acked h = by (ack_place (ack_facts facts.at_sender known peers acked.lane) number)
+        where
+          by : (place : Result ℕ Finding) → Lined (acked_by place facts.packet (ack_counted acked)).stream (acked_by place facts.packet (ack_counted acked)).lane
+          by (Err finding) = let it = tell_so rule.DataAck facts.packet (Found finding) acked.stream refl h.0 in (record { octets = it.octets; fin = it.fin; untold = it.untold }, h.1)
+          by (Ok place) = (record { octets = h.0.octets; fin = h.0.fin; untold = h.0.untold }, record { line = h.1.line; seen = h.1.seen; fin = h.1.fin; top = h.1.top })
+      acked_one_so facts known peers option acked h = h
+
+      acked_so : (facts : Facts) (known : ℕ) (peers : StreamValue) (options : List OptionValue) (acked : Acked) → Lined acked.stream acked.lane
+          → Lined (acked_each facts known peers options acked).stream (acked_each facts known peers options acked).lane
+      acked_so facts known peers [] acked h = h
+      acked_so facts known peers (option ∷ options) acked h = acked_so facts known peers options (acked_one facts known peers option acked) (acked_one_so facts known peers option acked h)
+
+      failed_one_so : (packet known : ℕ) (peers : StreamValue) (option : OptionValue) (s : StreamValue) → StreamLined s → StreamLined (failed_one packet known peers option s)
+      failed_one_so packet known peers (Fail number) s h = by (peers.starts (named_place known number))
+        where
+          by : (b : Bool) → StreamLined (if b then s else record s { broken = with_broken (record { rule = rule.Fail; packet = packet; fault = Found (NoMapping number) }) s.broken })
+          by true = h
+          by false = tell_so rule.Fail packet (Found (NoMapping number)) s refl h
+      failed_one_so packet known peers option s h = h
+
+      failed_so : (packet known : ℕ) (peers : StreamValue) (options : List OptionValue) (s : StreamValue) → StreamLined s → StreamLined (failed_each packet known peers options s)
+      failed_so packet known peers [] s h = h
+      failed_so packet known peers (option ∷ options) s h = failed_so packet known peers options (failed_one packet known peers option s) (failed_one_so packet known peers option s h)
+
+      acks_so : (facts : Facts) (known : Option ℕ) (peers : StreamValue) (options : List OptionValue) (acked : Acked) → Lined acked.stream acked.lane
+          → Lined (behind_acks facts known peers options acked).stream (behind_acks facts known peers options acked).lane
+      acks_so facts None peers options acked h = h
+      acks_so facts (Some known) peers options acked h =
+          let it = acked_so facts known peers options acked h in (failed_so facts.packet known peers options (acked_each facts known peers options acked).stream it.0, it.1)
+
+      -- ---- all of a segment
+
+      pub at_so : (facts : Facts) (position : ℕ) (options : List OptionValue) (keys : Keys) (peers s : StreamValue) (l : LaneValue) → IfSome (first_of facts.side keys) (λ n. n ≡ first)
+          → All (OptionLined position) options → Bears at position facts.seen.segment.payload → (payload_len facts ≡ 0) ⊎ (position + payload_len facts ≤ suc upto)
+          → (ends ≡ true → facts.seen.segment.head.fin ≡ true → IsEnd (position + facts.seen.payload_len)) → (payload_at facts position).to ≤ high → Placed s l → Lined s l
+          → Lined (judged_at facts position options keys peers s l).stream (judged_at facts position options keys peers s l).lane
+      at_so facts position options keys peers s l is all bears within end to h lined =
+          let before : Mapped = record { stream = s; lane = fin_taken facts position l; learnt = []; has_line = false } in
+          let told = mapped_with facts (first_of facts.side keys) position options before in
+          let held = mapped_so facts (first_of facts.side keys) is position options before all (((h.0, lane.fin_lane false limit few content first where_at facts position l h.1), lane.none_learnt false limit few content first where_at), (lined.0, fin_so facts.seen.segment.head.fin refl)) in
+          let paid = behind_payload facts position peers.acknowledged told in
+          acks_so facts (first_of (peer facts.side) keys) peers options (summed facts (first_of facts.side keys) told.learnt paid)
+          (summed_so facts (first_of facts.side keys) told.learnt paid (payload_so facts position peers.acknowledged told bears within to held.0.0 held.1))
+        where
+          taken : (o : Option ℕ) → IfSome o IsEnd → IsEnd (position + facts.seen.payload_len) → IfSome (option_or o (Some (position + facts.seen.payload_len))) IsEnd
+          taken None was now = now
+          taken (Some p) was now = was
+
+          fin_so : (b : Bool) → facts.seen.segment.head.fin ≡ b → LaneLined (if b then with_fin (position + facts.seen.payload_len) l else l)
+          fin_so true e = record { line = lined.1.line; seen = lined.1.seen; fin = λ asked. taken l.fin (lined.1.fin asked) (end asked e); top = lined.1.top }
+          fin_so false e = lined.1

@@ -1,0 +1,295 @@
+-- In the capture of a run, whatever its script does, no place has two octets, and the DATA_FIN stands at one place.
+use Rattle.std.proofs.Common.{◌≡◌, refl, sym, ap, ◌∙◌, subst, ℕ, ◌+◌, ◌<◌, ◌≤◌, ◌⊎◌, inl, inr, ⊎_elim, Bool, true, false, Option, Some, None, option_map, Ok, Result, List, [], ◌∷◌, ◌++◌, append_assoc, length, map, arith}
+use Rattle.std.specs.Prelude.{All}
+use Rattle.std.specs.List.{slice_get}
+use Rattle.std.proofs.lemmas.List.Elements.{All-cons, All-head, All-nil, All-tail}
+use Rattle.std.proofs.lemmas.Option.{slice_get_within}
+use Rattle.capture_reader.specs.Captured.{Captured}
+use Rattle.capture_reader.specs.Seen.{Seen, segment_in_packet}
+use Rattle.capture_reader.specs.Steps.{◌>>=◌}
+use Rattle.capture_verdict.specs.Judging.{judged_capture, judged_if_seen, judged_packets}
+use Rattle.judge_laws.proofs.Standing.{some_same}
+use Rattle.judge_laws.specs.GoesOn.{broke, stream_in}
+use Rattle.judge_rules.specs.declared.finding.Rule.{Rule}
+use Rattle.link_trace.specs.declared.sent.Sent.{Sent}
+use Rattle.path_core.specs.Octets.{octets}
+use Rattle.path_segments.specs.Spelled.{PlainSegment}
+use Rattle.rule_book.specs.Judged.{judged, nothing_judged}
+use Rattle.rule_book.specs.State.{BookValue, JudgedValue, stream_at}
+use Rattle.run_trace.specs.Trace.{sent_at, trace_of}
+use Rattle.seen_streams.specs.State.{StreamValue}
+use Rattle.sides.specs.declared.side.Side.TheVariants.{A, B}
+use Rattle.sides.specs.declared.side.Side.{Side}
+use Rattle.stream_lanes.specs.Duo.{Duo}
+use Rattle.world_laws.proofs.Lanes.OfAWorld.{anyhow}
+use Rattle.world_laws.specs.Openings.{Start, opened_world}
+use Rattle.world_laws.specs.Promises.{HasRoom, NumbersFit}
+use Rattle.world_laws.specs.Worlds.{Turn, WorldState, after_turn, world_run}
+use Rattle.own_runs.specs.Fitting.{RunFits}
+use Rattle.own_runs.specs.Runs.{NoRunBreaks, capture_of}
+use Rattle.own_runs.specs.Traces.{FitsCapture, packet_for}
+use Rattle.own_runs.proofs.AckMoments.{Sends, one_turn}
+use Rattle.own_runs.proofs.BearsPlain.{BearsPlain, bears_at}
+use Rattle.own_runs.proofs.ComesTimes.{Answered, Opened, comes_keyed}
+use Rattle.own_runs.proofs.EndMaps.{FinOn, content, file_len, lane_of}
+use Rattle.own_runs.proofs.FinRuns.{fin_stands}
+use Rattle.own_runs.proofs.Fitting.{traces_fit}
+use Rattle.own_runs.proofs.InTime.{OpensAt, ResetsPath, Sending, SynsAt, SynsPath, WasReset, WasSaid, turn_sending, was_last, was_more, was_split}
+use Rattle.own_runs.proofs.Kept.{same_judged}
+use Rattle.own_runs.proofs.LastLanes.{AtLast}
+use Rattle.own_runs.proofs.LateJoins.{ComesBehind, Says}
+use Rattle.own_runs.proofs.Learning.{IsAlone, IsAnswer}
+use Rattle.own_runs.proofs.Lines.{StreamLined, is_line}
+use Rattle.own_runs.proofs.LinesTrace.{EndIn, LineKnown, LinesAt, as_told, begins, lines_next}
+use Rattle.own_runs.proofs.MapTrace.{few}
+use Rattle.own_runs.proofs.Moments.{IsSpoken, WorldAlso, world_speaks}
+use Rattle.own_runs.proofs.NextTrace.{octets_append}
+use Rattle.own_runs.proofs.OwnTrace.{found}
+use Rattle.own_runs.proofs.ShownAcks.{both_worlds}
+use Rattle.own_runs.proofs.TellsPlaces.{RunTells, Tells, run_told}
+use Rattle.own_runs.proofs.TimeRuns.{OpensSo, opens_so}
+use Rattle.own_runs.proofs.Traces.{traces_are}
+
+-- ---- over the segments of a trace
+
+module _ (start : Start) (ends : Bool) (last : Duo) (fit : NumbersFit start) (ended : AtLast start last) where
+  -- all that is known of each, where so much was sent before it
+  abbrev pub AllKnown : Type 0 → Type 0 → (ℕ → Type 0) → (ℕ → Side → Type 0) → List Sent → Type 0
+  AllKnown U T S X [] = Unit {0}
+  AllKnown U T S X (x ∷ trace) =
+      (s : IsSpoken (LineKnown start ends last fit ended U T X) start x)
+      × AllKnown (U ⊎ Says start A IsAlone x s.segment) (T ⊎ Says start B IsAnswer x s.segment) (λ n. S n ⊎ SynsPath x s.segment n)
+      (λ n t. X n t ⊎ ((S n ⊎ SynsPath x s.segment n) × ResetsPath x s.segment n t)) trace
+
+  -- what each stream is
+  abbrev pub BooksLined : JudgedValue → Type 0
+  BooksLined state = (i : ℕ) (book : BookValue) → slice_get state.books i ≡ Some book → (s : Side) → StreamLined ends (file_len start s) (few start last fit s) (content start s) (stream_at s book)
+
+  module _ (at : Option Side) where
+    run_lined : (trace : List Sent) (U T : Type 0) (S : ℕ → Type 0) (X : ℕ → Side → Type 0) (state : JudgedValue) (n : ℕ) → AllKnown U T S X trace → All FitsCapture trace
+        → LinesAt start ends last fit ended U T S X state → BooksLined (judged_packets at true state n (map packet_for trace))
+    run_lined [] U T S X state n known fits h = λ i book there s. (h.hold.books i book there s).1
+    run_lined (x ∷ trace) U T S X state n known fits h =
+        run_lined trace (U ⊎ Says start A IsAlone x s.segment) (T ⊎ Says start B IsAnswer x s.segment) (λ n. S n ⊎ SynsPath x s.segment n)
+        (λ n t. X n t ⊎ ((S n ⊎ SynsPath x s.segment n) × ResetsPath x s.segment n t)) (judged_if_seen at true state n (segment_in_packet (packet_for x))) (n + 1) known.1 (All-tail FitsCapture x trace fits)
+        (subst (λ (o : Option Seen). Now (judged_if_seen at true state n o)) (sym (found (Tells start (Unit {0}) last) start x told short)) (lines_next start ends last fit ended U T S X x s short at n state h))
+      where
+        s : IsSpoken (LineKnown start ends last fit ended U T X) start x
+        s = known.0
+
+        short : length x.octets ≤ 65515
+        short = (All-head FitsCapture x trace fits).octets
+
+        told : IsSpoken (Tells start (Unit {0}) last) start x
+        told = as_told start ends last fit ended U T S X x s short
+
+        Now : JudgedValue → Type 0
+        Now = LinesAt start ends last fit ended (U ⊎ Says start A IsAlone x s.segment) (T ⊎ Says start B IsAnswer x s.segment) (λ n. S n ⊎ SynsPath x s.segment n)
+            (λ n t. X n t ⊎ ((S n ⊎ SynsPath x s.segment n) × ResetsPath x s.segment n t))
+
+    pub all_lined : (trace : List Sent) → AllKnown ⊥ ⊥ (λ n. ⊥) (λ n t. ⊥) trace → All FitsCapture trace → BooksLined (judged_packets at true nothing_judged 1 (map packet_for trace))
+    all_lined trace known fits = run_lined trace ⊥ ⊥ (λ n. ⊥) (λ n t. ⊥) nothing_judged 1 known fits (begins start ends last fit ended)
+
+  -- on the paths of the start
+  pub paths_are : (trace : List Sent) (U T : Type 0) (S : ℕ → Type 0) (X : ℕ → Side → Type 0) → AllKnown U T S X trace → All (λ s. s.path < length start.paths) trace
+  paths_are [] U T S X known = All-nil (λ s. s.path < length start.paths)
+  paths_are (x ∷ trace) U T S X known =
+      All-cons (λ s. s.path < length start.paths) x trace (slice_get_within start.paths x.path known.0.plan known.0.there) (paths_are trace _ _ _ _ known.1)
+
+-- ---- at each moment of a run
+
+module _ (start : Start) (ends : Bool) (turns : List Turn) (size : HasRoom start) (fit : NumbersFit start) (told : RunTells start (Unit {0}) turns) where
+  abbrev pub world : List Turn → WorldState (List ℕ)
+  world before = world_run octets before (opened_world start)
+
+  -- where the FINs of a trace stand, as far as that is asked
+  abbrev pub FinsStand : Type 0
+  FinsStand = (before later : List Turn) (turn : Turn) → before ++ turn ∷ later ≡ turns → (y : Sending) → turn_sending turn (world before) ≡ Some y → ends ≡ true → y.segment.fin ≡ true
+      → (y.segment.rst ≡ false) × EndIn start ends told.0 fit told.2 y.path y.from (y.segment.position + length y.segment.payload)
+
+  module _ (fins : FinsStand) where
+    abbrev Q : List Turn → ℕ → Side → PlainSegment → Type 0
+    Q before path s sg =
+        (Tells start (Unit {0}) told.0 path s sg × ComesBehind (Opened start size fit before) (Answered start size fit before) path s sg) × (OpensSo start size fit before path s sg × BearsPlain path s sg)
+
+    also : (before later : List Turn) → before ++ later ≡ turns → WorldAlso (Q before) (world before)
+    also before later is =
+        both_worlds (λ path s sg. Tells start (Unit {0}) told.0 path s sg × ComesBehind (Opened start size fit before) (Answered start size fit before) path s sg)
+        (λ path s sg. OpensSo start size fit before path s sg × BearsPlain path s sg) (world before)
+        (both_worlds (Tells start (Unit {0}) told.0) (ComesBehind (Opened start size fit before) (Answered start size fit before)) (world before) (told.1 before later is) (comes_keyed start size fit before))
+        (both_worlds (OpensSo start size fit before) BearsPlain (world before) (opens_so start size fit before) (bears_at start size fit before))
+
+    -- what is told by the turns is told by the segments
+    record ToldBy (before : List Turn) (U T : Type 0) (S : ℕ → Type 0) (X : ℕ → Side → Type 0) : Type 0 where
+      opened : Opened start size fit before → U
+      answered : Answered start size fit before → T
+      syn : (n : ℕ) → S n → WasSaid start (SynsAt n) before
+      reset : (n : ℕ) (t : Side) → X n t → WasReset start n t before
+
+    abbrev Keyed : Sending → Type 0
+    Keyed y = (y.path ≡ 0) × (y.from ≡ B) × IsAnswer y.segment
+
+    reset_more : (before : List Turn) (turn : Turn) (n : ℕ) (t : Side) → WasReset start n t before → WasReset start n t (before ++ turn ∷ [])
+    reset_more before turn n t h = record {
+      more = h.more;
+      turn = h.turn;
+      later = h.later ++ turn ∷ [];
+      is = sym (append_assoc h.more (h.turn ∷ h.later) (turn ∷ [])) ∙ ap (λ (ts : List Turn). ts ++ turn ∷ []) h.is;
+      said = h.said;
+      sends = h.sends;
+      holds = h.holds;
+      begun = h.begun;
+    }
+
+    module _ (before : List Turn) (turn : Turn) (U T : Type 0) (S : ℕ → Type 0) (X : ℕ → Side → Type 0) (h : ToldBy before U T S X) where
+      none_more : turn_sending turn (world before) ≡ None → ToldBy (before ++ turn ∷ []) U T S X
+      none_more none = record {
+        opened = λ is. h.opened (only (OpensAt 0) is);
+        answered = λ is. h.answered (only Keyed is);
+        syn = λ n s. was_more start (SynsAt n) before turn (h.syn n s);
+        reset = λ n t x. reset_more before turn n t (h.reset n t x);
+      }
+        where
+          clash : (o : Option Sending) (y : Sending) → o ≡ None → o ≡ Some y → ⊥
+          clash None y none some = cc
+          clash (Some z) y none some = cc
+
+          only : (P : Sending → Type 0) → WasSaid start P (before ++ turn ∷ []) → WasSaid start P before
+          only P is = ⊎_elim (λ was. was) (λ now. absurd (clash (turn_sending turn (world before)) now.0 none now.1)) (was_split start P before turn is)
+
+      one_more : (x : Sent) (sg : PlainSegment) → turn_sending turn (world before) ≡ Some (record { path = x.path; from = x.from; segment = sg })
+          → ToldBy (before ++ turn ∷ []) (U ⊎ Says start A IsAlone x sg) (T ⊎ Says start B IsAnswer x sg) (λ n. S n ⊎ SynsPath x sg n) (λ n t. X n t ⊎ ((S n ⊎ SynsPath x sg n) × ResetsPath x sg n t))
+      one_more x sg sends = record {
+        opened = λ is. ⊎_elim (λ was. inl (h.opened was)) (λ now. inr (now_so (OpensAt 0) now)) (was_split start (OpensAt 0) before turn is);
+        answered = λ is. ⊎_elim (λ was. inl (h.answered was)) (λ now. inr (now_so Keyed now)) (was_split start Keyed before turn is);
+        syn = syn_so;
+        reset = λ n t. ⊎_elim (λ x. reset_more before turn n t (h.reset n t x))
+            (λ now. record { more = before; turn = turn; later = []; is = refl; said = y; sends = sends; holds = now.1; begun = syn_so n now.0 });
+      }
+        where
+          y : Sending
+          y = record { path = x.path; from = x.from; segment = sg }
+
+          syn_so : (n : ℕ) → S n ⊎ SynsPath x sg n → WasSaid start (SynsAt n) (before ++ turn ∷ [])
+          syn_so n (inl s) = was_more start (SynsAt n) before turn (h.syn n s)
+          syn_so n (inr now) = was_last start (SynsAt n) before turn _ sends now
+
+          same : (z : Sending) → turn_sending turn (world before) ≡ Some z → z ≡ y
+          same z other = some_same z y (sym other ∙ sends)
+
+          now_so : (P : Sending → Type 0) → (z : Sending) × (turn_sending turn (world before) ≡ Some z) × P z → P (record { path = x.path; from = x.from; segment = sg })
+          now_so P it = subst P (same it.0 it.1) it.2
+
+    module _ (before later : List Turn) (turn : Turn) (is : before ++ turn ∷ later ≡ turns) (U T : Type 0) (S : ℕ → Type 0) (X : ℕ → Side → Type 0) (h : ToldBy before U T S X) (x : Sent) (o : Option Sending)
+        (made : o ≡ turn_sending turn (world before)) (s : IsSpoken (λ path t sg. Q before path t sg × (o ≡ Some (record { path = path; from = t; segment = sg }))) start x) where
+      known : IsSpoken (LineKnown start ends told.0 fit told.2 U T X) start x
+      known = record {
+        plan = s.plan;
+        there = s.there;
+        segment = s.segment;
+        end = s.end;
+        octets = s.octets;
+        spoken = s.spoken;
+        also = record {
+          tells = s.also.0.0.0;
+          comes = (let comes = s.also.0.0.1 in record {
+            acks = comes.acks;
+            joins = λ of_a syn more. h.answered (comes.joins of_a syn more);
+            answers = λ first of_b answer. h.opened (comes.answers first of_b answer);
+          });
+          living = λ rst x. s.also.0.1.0.living rst (h.reset _ _ x);
+          says = s.also.0.1.1.says;
+          fin = λ asked fin. fins before later turn is (record { path = x.path; from = x.from; segment = s.segment }) (sym made ∙ s.also.1) asked fin;
+        };
+      }
+
+    next_world : (before : List Turn) (turn : Turn) → world (before ++ turn ∷ []) ≡ after_turn octets turn (world before)
+    next_world before turn = octets_append before (turn ∷ []) (opened_world start)
+
+    -- what comes of the turns behind one more
+    abbrev Rest : List Turn → Turn → List Turn → Type 1
+    Rest before turn rest = (V W : Type 0) (R : ℕ → Type 0) (Y : ℕ → Side → Type 0) → ToldBy (before ++ turn ∷ []) V W R Y
+        → AllKnown start ends told.0 fit told.2 V W R Y (trace_of rest (world (before ++ turn ∷ [])))
+
+    known_rest : (rest before : List Turn) → before ++ rest ≡ turns → (U T : Type 0) (S : ℕ → Type 0) (X : ℕ → Side → Type 0) → ToldBy before U T S X
+        → AllKnown start ends told.0 fit told.2 U T S X (trace_of rest (world before))
+    unfolding known
+    known_rest [] before is U T S X h = tt
+    known_rest (turn ∷ rest) before is U T S X h =
+        by (λ V W R Y told_by. known_rest rest (before ++ turn ∷ []) is_next V W R Y told_by) (one_turn (Q before) start turn (world before) (world_speaks start before size fit) (also before (turn ∷ rest) is))
+      where
+        is_next : (before ++ turn ∷ []) ++ rest ≡ turns
+        is_next = append_assoc before (turn ∷ []) rest ∙ is
+
+        by : Rest before turn rest → Sends (Q before) start (sent_at turn (world before)) (turn_sending turn (world before))
+            → AllKnown start ends told.0 fit told.2 U T S X (sent_at turn (world before) ++ trace_of rest (after_turn octets turn (world before)))
+        by later (inl it) =
+            subst (λ (xs : List Sent). AllKnown start ends told.0 fit told.2 U T S X (xs ++ trace_of rest (after_turn octets turn (world before)))) (sym it.0)
+            (subst (λ (w : WorldState (List ℕ)). AllKnown start ends told.0 fit told.2 U T S X (trace_of rest w)) (next_world before turn) (later U T S X (none_more before turn U T S X h it.1)))
+        by later (inr it) =
+            subst (λ (xs : List Sent). AllKnown start ends told.0 fit told.2 U T S X (xs ++ trace_of rest (after_turn octets turn (world before)))) (sym it.1) (
+              known before rest turn is U T S X h it.0 (turn_sending turn (world before)) refl it.2,
+              subst (λ (w : WorldState (List ℕ)). AllKnown start ends told.0 fit told.2 V W R Y (trace_of rest w)) (next_world before turn)
+                  (later V W R Y (one_more before turn U T S X h it.0 it.2.segment it.2.also.1)),
+            )
+          where
+            V : Type 0
+            V = U ⊎ Says start A IsAlone it.0 it.2.segment
+
+            W : Type 0
+            W = T ⊎ Says start B IsAnswer it.0 it.2.segment
+
+            R : ℕ → Type 0
+            R = λ n. S n ⊎ SynsPath it.0 it.2.segment n
+
+            Y : ℕ → Side → Type 0
+            Y = λ n t. X n t ⊎ ((S n ⊎ SynsPath it.0 it.2.segment n) × ResetsPath it.0 it.2.segment n t)
+
+    none_said : (P : Sending → Type 0) → WasSaid start P [] → ⊥
+    none_said P h = none h.more h.is
+      where
+        none : (more : List Turn) → more ++ h.turn ∷ h.later ≡ [] → ⊥
+        none [] e = cc
+        none (m ∷ more) e = cc
+
+    pub all_known : AllKnown start ends told.0 fit told.2 ⊥ ⊥ (λ n. ⊥) (λ n t. ⊥) (trace_of turns (opened_world start))
+    all_known =
+        known_rest turns [] refl ⊥ ⊥ (λ n. ⊥) (λ n t. ⊥)
+        (record { opened = λ is. none_said (OpensAt 0) is; answered = λ is. none_said Keyed is; syn = λ n no. absurd no; reset = λ n t no. absurd no })
+
+    pub breaks_none : RunFits start turns → (r : Rule) → is_line ends r ≡ true → (side : Side) (at : Option Side) (judged : JudgedValue) → judged_capture at true (capture_of start turns side) ≡ Ok judged
+        → (connection : ℕ) (s : Side) (stream : StreamValue) → stream_in judged connection s ≡ Some stream → broke r stream ≡ false
+    breaks_none run r is side at judged read connection s stream there = by (slice_get all_judged.books connection) refl (ap (λ (j : JudgedValue). stream_in j connection s) same ∙ there)
+      where
+        trace : List Sent
+        trace = trace_of turns (opened_world start)
+
+        room : All FitsCapture trace
+        room = traces_fit start turns size fit run
+
+        all_judged : JudgedValue
+        all_judged = judged_packets at true nothing_judged 1 (map packet_for trace)
+
+        same : all_judged ≡ judged
+        same =
+            let few_paths = fit.paths in
+            same_judged all_judged judged
+            (sym (ap (λ (m : Result (List Captured) ℕ). m >>= λ packets. Ok (judged_packets at true nothing_judged 1 packets))
+            (traces_are side (length start.paths) trace (omega (arith, few_paths)) (paths_are start ends told.0 fit told.2 trace _ _ _ _ all_known) room)) ∙ read)
+
+        by : (o : Option BookValue) → slice_get all_judged.books connection ≡ o → option_map (stream_at s) o ≡ Some stream → broke r stream ≡ false
+        by None e none = cc
+        by (Some book) e some =
+            subst (λ (x : StreamValue). broke r x ≡ false) (some_same (stream_at s book) stream some) ((all_lined start ends told.0 fit told.2 at trace all_known room connection book e s).untold r is)
+
+-- whatever its script does
+pub no_run_breaks : (r : Rule) → is_line true r ≡ true → NoRunBreaks r
+no_run_breaks r is start turns size fit run =
+    let told = run_told start turns size fit in
+    breaks_none start true turns size fit (told.0, told.1, told.2)
+    (λ before later turn split y sends asked fin.
+    let it = fin_stands start (anyhow start size) size fit turns told.0 told.3 before later turn split y sends fin in
+    (it.0, subst (FinOn (lane_of told.0 y.path y.from)) (at_end y.segment.position y.segment.payload it.1) it.2)) run r is
+  where
+    at_end : (position : ℕ) (payload : List ℕ) → payload ≡ [] → position ≡ position + length payload
+    at_end position payload none = let empty : length payload ≡ 0 = ap (λ (xs : List ℕ). length xs) none in omega (arith, empty)
