@@ -35,7 +35,7 @@ use Rattle.whole_paths.proofs.OpeningEnds.{LaterPath, later_path}
 use Rattle.whole_paths.proofs.OverOctets.{as_far}
 use Rattle.whole_paths.proofs.PatientPaths.{few_losses_finish_patiently_in_octets}
 use Rattle.whole_paths.proofs.QuietOpenings.{lost_early_fits}
-use Rattle.whole_paths.proofs.QuietTexts.{nothing_comes_early_by_text}
+use Rattle.whole_paths.proofs.QuietTexts.{none_of_first, nothing_comes_early_by_text}
 
 -- a path lives
 lives : (crew : List (ActorCrew Carried)) (i : ℕ) (c : ActorCrew Carried) → slice_get crew i ≡ Some c → is_no_live_path c.member ≡ false → are_all_dead crew ≡ false
@@ -78,7 +78,7 @@ module _ (script : Script) (path : PathLine) (file_a file_b : List ℕ) (turns :
 
       by : (b : Bool) → list_all (λ line. not (moves A line)) script.lines ≡ b → (b ≡ true) ⊎ FitsFirstWindow start A
           → lost_early start turns ≤ (if b then 0 else segments path.mss (length file_a))
-      by true all early = let none = nothing_comes_early_by_text start plan turns one short all brief.few living in omega (arith, none)
+      by true all early = let none = nothing_comes_early_by_text start plan turns one short (none_of_first script.lines all) brief.few living in omega (arith, none)
       by false some (inl none) = cc (none)
       by false some (inr fits) = let few = lost_early_fits start turns fits in let same = one_path in omega (arith, few, same)
 

@@ -94,6 +94,7 @@ pub mod Opening
 pub mod OpeningConfirmed
 pub mod OpeningKeys
 pub mod OpeningSyns
+pub mod FewSyns
 pub mod NeverUnmapped
 pub mod News
 pub mod NewsBounds

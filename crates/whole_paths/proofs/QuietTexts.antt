@@ -129,7 +129,7 @@ use Rattle.whole_paths.proofs.OpeningConfirmed.{signs_are_said}
 use Rattle.whole_paths.proofs.OpeningEnds.{died_stays}
 use Rattle.whole_paths.proofs.OpeningKeys.{ack_options_are}
 use Rattle.whole_paths.proofs.OpeningStates.{ends_go_by_the_handshake}
-use Rattle.whole_paths.proofs.OpeningSyns.{syns_are_few}
+use Rattle.whole_paths.proofs.FewSyns.{syns_are_few}
 use Rattle.whole_paths.proofs.Owing.{Ahead, Ready, Sends, Stands, StandingMember, copies_are_answered, each_stands}
 use Rattle.whole_paths.proofs.Owing.{Ready as ready}
 use Rattle.whole_paths.proofs.Paying.{AnswersComeSo, GoesSo, answers_come_so}

@@ -155,7 +155,7 @@ pub mod WindowKinds
 pub mod WindowsHeld
 pub mod CalmWindows
 pub mod ToldRounds
-pub mod OpeningSyns
+pub mod FewSyns
 pub mod ToldSince
 pub mod QuietOpenings
 pub mod ShortWaits

@@ -1,6 +1,6 @@
 -- Where no line of the script moves one of A's first eight segments, none with octets comes to B's end before that may send a DSS: these come in the
--- order in which they were sent, and no later one comes before. Up to six of them are SYNs, as A's timer runs out five times at most; then the first one
--- goes that acknowledges B's SYN, and shows both keys (RFC 8684, section 3.1).
+-- order in which they were sent, and no later one comes before. Six of them at most are SYNs, as A's timer runs out five times at most; then the
+-- first one goes that acknowledges B's SYN, and shows both keys (RFC 8684, section 3.1).
 use Rattle.std.specs.Prelude.{ℕ, ◌-◌, ◌^◌, ◌≡◌, ◌<◌, ◌≤◌, nat_le, Bool, ◌&&◌, not, true, List, length}
 use Rattle.std.specs.List.{list_all}
 use Rattle.sides.specs.declared.side.Side.TheVariants.{A}
@@ -30,5 +30,5 @@ MovesNoneOfFirst most lines = list_all (λ line. not (moves A line && is_first m
 
 -- none of A's records is lost so in fewer than 2^64 - 1 turns, as long as no end is dead
 abbrev pub NothingComesEarlyByText : Type 0
-NothingComesEarlyByText = (start : Start) (plan : PathPlan) (turns : List Turn) → BeginsWithOnePath start plan → plan.delay ≤ 400 → MovesNoneOfFirst 8 start.lines
-    → length turns < 2 ^ 64 - 1 → (AnEndDied 0 (reached values start turns) → ⊥) → lost_early start turns ≡ 0
+NothingComesEarlyByText = (start : Start) (plan : PathPlan) (turns : List Turn) → BeginsWithOnePath start plan → plan.delay ≤ 400
+    → MovesNoneOfFirst 8 start.lines → length turns < 2 ^ 64 - 1 → (AnEndDied 0 (reached values start turns) → ⊥) → lost_early start turns ≡ 0
