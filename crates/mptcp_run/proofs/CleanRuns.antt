@@ -16,7 +16,7 @@ use Rattle.whole_paths.specs.FewTexts.{LosesFew, early_by_text}
 use Rattle.whole_paths.specs.FilesFit.{FitsFirstWindow}
 use Rattle.whole_paths.specs.Finish.{harms_to, is_harmless_to_ends, is_mild, is_on_direction, patience, patient_rounds}
 use Rattle.whole_paths.specs.Finish.{rounds_in as whole_rounds}
-use Rattle.whole_paths.specs.QuietTexts.{MovesNoneOfA}
+use Rattle.whole_paths.specs.QuietTexts.{MovesNoneOfFirst}
 use Rattle.whole_paths.proofs.BriefRuns.{few_steps_are_brief}
 use Rattle.whole_paths.proofs.FewTexts.{few_texts_finish, few_texts_go_on}
 use Rattle.clean_finish.specs.Bound.{enough}
@@ -230,10 +230,10 @@ fits_so script file_a file_b is =
     record { buffer = leb-true (length file_a + 3) script.buffer parts.0; syn = leb-true (length file_a + 1) 65535 parts.1 }
 
 early_so : (script : Script) (file_a file_b : List ℕ) → moves_none_of_a script.lines || fits_first script.buffer (length file_a) ≡ true
-    → MovesNoneOfA script.lines ⊎ FitsFirstWindow (start_of script file_a file_b) A
+    → MovesNoneOfFirst 8 script.lines ⊎ FitsFirstWindow (start_of script file_a file_b) A
 early_so script file_a file_b is = by (moves_none_of_a script.lines) refl is
   where
-    by : (b : Bool) → moves_none_of_a script.lines ≡ b → b || fits_first script.buffer (length file_a) ≡ true → MovesNoneOfA script.lines ⊎ FitsFirstWindow (start_of script file_a file_b) A
+    by : (b : Bool) → moves_none_of_a script.lines ≡ b → b || fits_first script.buffer (length file_a) ≡ true → MovesNoneOfFirst 8 script.lines ⊎ FitsFirstWindow (start_of script file_a file_b) A
     by true none either = inl none
     by false some fits = inr (fits_so script file_a file_b fits)
 
