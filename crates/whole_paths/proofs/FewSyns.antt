@@ -1,5 +1,5 @@
 -- While A's end opens it sends its SYN alone: once, and once more for each expiry. So its segments are few.
-use Rattle.std.proofs.Common.{◌≡◌, refl, sym, subst, ap, ◌∙◌, ◌⊎◌, inl, inr, ⊎_elim, ℕ, zero, suc, ◌+◌, ◌-◌, ◌^◌, ◌<◌, ◌≤◌, le_refl, arith, min, nat_le, ◌&&◌, ◌||◌, Bool, true, false, true≢false, if◌then◌else◌, Option, Some, None, is_some, List, [], ◌∷◌, ◌++◌, length, map}
+use Rattle.std.proofs.Common.{◌≡◌, refl, sym, subst, ap, ◌∙◌, ◌⊎◌, inl, inr, ⊎_elim, ℕ, zero, suc, ◌+◌, ◌≤◌, le_refl, arith, ◌||◌, Bool, true, false, true≢false, if◌then◌else◌, Option, Some, None, is_some, List, [], ◌∷◌, length}
 use Rattle.std.specs.Prelude.{find, not}
 use Rattle.std.specs.List.{list_any}
 use Rattle.std.proofs.lemmas.Bool.{and_parts, both_ways, leb-true, or_left}
@@ -9,7 +9,6 @@ use Rattle.sides.specs.declared.side.Side.{Side}
 use Rattle.sides.specs.declared.side.Side.TheVariants.{A, B}
 use Rattle.sides.specs.Side.{peer}
 use Rattle.link_script.specs.Places.{same_side}
-use Rattle.link_model.specs.State.{LinkState}
 use Rattle.link_model.specs.Steps.{after_delivery, after_send, arriving, segments_sent}
 use Rattle.loss_recovery.specs.declared.timers.Timing.{Timing}
 use Rattle.subflow_send.specs.Records.{Record, SendState}
@@ -17,7 +16,6 @@ use Rattle.subflow_send.specs.Rules.{expired_records, first_sent, first_unsent_s
 use Rattle.subflow_send.specs.Sendings.{sent_again}
 use Rattle.subflow_tcp.specs.declared.handshake.State.{State as EndPhase}
 use Rattle.subflow_tcp.specs.declared.handshake.State.TheVariants as phase
-use Rattle.subflow_tcp.specs.declared.segments.Hint.{Hint}
 use Rattle.subflow_tcp.specs.declared.segments.Occasion.{Occasion}
 use Rattle.subflow_tcp.specs.declared.segments.Occasion.TheVariants as to_send
 use Rattle.subflow_tcp.specs.declared.segments.Outgoing.{Outgoing}
@@ -31,43 +29,39 @@ use Rattle.subflow_tcp.specs.Judging.{meaning_of}
 use Rattle.subflow_tcp.specs.Opening.{after_begin}
 use Rattle.subflow_tcp.specs.State.{EndState, has_records}
 use Rattle.subflow_tcp.specs.States.{is_closed_to_segments, is_dead, is_opening, is_waiting, may_finish}
-use Rattle.subflow_tcp.specs.Taking.{after_arrival, after_death, after_hearing, after_payload}
+use Rattle.subflow_tcp.specs.Taking.{after_death, after_hearing, after_payload}
 use Rattle.actor_desk.specs.declared.ask.Reply.{Reply}
 use Rattle.actor_desk.specs.Words.{tail_of}
-use Rattle.path_agenda.specs.Agenda.{copy_came, emission, expired, expired_for_ever, heard_and, leaves, payload_came, resets, start_of_turn}
+use Rattle.path_agenda.specs.Agenda.{emission, expired, expired_for_ever, heard_and, leaves, payload_came, resets, start_of_turn}
 use Rattle.path_agenda.specs.declared.duty.Duty.{Duty}
 use Rattle.path_agenda.specs.declared.duty.Duty.TheVariants as duties
 use Rattle.path_agenda.specs.declared.duty.AskDuty.TheVariants as ask_duties
 use Rattle.path_agenda.specs.declared.duty.SendDuty.{SendDuty}
 use Rattle.path_agenda.specs.declared.duty.SendDuty.TheVariants as send_duties
-use Rattle.path_agenda.specs.declared.duty.SilentDuty.TheVariants as silent_duties
 use Rattle.path_agenda.specs.declared.duty.StepDuty.TheVariants as step_duties
 use Rattle.path_agenda.specs.declared.heard.Heard.{Heard}
 use Rattle.path_agenda.specs.declared.heard.Heard.TheVariants as says
 use Rattle.path_agenda.specs.declared.keys.KeyPair.{KeyPair}
 use Rattle.path_store.specs.declared.lines.LineAction.{LineAction}
 use Rattle.path_store.specs.declared.lines.LineAction.TheVariants as actions
-use Rattle.path_core.specs.Arrival.{copy_heard, copy_judged, copy_of, heard_in, judged_in, owing_if, reset_for, template_by, template_of, told_at, with_payload}
-use Rattle.path_core.specs.Breaking.{answered_break, died_unless_dead, reset_on}
+use Rattle.path_core.specs.Arrival.{copy_heard, copy_judged, copy_of, heard_in, judged_in, owing_if, reset_for, template_by, template_of, told_at}
+use Rattle.path_core.specs.Breaking.{answered_break, reset_on}
 use Rattle.path_core.specs.DataFin.{is_data_fin_owed}
 use Rattle.path_core.specs.DssIn.{held_of, is_clash, with_learned}
 use Rattle.path_core.specs.Duties.{answered, passed, sent_for, stands}
-use Rattle.path_core.specs.Emission.{answered_data, answered_grant, data_stands, first_unsent, fits, grant_in, having_sent_unsent, resend_occasion, resend_of}
+use Rattle.path_core.specs.Emission.{answered_data, answered_grant, data_stands, first_unsent, fits, grant_in, resend_occasion}
 use Rattle.path_core.specs.End.{PathEnd, died}
 use Rattle.path_core.specs.Events.{after_line, happens_if, next_event}
 use Rattle.path_core.specs.Fallback.{after_fell, breaks_by_ack, fell_duties, with_plain_ack}
-use Rattle.path_core.specs.Handover.{handed}
 use Rattle.path_core.specs.Judged.{taken_as}
-use Rattle.path_core.specs.Looking.{broken_by, duty_sends, first_sends, heard_sends, segment_sent, send_of, unsent_sends}
+use Rattle.path_core.specs.Looking.{duty_sends, unsent_sends}
 use Rattle.path_core.specs.MpJoin.{is_joined, is_never, join_begun, keys_begun, never_joined, opened_by, with_keys}
 use Rattle.path_core.specs.OptionsIn.{hint_of, items_of, options_heard, owes_by}
-use Rattle.path_core.specs.Profile.{Profile}
 use Rattle.path_core.specs.Standing.{answered_ack_out, is_connected}
 use Rattle.path_core.specs.Start.{waiting_path}
-use Rattle.path_core.specs.State.{PathState, at_tick, end_at, goes_on, left, with_agenda}
+use Rattle.path_core.specs.State.{PathState, at_tick, end_at, goes_on, with_agenda}
 use Rattle.path_core.specs.Steps.{begins_turn, next_round, settled, takes}
 use Rattle.path_core.specs.Treating.{answered_heard, answered_item, item_of}
-use Rattle.path_core.specs.Turns.{FirstStands}
 use Rattle.path_core.specs.Values.{Carried, values}
 use Rattle.path_core.specs.declared.events.Event.{Event}
 use Rattle.path_core.specs.declared.events.Event.TheVariants as happenings
@@ -93,7 +87,6 @@ use Rattle.whole_paths.specs.OnePathScripts.{BeginsWithOnePath}
 use Rattle.whole_paths.specs.OpeningStates.{IsOfA}
 use Rattle.whole_paths.specs.OpeningStates.{IsOfA as of_a}
 use Rattle.whole_paths.specs.FewSyns.{SynsAreFew}
-use Rattle.whole_paths.specs.OpeningWaits.{IsAlive}
 use Rattle.whole_paths.proofs.AckedData.{opened_here}
 use Rattle.whole_paths.proofs.Agendas.{answered_follows, died_gone}
 use Rattle.whole_paths.proofs.ByTurns.{Becomes, Of, OfFirst, each_step}
@@ -106,7 +99,7 @@ use Rattle.whole_paths.proofs.ExpiriesInARow.{BothSame, takes_row}
 use Rattle.whole_paths.proofs.ExpiriesInARow.{same_lasts as row_lasts}
 use Rattle.whole_paths.proofs.Handshaking.{Given, PathMet, each_met, given, living_before, moment, next_far, takes_far}
 use Rattle.whole_paths.proofs.Paying.{sends_own, settled_far}
-use Rattle.whole_paths.proofs.Pieces.{is_event, own_only}
+use Rattle.whole_paths.proofs.Pieces.{is_event}
 use Rattle.whole_paths.proofs.RecordsGo.{SameRecords, same_lasts}
 use Rattle.whole_paths.proofs.Subflows.{ack_up}
 use Rattle.whole_paths.proofs.Waiting.{Far}

@@ -1,7 +1,7 @@
 -- Where no line moves a segment of A's the first one that acknowledges B's SYN comes to B before any with octets, and shows it both keys.
 use Rattle.std.proofs.Common.{◌≡◌, refl, sym, subst, ap, ◌∙◌, ◌⊎◌, inl, inr, ⊎_elim, ℕ, zero, suc, ◌+◌, ◌-◌, ◌^◌, ◌<◌, ◌≤◌, le_refl, arith, min, nat_lt, nat_le, ◌&&◌, ◌||◌, ◌==◌, Bool, true, false, true≢false, cond, if◌then◌else◌, Option, Some, None, IfSome, List, [], ◌∷◌, ◌++◌, length}
 use Rattle.std.specs.Prelude.{is_some, not, option_map}
-use Rattle.std.specs.List.{AllByRecursion, list_all, list_any, slice_get}
+use Rattle.std.specs.List.{list_all, list_any, slice_get}
 use Rattle.std.proofs.lemmas.Bool.{and_from, and_parts, both_ways, cases_lt, eq-eqb, le-leb, le-ltb, not-true}
 use Rattle.std.proofs.lemmas.List.{append_assoc, length-append}
 use Rattle.std.proofs.lemmas.Option.{same_Some}
@@ -93,7 +93,7 @@ use Rattle.whole_paths.specs.OpeningConfirmed.Confirms.{keys}
 use Rattle.whole_paths.specs.OpeningStates.{GoByTheHandshake, IsOfA}
 use Rattle.whole_paths.specs.OpeningStates.{IsOfA as of_a}
 use Rattle.whole_paths.specs.OpeningWaits.{IsAlive}
-use Rattle.whole_paths.specs.Owed.{AnswerComesSo, AnswerGoesOn, Covers, IsAnswer, IsAnswered, IsAnsweredSo, IsToRefuse}
+use Rattle.whole_paths.specs.Owed.{AnswerComesSo, AnswerGoesOn, Covers, IsAnswered, IsAnsweredSo, IsToRefuse}
 use Rattle.whole_paths.specs.Owed.{AnswerGoesOn as answer}
 use Rattle.whole_paths.specs.Owed.{IsToRefuse as refuse}
 use Rattle.whole_paths.specs.Owed.IsAnswered.{owes, flies}
