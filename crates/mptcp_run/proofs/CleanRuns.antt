@@ -36,8 +36,8 @@ use Rattle.world_laws.specs.Outcomes.{outcome_of}
 use Rattle.world_laws.specs.Serial.{goes_on, OneOf}
 use Rattle.world_laws.specs.Worlds.{AreLawful, Turn, world_step, end_round, world_run}
 use Rattle.mptcp_run.specs.Answers.{IsAnswer, EndRow, HasRun}
-use Rattle.mptcp_run.specs.Clean.{AsksRounds, Bound, CleanRunsDeliver, DeliversBy, DeliversIfClean, DeliversIfFew, FewRunsDeliver, HasRoundsBy}
-use Rattle.mptcp_run.specs.Enough.{few_enough, few_on, fits_first, harms_allowed, is_gentle, loses_few, moves_none_of_a}
+use Rattle.mptcp_run.specs.Clean.{AsksRounds, Bound, CleanRunsDeliver, DeliversBy, DeliversIfClean, DeliversIfFew, EnoughRunsDeliver, FewRunsDeliver, HasRoundsBy}
+use Rattle.mptcp_run.specs.Enough.{few_enough, or_else, rounds_enough, few_on, fits_first, harms_allowed, is_gentle, loses_few, moves_none_of_a}
 use Rattle.mptcp_run.specs.Ends.{HasEnded}
 use Rattle.mptcp_run.specs.Putting.{status_of, world_after}
 use Rattle.mptcp_run.specs.Task.{Connection, Task, Course, rounds, threads, told, first_world, course_of, task_of, AreTurnsOf}
@@ -289,6 +289,27 @@ few_promise = record {
 
 pub few_runs_deliver : FewRunsDeliver
 few_runs_deliver = known_runs_deliver few_enough few_promise
+
+-- ---- either
+
+either_so : (o p : Option ℕ) (least : ℕ) → or_else o p ≡ Some least → (o ≡ Some least) ⊎ (p ≡ Some least)
+either_so None p least is = inr is
+either_so (Some least_of) p least is = inl is
+
+enough_promise : IsPromise rounds_enough
+enough_promise = record {
+  finish = λ script file_a file_b least turns ranges is small_a small_b lawful few many. ⊎_elim
+      (λ clean. clean_promise.finish script file_a file_b least turns ranges clean small_a small_b lawful few many)
+      (λ some. few_promise.finish script file_a file_b least turns ranges some small_a small_b lawful few many)
+      (either_so (enough script (length file_a) (length file_b)) (few_enough script (length file_a) (length file_b)) least is);
+  go_on = λ script file_a file_b least turns ranges is small_a small_b lawful few. ⊎_elim
+      (λ clean. clean_promise.go_on script file_a file_b least turns ranges clean small_a small_b lawful few)
+      (λ some. few_promise.go_on script file_a file_b least turns ranges some small_a small_b lawful few)
+      (either_so (enough script (length file_a) (length file_b)) (few_enough script (length file_a) (length file_b)) least is);
+}
+
+pub enough_runs_deliver : EnoughRunsDeliver
+enough_runs_deliver = known_runs_deliver rounds_enough enough_promise
 
 -- ---- where the words ask for a run
 
