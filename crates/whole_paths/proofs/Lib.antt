@@ -322,3 +322,5 @@ pub mod GrantReasons
 pub mod MissingBytes
 pub mod ReturnWaits
 pub mod CountedCourses
+pub mod ManyWaits
+pub mod ManyGoingOn

@@ -194,3 +194,5 @@ pub mod FirstMissing
 pub mod MissingBytes
 pub mod ReturnWaits
 pub mod CountedCourses
+pub mod ManyWaits
+pub mod ManyGoingOn
