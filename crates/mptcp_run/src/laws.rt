@@ -42,8 +42,8 @@ pub fn clean_runs_deliver()
 /// lost or late, its run delivers both files, or memory is wanting, as long as no count of faults rises.
 ///
 /// Few are lost by a script with one path, four of whose lines at most lose or delay a segment. No line takes anything away, alters, kills or stops
-/// anything, speaks of a whole direction, or takes back address 0. Where one loses, delays or repeats a segment of A's, A's file has three octets
-/// fewer than the script's buffer, and 65,534 at most, and each full segment of it counts as such a line besides.
+/// anything, speaks of a whole direction, or takes back address 0. Where one loses, delays or repeats one of A's first eight segments, A's file has
+/// three octets fewer than the script's buffer, and 65,534 at most, and each full segment of it counts as such a line besides.
 pub fn few_runs_deliver()
     ensures { FewRunsDeliver }
 {}
