@@ -327,6 +327,4 @@ pub mod Serving
 pub mod ManyWaits
 pub mod ManyGoingOn
 pub mod ManyCourses
-pub mod ManyCourses
-pub mod ManyGoingOn
 pub mod ManyPaths
