@@ -5,7 +5,6 @@ ghost use Rattle.reassembly_book.specs.Steps as arriving;
 ghost use Rattle.control_book.specs.Calls as controlling;
 ghost use Rattle.control_book.specs.Replies as control_replies;
 ghost use Rattle.control_book.specs.Control.{new_control};
-ghost use Rattle.reassembly_book.specs.State.{new_arriving};
 ghost use Rattle.sides.specs.declared.side.Side.TheVariants.{A, B};
 ghost use Rattle.stamped_book.specs.Entering.{next_stamp};
 ghost use Rattle.stamped_book.specs.declared.stamped.Refusal.TheVariants as refusals;
@@ -50,21 +49,6 @@ impl Model for Books {
         (all_six b.send_a b.send_b b.reassembly_a b.reassembly_b b.control_a b.control_b)) };
 }
 
-// A reassembly book for A and one for B.
-fn open_reassembly(
-    alloc: Global,
-    buffer: u64,
-) -> Result<(ReassemblyBook, ReassemblyBook), AllocError>
-    requires some { 1 ≤ buffer }
-    requires most { buffer ≤ 1048576 }
-    ensures a { IfOk result (λ books. books.0 ≡ new_arriving buffer) }
-    ensures b { IfOk result (λ books. books.1 ≡ new_arriving buffer) }
-{
-    let a = ReassemblyBook::new(alloc, buffer)?;
-    let b = ReassemblyBook::new(alloc, buffer)?;
-    Ok((a, b))
-}
-
 // A control book for A and one for B.
 fn open_control(
     alloc: Global,
@@ -93,13 +77,12 @@ impl Books {
         requires most { buffer ≤ 1048576 }
         ensures { IfOk result (λ books. books ≡ unasked (opened_books buffer key_a key_b)) }
     {
-        let (reassembly_a, reassembly_b) = open_reassembly(alloc, buffer)?;
         let (control_a, control_b) = open_control(alloc, key_a, key_b)?;
         Ok(Books {
             send_a: Stamped::new(alloc, SendBook::new(alloc, buffer)),
             send_b: Stamped::new(alloc, SendBook::new(alloc, buffer)),
-            reassembly_a: Stamped::new(alloc, reassembly_a),
-            reassembly_b: Stamped::new(alloc, reassembly_b),
+            reassembly_a: Stamped::new(alloc, ReassemblyBook::new(alloc, buffer)),
+            reassembly_b: Stamped::new(alloc, ReassemblyBook::new(alloc, buffer)),
             control_a: Stamped::new(alloc, control_a),
             control_b: Stamped::new(alloc, control_b),
         })

@@ -247,7 +247,7 @@ fresh-passed at bytes p ps le =
     let c : end_of p - at ≡ 0 = omega arith in
     rw (a, b, c) refl
 
-begun-from : (from to at k : ℕ) (ps : List Piece) → AreOrdered from to ps → begun_before at ps ≡ suc k → from < at
+pub begun-from : (from to at k : ℕ) (ps : List Piece) → AreOrdered from to ps → begun_before at ps ≡ suc k → from < at
 begun-from from to at k [] h e = absurd (omega arith)
 begun-from from to at k (p ∷ ps) h e =
     ⊎_elim (λ lt. omega (arith, h.0)) (λ ge. let f = rw (lt_false p.at at ge) at e in absurd (omega arith)) (cases_lt p.at at)
@@ -278,6 +278,14 @@ drop-min (suc n) zero [] e = refl
 drop-min (suc n) (suc k) [] e = refl
 drop-min (suc n) zero (byte ∷ bytes) e = absurd (omega (arith, e))
 drop-min (suc n) (suc k) (byte ∷ bytes) e = drop-min n k bytes (omega (arith, e))
+
+pub take-min : (n k : ℕ) (bytes : List ℕ) → k ≡ min n (length bytes) → take k bytes ≡ take n bytes
+take-min zero zero bytes e = refl
+take-min zero (suc k) bytes e = absurd (omega (arith, e))
+take-min (suc n) zero [] e = refl
+take-min (suc n) (suc k) [] e = refl
+take-min (suc n) zero (byte ∷ bytes) e = absurd (omega (arith, e))
+take-min (suc n) (suc k) (byte ∷ bytes) e = ap (λ rest. byte ∷ rest) (take-min n k bytes (omega (arith, e)))
 
 pub drop-by_place : (place at lead known : ℕ) (bytes : List ℕ) → lead ≡ at - place → known ≡ min (place - at) (length bytes)
     → by_place lead (drop known bytes) ≡ drop place (by_place at bytes)
@@ -329,3 +337,12 @@ is_put from at limit passed first bytes rest ps parts qs h fits e f g fresh_is p
 
     where_they_stand : by_place (first - from) rest ≡ drop from (by_place at bytes)
     where_they_stand = ap (by_place (first - from)) dropped ∙ drop-by_place from at (first - from) passed bytes (omega arith) (omega arith)
+
+-- the same where the rest is told by what is dropped
+pub is_put_from : (from at limit first : ℕ) (bytes rest : List ℕ) (ps parts qs : List Piece) → AreOrdered from limit ps → at + length bytes ≤ limit
+    → first ≡ max from at → rest ≡ drop (from - at) bytes → parts ≡ fresh first rest ps → qs ≡ with_pieces parts ps → IsPut from at limit bytes ps parts qs
+is_put_from from at limit first bytes rest ps parts qs h fits f g fresh_is put =
+    let passed : ℕ = min (length bytes) (from - at) in
+    is_put from at limit passed first bytes rest ps parts qs h fits refl f
+    (g ∙ sym (drop-min (from - at) passed bytes (omega arith)) ∙ sym (take-rest passed (length bytes - passed) bytes refl))
+    fresh_is put

@@ -2,6 +2,9 @@ pub mod Ordered
 pub mod Spreading
 pub mod Filling
 pub mod Counting
+pub mod Fresh
 pub mod Gap
 pub mod Cutting
+pub mod Ends
 pub mod Loops
+pub mod Taken

@@ -87,3 +87,8 @@ AreBounded to (p ∷ ps) = (end_of p ≤ to) × AreBounded to ps
 abbrev pub side_by_side_end : ℕ → List Piece → ℕ
 side_by_side_end at [] = at
 side_by_side_end at (p ∷ ps) = if p.at == at then side_by_side_end (end_of p) ps else at
+
+-- where the pieces that begin at this position or before it, and those side by side behind them, end; at least there
+abbrev pub end_past : ℕ → List Piece → ℕ
+end_past reached [] = reached
+end_past reached (p ∷ ps) = if nat_lt reached p.at then reached else end_past (max reached (end_of p)) ps

@@ -1,9 +1,9 @@
 //! What the calls do to the pieces that are kept.
-ghost use Rattle.std.specs.Prelude.{◌≡◌, ◌+◌, ◌^◌, ◌<◌, ◌≤◌, ◌++◌, ◌∷◌, length, sum_by, IfOk, OnOk};
+ghost use Rattle.std.specs.Prelude.{◌≡◌, ◌+◌, ◌^◌, ◌<◌, ◌≤◌, ◌-◌, ◌++◌, ◌∷◌, length, drop, sum_by, IfOk, OnOk};
 ghost use Rattle.std.specs.List.{insert};
 ghost use Rattle.std.specs.List.Sorted.{IsNonDecreasingBy};
 ghost use Rattle.std.specs.VecDeque.{deque_len, deque_capacity};
-ghost use Rattle.byte_pieces.specs.Pieces.{AreOrdered, side_by_side_end, piece_len, piece_of, fresh, begun_before, with_piece, with_pieces, pieces_from, pieces_below, last_cut};
+ghost use Rattle.byte_pieces.specs.Pieces.{AreOrdered, side_by_side_end, end_past, piece_len, piece_of, fresh, begun_before, with_piece, with_pieces, pieces_from, pieces_below, last_cut};
 
 use crate::piece::Piece;
 use bytes::Bytes;
@@ -11,33 +11,34 @@ use std::alloc::{AllocError, Global};
 use std::collections::VecDeque;
 
 /// Appends these bytes as a piece, if there are any.
-fn push_part(
-    alloc: Global,
-    parts: &mut VecDeque<Piece>,
-    at: u64,
-    bytes: &[u8],
-) -> Result<(), AllocError>
-    ensures { OnOk result (parts.new.items ≡ parts.old.items ++ piece_of at bytes.now) }
+fn push_part(parts: &mut VecDeque<Piece>, at: u64, bytes: Bytes) -> Result<(), AllocError>
+    ensures { OnOk result (parts.new.items ≡ parts.old.items ++ piece_of at bytes) }
 {
     if bytes.is_empty() {
         return Ok(());
     }
-    parts.push_back(Piece {
-        at,
-        bytes: Bytes::copy_from_slice(alloc, bytes)?,
-    })?;
+    parts.push_back(Piece { at, bytes })?;
     Ok(())
 }
 
-/// The parts of these bytes that stand in no piece, copied.
+/// The bytes at the position `from` and past it, where the first one stands at the position `at`.
+pub(crate) fn counted(from: u64, at: u64, bytes: &Bytes) -> Result<Bytes, AllocError>
+    ensures { IfOk result (λ rest. rest ≡ drop (from - at) bytes.now) }
+{
+    let len = bytes.len();
+    let passed = len.min(from.saturating_sub(at) as usize);
+    bytes.slice(passed..len)
+}
+
+/// The parts of these bytes that stand in no piece. They share the bytes.
 pub(crate) fn fresh_parts(
     alloc: Global,
     pieces: &VecDeque<Piece>,
     at: u64,
-    bytes: &[u8],
+    bytes: Bytes,
 ) -> Result<VecDeque<Piece>, AllocError>
     requires { AreOrdered 0 (2 ^ 62) pieces.now.items }
-    ensures { IfOk result (λ parts. parts.items ≡ fresh at bytes.now pieces.now.items) }
+    ensures { IfOk result (λ parts. parts.items ≡ fresh at bytes pieces.now.items) }
 {
     let mut parts = VecDeque::new(alloc);
     let mut next = at;
@@ -50,11 +51,11 @@ pub(crate) fn fresh_parts(
         let piece = &pieces[index];
         let gap = rest.len().min(piece.at.saturating_sub(next) as usize);
         let known = rest.len().min(piece.end().saturating_sub(next) as usize);
-        push_part(alloc, &mut parts, next, &rest[..gap])?;
-        rest = &rest[known..];
+        push_part(&mut parts, next, rest.slice(0..gap)?)?;
+        rest.advance(known);
         next = next.max(piece.end());
     }
-    push_part(alloc, &mut parts, next, rest)?;
+    push_part(&mut parts, next, rest)?;
     Ok(parts)
 }
 
@@ -106,6 +107,24 @@ pub(crate) fn side_by_side_end(pieces: &VecDeque<Piece>, from: u64) -> u64
             return end;
         }
         end = piece.end();
+    }
+    end
+}
+
+/// Where the pieces that lie side by side end, told from a position that they reach. Those that end before it aren't
+/// looked at.
+pub(crate) fn end_from(pieces: &VecDeque<Piece>, reached: u64) -> u64
+    requires { AreOrdered 0 (2 ^ 62) pieces.now.items }
+    ensures { result ≡ end_past reached pieces.now.items }
+{
+    let mut end = reached;
+    let first = begun_before(pieces, reached).saturating_sub(1);
+    for index in first..pieces.len() {
+        let piece = &pieces[index];
+        if end < piece.at {
+            return end;
+        }
+        end = end.max(piece.end());
     }
     end
 }

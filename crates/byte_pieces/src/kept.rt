@@ -2,10 +2,12 @@ ghost use Rattle.std.specs.Prelude.{◌≡◌, ◌+◌, ◌-◌, ◌^◌, ◌<�
 ghost use Rattle.std.specs.List.{concat};
 
 use crate::changes::{
-    count_bytes, count_fresh, cut_pieces, drop_pieces, fresh_parts, put_pieces, side_by_side_end,
+    count_bytes, count_fresh, counted, cut_pieces, drop_pieces, end_from, fresh_parts, put_pieces,
+    side_by_side_end,
 };
 use crate::parts::Parts;
 use crate::piece::Piece;
+use bytes::Bytes;
 use std::alloc::{AllocError, Global};
 use std::collections::VecDeque;
 use std::marker::Model;
@@ -86,8 +88,8 @@ impl BytePieces {
         }
     }
 
-    /// Keeps those of these bytes that stand at a position without one, copied once each, and answers how many these
-    /// are. The first byte stands at the position `at`. Bytes below the first position that counts are passed over. What
+    /// Keeps those of these bytes that stand at a position without one, and answers how many these are. The bytes are copied
+    /// once. The first byte stands at the position `at`. Bytes below the first position that counts are passed over. What
     /// is held is let go.
     ///
     /// # Errors
@@ -101,20 +103,36 @@ impl BytePieces {
         ensures few { IfOk result (λ count. count ≤ length bytes.now) }
         ensures err { OnErr result (self.new ≡ self.old) }
     {
-        let passed = bytes.len().min(self.from.saturating_sub(at) as usize);
-        let first = self.from.max(at);
-        let parts = fresh_parts(self.alloc, &self.pieces, first, &bytes[passed..])?;
+        let copied = Bytes::copy_from_slice(self.alloc, bytes)?;
+        self.put_shared(at, &copied)
+    }
+
+    /// Keeps bytes as [`put`](BytePieces::put) does, and shares them: none is copied.
+    ///
+    /// # Errors
+    ///
+    /// Only where there is no memory for their pieces; then all is as it was.
+    pub fn put_shared(&mut self, at: u64, bytes: &Bytes) -> Result<u64, AllocError>
+        requires { at + length bytes.now ≤ 2 ^ 62 }
+        ensures ok { OnOk result (self.new ≡ after_put at bytes.now self.old) }
+        ensures count { IfOk result (λ count. count + kept_count self.old.places ≡
+            kept_count self.new.places) }
+        ensures few { IfOk result (λ count. count ≤ length bytes.now) }
+        ensures err { OnErr result (self.new ≡ self.old) }
+    {
+        let rest = counted(self.from, at, bytes)?;
+        let parts = fresh_parts(self.alloc, &self.pieces, self.from.max(at), rest)?;
         self.pieces.reserve(parts.len())?;
         self.incoming = None;
         let count = count_bytes(&parts);
         put_pieces(&mut self.pieces, parts);
-        self.end = side_by_side_end(&self.pieces, self.from);
+        self.end = end_from(&self.pieces, self.end);
         Ok(count)
     }
 
     /// Holds these bytes beside what is kept, until [`keep_held`](BytePieces::keep_held) keeps them: those that stand at a
-    /// position without one, copied once each. The first byte stands at the position `at`. What was held before is let
-    /// go, and so are these bytes at any other change.
+    /// position without one. The bytes are copied once. The first byte stands at the position `at`. What was held before
+    /// is let go, and so are these bytes at any other change.
     ///
     /// # Errors
     ///
@@ -124,8 +142,21 @@ impl BytePieces {
         ensures ok { OnOk result (self.new ≡ after_hold at bytes.now self.old) }
         ensures err { OnErr result (self.new ≡ self.old) }
     {
-        let passed = bytes.len().min(self.from.saturating_sub(at) as usize);
-        let rest = &bytes[passed..];
+        let copied = Bytes::copy_from_slice(self.alloc, bytes)?;
+        self.hold_shared(at, &copied)
+    }
+
+    /// Holds bytes as [`hold`](BytePieces::hold) does, and shares them: none is copied.
+    ///
+    /// # Errors
+    ///
+    /// Only where there is no memory for their pieces; then all is as it was.
+    pub fn hold_shared(&mut self, at: u64, bytes: &Bytes) -> Result<(), AllocError>
+        requires { at + length bytes.now ≤ 2 ^ 62 }
+        ensures ok { OnOk result (self.new ≡ after_hold at bytes.now self.old) }
+        ensures err { OnErr result (self.new ≡ self.old) }
+    {
+        let rest = counted(self.from, at, bytes)?;
         let parts = fresh_parts(self.alloc, &self.pieces, self.from.max(at), rest)?;
         self.pieces.reserve(parts.len())?;
         self.incoming = Some(parts);

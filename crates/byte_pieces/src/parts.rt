@@ -4,6 +4,7 @@ ghost use Rattle.std.specs.Iterator.{YieldsFirstBy, item_count};
 ghost use Rattle.byte_pieces.specs.Pieces.{AreBounded, side_by_side};
 
 use crate::piece::Piece;
+use bytes::Bytes;
 use std::collections::VecDeque;
 use std::marker::Model;
 
@@ -46,13 +47,13 @@ impl<'a> Parts<'a> {
 }
 
 impl<'a> Iterator for Parts<'a> {
-    type Item = &'a [u8];
+    type Item = &'a Bytes;
 
     ghost next_gives = { YieldsFirstBy (λ part. part.now) (λ parts. parts) };
 
     ghost remaining = { item_count (λ parts. parts) };
 
-    fn next(&mut self) -> Option<&'a [u8]> {
+    fn next(&mut self) -> Option<&'a Bytes> {
         if self.index >= self.pieces.len() {
             return None;
         }
@@ -62,6 +63,6 @@ impl<'a> Iterator for Parts<'a> {
         }
         self.index += 1;
         self.at = piece.end();
-        Some(piece.bytes.as_slice())
+        Some(&piece.bytes)
     }
 }

@@ -45,7 +45,7 @@ impl Books {
         Ok(Books {
             which: Which::Send,
             send: SendBook::new(alloc, 1),
-            reassembly: ReassemblyBook::new(alloc, 1)?,
+            reassembly: ReassemblyBook::new(alloc, 1),
             control: ControlBook::new(alloc, Side::A, 0)?,
             passed: 0,
         })
@@ -60,10 +60,7 @@ impl Books {
         self.which = which;
         self.passed = 0;
         self.send = SendBook::new(case.alloc, octets);
-        match ReassemblyBook::new(case.alloc, octets) {
-            Ok(book) => self.reassembly = book,
-            Err(_) => case.fail(),
-        }
+        self.reassembly = ReassemblyBook::new(case.alloc, octets);
         case.put("open");
     }
 

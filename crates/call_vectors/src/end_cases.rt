@@ -5,6 +5,7 @@
 ghost use Rattle.std.specs.Prelude.{◌<◌, ◌≤◌, ◌≡◌, ◌^◌, length, None, false};
 
 use case_fields::Case;
+use octet_text::Text;
 use segment_wire::{Addresses, Head, parse, write};
 use seq_units::Mapping;
 use subflow_tcp::{Emission, Hint, State, Subflow};
@@ -150,7 +151,7 @@ fn push(case: &mut Case, end: &mut Subflow) {
     let Ok(piece) = vec![in case.alloc; 0u8; length as usize] else {
         return case.fail();
     };
-    case.tell_made(end.push(piece.as_slice(), &NO_MAPPING));
+    case.tell_made(end.push(&Text::from(piece), &NO_MAPPING));
 }
 
 /// `emit TICK`: the segment that goes out at this tick, or `nothing`.

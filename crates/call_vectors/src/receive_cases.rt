@@ -19,7 +19,7 @@ const LAST: u64 = 1 << 61;
 fn put_joined(case: &mut Case, parts: Parts<'_>) {
     let mut octets = Vec::new(case.alloc);
     for part in parts {
-        if octets.extend_from_slice(part).is_err() {
+        if octets.extend_from_slice(part.as_slice()).is_err() {
             return case.fail();
         }
     }
@@ -33,7 +33,7 @@ fn put_parts(case: &mut Case, parts: Parts<'_>) {
         if case.answered() > start {
             case.put(",");
         }
-        case.put_digits(part);
+        case.put_digits(part.as_slice());
     }
     if case.answered() == start {
         case.put("-");

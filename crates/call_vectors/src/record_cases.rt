@@ -7,6 +7,7 @@ ghost use Rattle.std.specs.Prelude.{◌≤◌, ◌<◌, ◌^◌, length};
 
 use crate::steps::{Steps, put_steps};
 use case_fields::Case;
+use octet_text::Text;
 use seq_units::Mapping;
 use subflow_send::{RecordRef, SubflowSend};
 
@@ -80,11 +81,11 @@ fn send(case: &mut Case, side: &mut SubflowSend, tick: u64) {
 }
 
 fn push(case: &mut Case, side: &mut SubflowSend) {
-    let octets = case.octets();
-    push_octets(case, side, octets.as_slice());
+    let octets = Text::from(case.octets());
+    push_octets(case, side, &octets);
 }
 
-fn push_octets(case: &mut Case, side: &mut SubflowSend, octets: &[u8]) {
+fn push_octets(case: &mut Case, side: &mut SubflowSend, octets: &Text) {
     if octets.is_empty() || octets.len() > 1_000 || side.nxt() > 1 << 32 || side.is_finished() {
         return case.refuse();
     }

@@ -66,6 +66,23 @@ impl Text {
         })
     }
 
+    /// The text of octets that are shared, which takes no memory.
+    pub fn of_shared(alloc: Global, octets: Bytes) -> Self
+        ensures { result ≡ octets }
+    {
+        shared(alloc, octets)
+    }
+
+    /// The octets, shared with this text where it is shared. Otherwise they are copied once.
+    pub fn to_shared(&self) -> Result<Bytes, AllocError>
+        ensures { IfOk result (λ octets. octets ≡ self.now) }
+    {
+        match &self.octets {
+            Octets::Owned(octets) => Bytes::copy_from_slice(self.alloc, octets),
+            Octets::Shared(octets) => octets.clone(),
+        }
+    }
+
     /// The octets, lent.
     pub fn as_bytes(&self) -> &[u8]
         ensures { result.now ≡ self.now }

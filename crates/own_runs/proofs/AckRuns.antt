@@ -1,6 +1,6 @@
 -- In the capture of a whole run whose segments come in time each position has one place, each place the octet of its side's file, each checksum is
 -- right, and no Data ACK is of more than was seen.
-use Rattle.std.proofs.Common.{◌≡◌, refl, sym, ap, ◌∙◌, subst, ℕ, zero, suc, ◌⊎◌, ◌+◌, ◌-◌, ◌<◌, ◌≤◌, true, Option, Some, None, option_map, is_some, Ok, Result, inl, inr, ⊎_elim, List, [], ◌∷◌, ◌++◌, length, length-append, append-nil, append_assoc, map, drop, arith}
+use Rattle.std.proofs.Common.{◌≡◌, refl, sym, ap, ◌∙◌, subst, ℕ, zero, suc, ◌⊎◌, ◌+◌, ◌-◌, ◌<◌, ◌≤◌, true, Option, Some, None, option_map, is_some, Ok, Result, inl, inr, ⊎_elim, List, [], ◌∷◌, ◌++◌, length, append-nil, append_assoc, map, drop, arith}
 use Rattle.std.specs.Prelude.{All, IfSome, get_or}
 use Rattle.std.specs.List.{slice_get}
 use Rattle.std.proofs.lemmas.List.{length-drop, length-take}
@@ -11,7 +11,6 @@ use Rattle.capture_reader.specs.Captured.{Captured}
 use Rattle.capture_reader.specs.Seen.{Seen, segment_in_packet}
 use Rattle.capture_reader.specs.Steps.{◌>>=◌}
 use Rattle.capture_verdict.specs.Judging.{judged_capture, judged_if_seen, judged_packets}
-use Rattle.capture_verdict.specs.Sent.{IsSent}
 use Rattle.judge_laws.proofs.Standing.{some_same}
 use Rattle.judge_laws.specs.GoesOn.{stream_in}
 use Rattle.judge_rules.specs.declared.acks.ToldPlace.{ToldPlace}
@@ -38,7 +37,7 @@ use Rattle.actor_desk.specs.Books.{books_in}
 use Rattle.actor_desk.specs.Desk.{send_of}
 use Rattle.stream_lanes.specs.Marks.{tried}
 use Rattle.world_laws.specs.declared.outcome.Outcome.TheVariants.{Delivered}
-use Rattle.own_runs.specs.Runs.{DataFinsEndTheFiles, DeliveredRunsShowTheFiles, HasRead, NoWholeRunBreaks, ReadersGetWhatIsShown, SeenOctetsAreTheFiles, ShowsTheFile, StreamsBeginTheFiles, TriedOctetsAreSeen, WasSeen, WholeStreamsAreTheFiles, capture_of, file_of}
+use Rattle.own_runs.specs.Runs.{DeliveredRunsShowTheFiles, HasRead, NoWholeRunBreaks, ReadersGetWhatIsShown, ShowsTheFile, TriedOctetsAreSeen, WasSeen, capture_of, file_of}
 use Rattle.own_runs.specs.Fitting.{RunFits}
 use Rattle.own_runs.specs.Traces.{FitsCapture, packet_for}
 use Rattle.own_runs.proofs.AckTrace.{IsKnown, StandsAt, narrowed, raised, stands_next}
@@ -49,7 +48,7 @@ use Rattle.own_runs.proofs.Handed.{HasPart}
 use Rattle.own_runs.proofs.InTime.{AnswersPath, OpensPath, ResetsPath, SynsPath, TellsKey}
 use Rattle.own_runs.proofs.Kept.{same_judged}
 use Rattle.own_runs.proofs.MapPositions.{StreamFine, is_mapping}
-use Rattle.own_runs.proofs.MapTrace.{all_same, few}
+use Rattle.own_runs.proofs.MapTrace.{few}
 use Rattle.own_runs.proofs.Moments.{IsSpoken}
 use Rattle.own_runs.proofs.OneConnection.{nothing_one}
 use Rattle.own_runs.proofs.OpenFlows.{which_some}
@@ -165,17 +164,6 @@ module _ (start : Start) (last : Duo) (fit : NumbersFit start) where
 
 -- ---- a run
 
--- a part as long as all is all
-all_of_it : (octets file : List ℕ) → IsPrefix octets file → length octets ≡ length file → octets ≡ file
-all_of_it octets file begins same =
-    let whole = ap (λ (xs : List ℕ). length xs) begins.whole_is in
-    let both = length-append octets begins.rest in
-    sym (begins.whole_is ∙ ap (λ (rest : List ℕ). octets ++ rest) (nothing begins.rest (omega (arith, whole, both, same))) ∙ append-nil octets)
-  where
-    nothing : (xs : List ℕ) → length xs ≡ 0 → xs ≡ []
-    nothing [] none = refl
-    nothing (x ∷ xs) none = absurd (omega (arith, none))
-
 -- a place of a first part
 in_begin : (xs ys : List ℕ) → IsPrefix xs ys → (i : ℕ) → i < length xs → slice_get ys i ≡ slice_get xs i
 in_begin xs ys begins i below =
@@ -229,18 +217,6 @@ module _ (whole_timed : WholeTimed) where
           by : (o : Option BookValue) → slice_get all_judged.books connection ≡ o → option_map (stream_at s) o ≡ Some stream → StreamFine (file_len start s) (few start timed.0 fit s) (content start s) stream
           by None e there = cc
           by (Some book) e there = subst (StreamFine (file_len start s) (few start timed.0 fit s) (content start s)) (some_same (stream_at s book) stream there) (all_stood.stands.hold.books connection book e s).fine
-
-      prefix : (octets : List ℕ) → IsSent stream.octet octets → IsPrefix octets (file_of start s)
-      prefix octets sent = all_same octets (file_of start s) (λ i below. by i (stream.octet i) (fine.octets i)
-          (subst (λ (k : ℕ). option_map (λ (o : Octet). o.octet) (stream.octet k) ≡ Some (get_or octets i 0)) (let same : 0 + i ≡ i = omega arith in same) (sent.held i below)))
-        where
-          some_is : {x y : ℕ} → (let one : Option ℕ = Some x in one) ≡ Some y → x ≡ y
-          some_is e = cc
-
-          by : (i : ℕ) (o : Option Octet) → IfSome o (λ o. (i < length (file_of start s)) × (o.octet ≡ get_or (file_of start s) i 0))
-              → option_map (λ (o : Octet). o.octet) o ≡ Some (get_or octets i 0) → (i < length (file_of start s)) × (get_or octets i 0 ≡ get_or (file_of start s) i 0)
-          by i None is e = cc
-          by i (Some o) is e = (is.0, sym (some_is e) ∙ is.1)
 
       seen_is : (place : ℕ) → stream.seen place ≡ true
           → (place < length (file_of start s)) × (option_map (λ (o : Octet). o.octet) (stream.octet place) ≡ slice_get (file_of start s) place)
@@ -322,24 +298,6 @@ module _ (whole_timed : WholeTimed) where
   pub no_whole_run_breaks : (r : Rule) → is_mapping r ≡ true → NoWholeRunBreaks r
   no_whole_run_breaks r is start turns plain whole fit run side at judged read connection s stream there =
       (fine start turns plain whole fit run side at connection s stream (judged_so start turns plain whole fit run side at judged read connection s stream there)).untold r is
-
-  pub streams_are : StreamsBeginTheFiles
-  streams_are start turns plain whole fit run side at judged read connection s stream there =
-      prefix start turns plain whole fit run side at connection s stream (judged_so start turns plain whole fit run side at judged read connection s stream there)
-
-  pub seen_are : SeenOctetsAreTheFiles
-  seen_are start turns plain whole fit run side at judged read connection s stream there =
-      seen_is start turns plain whole fit run side at connection s stream (judged_so start turns plain whole fit run side at judged read connection s stream there)
-
-  pub ends_are : DataFinsEndTheFiles
-  ends_are start turns plain whole fit run side at judged read connection s stream there =
-      end_is start turns plain whole fit run side at connection s stream (judged_so start turns plain whole fit run side at judged read connection s stream there)
-
-  pub whole_are : WholeStreamsAreTheFiles
-  whole_are start turns plain whole fit run side at judged read connection s stream there fin is octets sent same =
-      let stands = judged_so start turns plain whole fit run side at judged read connection s stream there in
-      all_of_it octets (file_of start s) (prefix start turns plain whole fit run side at connection s stream stands octets sent)
-      (same ∙ end_is start turns plain whole fit run side at connection s stream stands fin is)
 
   pub reads_are : ReadersGetWhatIsShown
   reads_are start turns plain whole fit run side at judged read s place below =

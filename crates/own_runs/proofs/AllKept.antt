@@ -34,7 +34,7 @@ use Rattle.own_runs.proofs.TokenFlows.{IsNamed, NamesIts}
 
 -- ---- lists
 
-all_false : {X : Type 0} (f : X → Bool) (xs : List X) → ((i : ℕ) (x : X) → slice_get xs i ≡ Some x → f x ≡ false) → list_any f xs ≡ false
+pub all_false : {X : Type 0} (f : X → Bool) (xs : List X) → ((i : ℕ) (x : X) → slice_get xs i ≡ Some x → f x ≡ false) → list_any f xs ≡ false
 all_false f [] none = refl
 all_false f (x ∷ xs) none = or_from (f x) (list_any f xs) (none 0 x refl) (all_false f xs (λ i y at. none (suc i) y at))
 
@@ -86,7 +86,7 @@ whole_breaks r start turns plain whole fit run side at judged read connection s 
 
 -- ---- a join
 
-named_kept : (flow : Flow) → IsNamed flow → was_refused flow ≡ false
+pub named_kept : (flow : Flow) → IsNamed flow → was_refused flow ≡ false
 named_kept flow named = by flow.opening flow.belongs named
   where
     by : (o : Opening) (belongs : Option Belongs) → NamesIts o belongs → (is_stray (record flow { opening = o; belongs = belongs }) && flow.was_reset) ≡ false
@@ -156,7 +156,7 @@ delivered_are_kept start turns plain whole fit run delivered side at judged read
 line_kept : (s : Side) (stream : StreamValue) → has_none stream.broken ≡ true → (unread : Unread) (syn_data : ℕ) → side_words s stream unread syn_data ≡ kept_words (kept_line s stream unread syn_data)
 line_kept s stream none unread syn_data = ap (λ (kept : Bool). if kept then kept_words (kept_line s stream unread syn_data) else broken_words s stream.broken) none
 
-none_told : (flows : List Flow) → ((i : ℕ) (flow : Flow) → slice_get flows i ≡ Some flow → IsNamed flow) → strays_words flows ≡ []
+pub none_told : (flows : List Flow) → ((i : ℕ) (flow : Flow) → slice_get flows i ≡ Some flow → IsNamed flow) → strays_words flows ≡ []
 none_told [] named = refl
 none_told (flow ∷ flows) named = first flow.opening flow.belongs (named 0 flow refl) (none_told flows (λ i x at. named (suc i) x at))
   where

@@ -1,8 +1,9 @@
 -- The lanes behind all turns of a run: what was sent on them, and the infinite mappings that were told there (RFC 8684, section 3.7). Each gives the
 -- positions behind it the places that they have, or it stands behind the FIN.
-use Rattle.std.proofs.Common.{◌≡◌, refl, sym, ap, ◌∙◌, subst, ℕ, suc, ◌-◌, ◌≤◌, ◌⊎◌, ◌||◌, not, inl, inr, ⊎_elim, Bool, true, false, if◌then◌else◌, Option, Some, None, List, length, length-append, arith}
+use Rattle.std.proofs.Common.{◌≡◌, refl, sym, ap, ◌∙◌, subst, ℕ, suc, ◌-◌, ◌<◌, ◌≤◌, ◌⊎◌, ◌||◌, not, inl, inr, ⊎_elim, Bool, true, false, if◌then◌else◌, Option, Some, None, List, length, length-append, arith}
 use Rattle.std.specs.List.{slice_get}
 use Rattle.std.proofs.lemmas.Bool.{both_ways}
+use Rattle.std.proofs.lemmas.Option.{slice_get_within}
 use Rattle.actor_desk.specs.Books.{books_in}
 use Rattle.actor_desk.specs.Desk.{SixBooks}
 use Rattle.actor_desk.specs.Words.{pick}
@@ -15,17 +16,18 @@ use Rattle.stream_lanes.proofs.Duos.{any_held}
 use Rattle.stream_lanes.proofs.Lists.{item_at}
 use Rattle.stream_lanes.proofs.MarkLists.{new_count}
 use Rattle.stream_lanes.proofs.Promises.{paths_short}
-use Rattle.stream_lanes.specs.Duo.{Duo}
+use Rattle.stream_lanes.specs.Duo.{Duo, flags_ab, flags_ba}
 use Rattle.stream_lanes.specs.Holding.{Holds, LaneHolds}
 use Rattle.stream_lanes.specs.Lane.{Cell, Lane, Pair}
 use Rattle.stream_lanes.specs.Moves.{place_by}
-use Rattle.stream_lanes.specs.View.{View, end_of}
+use Rattle.stream_lanes.specs.View.{View, end_of, view_of}
+use Rattle.stream_lanes.specs.Words.{From}
 use Rattle.world_laws.proofs.Lanes.OfAWorld.{Carries as MayCarry, WorldShows}
 use Rattle.world_laws.proofs.Worlds.CastLifting.{writes_the_files}
 use Rattle.world_laws.specs.Laws.{WritesTheFile}
 use Rattle.world_laws.specs.Openings.{Start, opened_world}
 use Rattle.world_laws.specs.Worlds.{Turn, WorldState, world_run}
-use Rattle.own_runs.proofs.EndMaps.{LineOn, file_len, lane_of, upto_of}
+use Rattle.own_runs.proofs.EndMaps.{LineOn, file_len, lane_of, place_at, upto_of}
 use Rattle.own_runs.proofs.MapPlaces.{place_in}
 use Rattle.own_runs.proofs.Reached.{EndsAs, duo_at}
 
@@ -52,6 +54,24 @@ upto_short start last h path A =
     short_in last.ab.lanes (file_len start A) (λ n l at. let short = ((paths_short _ last.ab h.holds.ab).each n l at).sent in let most = h.written A in omega (arith, short, most)) path
 upto_short start last h path B =
     short_in last.ba.lanes (file_len start B) (λ n l at. let short = ((paths_short _ last.ba h.holds.ba).each n l at).sent in let most = h.written B in omega (arith, short, most)) path
+
+-- and each position of one has a place of it
+within_in : (v : View) (lanes : List Lane) (limit : ℕ) → length v.written ≤ limit → From (LaneHolds v) 0 lanes → (n p : ℕ) → 1 ≤ p → p ≤ upto_of (slice_get lanes n)
+    → place_at (slice_get lanes n) p < limit
+within_in v lanes limit most holds n p some below = by (slice_get lanes n) refl below
+  where
+    by : (o : Option Lane) → slice_get lanes n ≡ o → p ≤ upto_of o → place_at o p < limit
+    by None at below = absurd (omega (arith, some, below))
+    by (Some l) at below =
+        let cell = item_at l.sent (p - 1) (omega (arith, some, below)) in
+        let written = slice_get_within v.written cell.0.place cell.0.byte (((holds.each n n l (omega arith) at).record_of.cells.each (p - 1) cell.0 cell.1).byte) in
+        let same = ap place_in cell.1 in
+        omega (arith, same, written, most)
+
+pub places_within : (start : Start) (last : Duo) → AtLast start last → (path : ℕ) (s : Side) (p : ℕ) → 1 ≤ p → p ≤ upto_of (lane_of last path s)
+    → place_at (lane_of last path s) p < file_len start s
+places_within start last h path A p = within_in (view_of (flags_ab last.modes) last.ab.send last.ab.arrived) last.ab.lanes (file_len start A) (h.written A) h.holds.ab.lanes path p
+places_within start last h path B p = within_in (view_of (flags_ba last.modes) last.ba.send last.ba.arrived) last.ba.lanes (file_len start B) (h.written B) h.holds.ba.lanes path p
 
 module _ (start : Start) (can : MayCarry start) (turns : List Turn) (last : Duo) (e : EndsAs start can turns last) where
   abbrev v : WorldState Carried

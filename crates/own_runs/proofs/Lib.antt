@@ -18,6 +18,7 @@ mod CameSent
 mod Carrying
 mod ClearKnows
 mod ComesTimes
+mod ConnectionSeen
 mod Counted
 mod DutiesFew
 mod EndMaps
@@ -111,6 +112,7 @@ mod RecordsKept
 mod ResetTrace
 mod RoundShown
 mod Sayings
+mod SeenFiles
 mod Segments
 mod SentGrows
 mod ShortOctets

@@ -1,13 +1,13 @@
 -- Where each infinite mapping of a side's segments gives the positions behind it the places that they have (RFC 8684, section 3.7), and all payload stands
 -- among the positions of its lane, what comes to a place is its octet: none of them breaks `place-content`. Where a FIN stands so that the infinite
 -- mapping gives it the end of the stream, none breaks `data-fin`.
-use Rattle.std.proofs.Common.{◌≡◌, refl, sym, ap, ◌∙◌, subst, ℕ, ℤ, zero, suc, ◌⊎◌, inl, inr, ⊎_elim, ◌+◌, ◌-◌, ◌<◌, ◌≤◌, ◌^◌, ◌==◌, ◌&&◌, ◌||◌, max, pos, nat_le, nat_lt, Bool, true, false, if◌then◌else◌, Option, Some, None, is_some, Result, Ok, Err, List, [], ◌∷◌, ◌++◌, drop, arith}
-use Rattle.std.specs.Prelude.{All, IfSome, get_or, int_lt, slice_get}
+use Rattle.std.proofs.Common.{◌≡◌, refl, sym, ap, ◌∙◌, subst, ℕ, ℤ, zero, suc, ◌⊎◌, inl, inr, ⊎_elim, ◌+◌, ◌-◌, ◌<◌, ◌≤◌, ◌^◌, ◌==◌, ◌&&◌, ◌||◌, max, pos, nat_le, nat_lt, Bool, true, false, if◌then◌else◌, Option, Some, None, is_some, Result, Ok, Err, List, [], ◌∷◌, ◌++◌, drop, length, arith}
+use Rattle.std.specs.Prelude.{All, IfSome, IsSomeAnd, get_or, int_lt, slice_get}
 use Rattle.std.specs.Int.{from_bool}
 use Rattle.std.specs.Option.{option_map, option_or}
-use Rattle.std.proofs.lemmas.Bool.{and_parts, eq-eqb, le-ltb, leb-true, ltb-true, ne_eqb, or_cases}
+use Rattle.std.proofs.lemmas.Bool.{and_parts, eq-eqb, false≢true, le-ltb, leb-true, ltb-true, ne_eqb, or_cases, or_left, or_right}
 use Rattle.std.proofs.lemmas.List.Elements.{All-head, All-tail}
-use Rattle.std.proofs.lemmas.Option.{slice_get-get_or, slice_get_within}
+use Rattle.std.proofs.lemmas.Option.{slice_get-get_or}
 use Rattle.first_runs.specs.Runs.{Told}
 use Rattle.judge_rules.specs.Acks.{ack_place}
 use Rattle.judge_rules.specs.Clashes.{first_clash}
@@ -25,7 +25,7 @@ use Rattle.mptcp_options.specs.Value.{OptionValue, Dss, Fail}
 use Rattle.rule_book.specs.Facts.{Facts, first_of, payload_at, payload_len}
 use Rattle.rule_book.specs.Stream.{acked_each, acked_one, behind_acks, behind_payload, failed_each, failed_one, fin_taken, judged_at, mapped_each, mapped_one, mapped_with, summed, told_in, within_each, within_found, within_one}
 use Rattle.seen_connections.specs.declared.connections.Keys.{Keys}
-use Rattle.seen_octets.specs.Octets.{octet_by}
+use Rattle.seen_octets.specs.Octets.{has_place, octet_by}
 use Rattle.seen_octets.specs.Others.{first_other, other_by}
 use Rattle.seen_octets.specs.declared.octet.Octet.{Octet}
 use Rattle.seen_octets.specs.declared.octet.OtherOctet.{OtherOctet}
@@ -35,7 +35,7 @@ use Rattle.seen_streams.specs.Mapped as mapped
 use Rattle.seen_streams.specs.Mapped.{Mapped, against_infinite, by_rule, fin_after, finite, finite_at, finite_by, finite_fault, infinite_by, line_fault, lowest_line, mapped_at, octets_fault, one_more, placed_fault, told_mapping}
 use Rattle.seen_streams.specs.Positions.{with_fin}
 use Rattle.seen_streams.specs.Same.{same_mapping}
-use Rattle.seen_streams.specs.State.{FaultValue, Found, LaneValue, StreamValue, line_place, place_of, with_broken, with_found}
+use Rattle.seen_streams.specs.State.{FaultValue, Found, is_of, LaneValue, StreamValue, line_place, place_of, with_broken, with_found}
 use Rattle.seen_streams.specs.Sums.{is_whole, sum_fault, summed_by, tried_if_whole, tried_sum, tried_sums, with_sums}
 use Rattle.seen_streams.specs.declared.told.Broke.{Broke}
 use Rattle.seen_streams.specs.declared.told.Teller.{Teller}
@@ -46,7 +46,7 @@ use Rattle.own_runs.proofs.FinePositions.{EndsAt, NumberIs, near_so}
 use Rattle.own_runs.proofs.LanePlaces as lane
 use Rattle.own_runs.proofs.LanePlaces.{LanePlaced, StreamPlaced}
 use Rattle.own_runs.proofs.MapPositions.{Bears, OfferIs}
-use Rattle.own_runs.proofs.PayloadHeld.{none_left}
+use Rattle.own_runs.proofs.PayloadHeld.{has_all, held_all, none_left, stays_held}
 use Rattle.own_runs.proofs.Telling.{Untold, others_keep}
 
 -- that on octets and, where it is asked for, that on the end of a stream
@@ -56,19 +56,20 @@ is_line ends rule.DataFin = ends
 is_line ends _ = false
 
 module _ (ends : Bool) (limit : ℕ) (few : limit < 2 ^ 31) (content : ℕ → ℕ) where
-  -- each place that was seen has its octet, the DATA_FIN stands at the end, and the rules weren't broken
+  -- each place that was seen has its octet, and is one of the stream's, the DATA_FIN stands at the end, and the rules weren't broken
   pub record StreamLined (s : StreamValue) : Type 0 where
-    pub octets : (q : ℕ) → IfSome (s.octet q) (λ o. o.octet ≡ content q)
+    pub octets : (q : ℕ) → IfSome (s.octet q) (λ o. (q < limit) × (o.octet ≡ content q))
+    pub there : (q : ℕ) → s.seen q ≡ true → is_some (s.octet q) ≡ true
     pub fin : ends ≡ true → IfSome s.fin (λ told. told.place ≡ limit)
     pub untold : Untold (is_line ends) s.broken
 
   tell_so : (r : Rule) (packet : ℕ) (fault : FaultValue) (s : StreamValue) → is_line ends r ≡ false → StreamLined s
       → StreamLined (record s { broken = with_broken (record { rule = r; packet = packet; fault = fault }) s.broken })
-  tell_so r packet fault s other h = record { octets = h.octets; fin = h.fin; untold = others_keep (is_line ends) r packet fault s.broken other h.untold }
+  tell_so r packet fault s other h = record { octets = h.octets; there = h.there; fin = h.fin; untold = others_keep (is_line ends) r packet fault s.broken other h.untold }
 
   found_so : (r : Rule) (packet : ℕ) (finding : Option Finding) (s : StreamValue) → is_line ends r ≡ false → StreamLined s
       → StreamLined (record s { broken = with_found r packet finding s.broken })
-  found_so r packet None s other h = record { octets = h.octets; fin = h.fin; untold = h.untold }
+  found_so r packet None s other h = record { octets = h.octets; there = h.there; fin = h.fin; untold = h.untold }
   found_so r packet (Some finding) s other h = tell_so r packet (Found finding) s other h
 
   -- where the positions of a lane up to one have these places, and its FIN stands at such a position
@@ -97,6 +98,7 @@ module _ (ends : Bool) (limit : ℕ) (few : limit < 2 ^ 31) (content : ℕ → �
       pub record LaneLined (l : LaneValue) : Type 0 where
         pub line : IfSome l.line LineIs
         pub seen : (p : ℕ) → l.seen p ≡ true → p ≤ upto
+        pub there : (p : ℕ) → l.seen p ≡ true → is_some (l.octet p) ≡ true
         pub fin : ends ≡ true → IfSome l.fin IsEnd
         pub top : l.top ≤ high
 
@@ -191,8 +193,8 @@ module _ (ends : Bool) (limit : ℕ) (few : limit < 2 ^ 31) (content : ℕ → �
           → Holds (finite_by fault packet (told_mapping offer position place) state)
       finite_by_so (Some broke) other packet offer position place state top is h = (tell_so broke.rule packet (Found broke.finding) state.stream other h.0, h.1)
       finite_by_so None other packet offer position place state top is h = (
-        record { octets = h.0.octets; fin = λ asked. fin_learnt state.stream top (h.0.fin asked) offer place is position packet; untold = h.0.untold },
-        record { line = h.1.line; seen = h.1.seen; fin = h.1.fin; top = h.1.top },
+        record { octets = h.0.octets; there = h.0.there; fin = λ asked. fin_learnt state.stream top (h.0.fin asked) offer place is position packet; untold = h.0.untold },
+        record { line = h.1.line; seen = h.1.seen; there = h.1.there; fin = h.1.fin; top = h.1.top },
       )
 
       finite_so : (teller : Teller) → teller.first ≡ first → (near : ℕ) (offer : Offer) (state : Mapped) → OfferIs first limit content where_at near offer → state.stream.top ≤ limit → Holds state
@@ -200,7 +202,7 @@ module _ (ends : Bool) (limit : ℕ) (few : limit < 2 ^ 31) (content : ℕ → �
       finite_so teller is near offer state o top h =
           let position = mapping.position_near near offer.relative in
           let more = one_more state in
-          let held : Holds more = (record { octets = h.0.octets; fin = h.0.fin; untold = h.0.untold }, h.1) in
+          let held : Holds more = (record { octets = h.0.octets; there = h.0.there; fin = h.0.fin; untold = h.0.untold }, h.1) in
           subst (λ (p : Option ℕ). Holds (finite_at p teller offer position more)) (sym (lane.mapped_place_is false limit few content first where_at teller is near offer state.stream.top o top))
           (finite_by_so (finite_fault teller more.stream more.lane offer position o.place) (fault_so teller more.stream more.lane top held.0 offer position o.place o.ends)
           teller.packet offer position o.place more top o.ends held)
@@ -230,8 +232,8 @@ module _ (ends : Bool) (limit : ℕ) (few : limit < 2 ^ 31) (content : ℕ → �
           by : (fault : Option Finding) → Holds (infinite_by fault teller position o.place state)
           by (Some finding) = (tell_so rule.Infinite teller.packet (Found finding) state.stream refl h.0, h.1)
           by None = (
-            record { octets = h.0.octets; fin = h.0.fin; untold = h.0.untold },
-            record { line = lowest_so state.lane.line position o.place h.1.line o.line; seen = h.1.seen; fin = h.1.fin; top = h.1.top },
+            record { octets = h.0.octets; there = h.0.there; fin = h.0.fin; untold = h.0.untold },
+            record { line = lowest_so state.lane.line position o.place h.1.line o.line; seen = h.1.seen; there = h.1.there; fin = h.1.fin; top = h.1.top },
           )
 
       one_so : (teller : Teller) → teller.first ≡ first → (near : ℕ) (offer : Offer) (state : Mapped) → OfferIs first limit content where_at near offer ⊎ InfiniteLined near offer → state.stream.top ≤ limit → Holds state
@@ -281,7 +283,7 @@ module _ (ends : Bool) (limit : ℕ) (few : limit < 2 ^ 31) (content : ℕ → �
           within_each_so facts position mappings (within_one facts position m s) (found_so rule.Within facts.packet (within_found facts position m) s refl h)
 
       ended_so : (packet : ℕ) (s : StreamValue) (l : LaneValue) → Lined s l → StreamLined (ended_by_fin l packet s)
-      ended_so packet s l h = record { octets = h.0.octets; fin = λ asked. by s.fin l.line l.fin (h.0.fin asked) h.1.line (h.1.fin asked) asked; untold = h.0.untold }
+      ended_so packet s l h = record { octets = h.0.octets; there = h.0.there; fin = λ asked. by s.fin l.line l.fin (h.0.fin asked) h.1.line (h.1.fin asked) asked; untold = h.0.untold }
         where
           on_line : (line : Line) (fin : ℕ) → IfSome (place_on_line line fin) (λ q. q ≡ limit) → IfSome (line_fin None (Some line) (Some fin) packet) (λ t. t.place ≡ limit)
           on_line line fin is = placed (place_on_line line fin) is
@@ -303,10 +305,10 @@ module _ (ends : Bool) (limit : ℕ) (few : limit < 2 ^ 31) (content : ℕ → �
       content_none acknowledged place None s h is = ap (λ (part : List ℕ). other_octet (first_other s.octet (max place acknowledged) part)) (none_left (acknowledged - place))
       content_none acknowledged place (Some x) s h is = by (acknowledged - place) refl
         where
-          no_other : (was : Option Octet) → IfSome was (λ o. o.octet ≡ content place) → other_by was place x ≡ None
+          no_other : (was : Option Octet) → IfSome was (λ o. (place < limit) × (o.octet ≡ content place)) → other_by was place x ≡ None
           no_other None has = refl
           no_other (Some was) has =
-              ap (λ (b : Bool). if b then None else Some (record { place = place; was = was.octet; teller = was.teller; is = x })) (eq-eqb was.octet x (has ∙ sym is))
+              ap (λ (b : Bool). if b then None else Some (record { place = place; was = was.octet; teller = was.teller; is = x })) (eq-eqb was.octet x (has.1 ∙ sym is))
 
           by : (n : ℕ) → acknowledged - place ≡ n → other_octet (first_other s.octet (max place acknowledged) (drop n (x ∷ []))) ≡ None
           by zero none =
@@ -315,60 +317,82 @@ module _ (ends : Bool) (limit : ℕ) (few : limit < 2 ^ 31) (content : ℕ → �
           by (suc n) none = ap (λ (part : List ℕ). other_octet (first_other s.octet (max place acknowledged) part)) (none_left n)
 
       -- it stays there
-      shown_octet : (packet place : ℕ) (octet : Option ℕ) (s : StreamValue) → StreamLined s → IfSome octet (λ x. x ≡ content place)
-          → (q : ℕ) → IfSome (option_or (s.octet q) (octet_by place (as_part octet) packet q)) (λ o. o.octet ≡ content q)
-      shown_octet packet place octet s h is q = by (s.octet q) (h.octets q)
+      shown_octet : (packet place : ℕ) (octet : Option ℕ) (s : StreamValue) → place < limit → StreamLined s → IfSome octet (λ x. x ≡ content place)
+          → (q : ℕ) → IfSome (option_or (s.octet q) (octet_by place (as_part octet) packet q)) (λ o. (q < limit) × (o.octet ≡ content q))
+      shown_octet packet place octet s below h is q = by (s.octet q) (h.octets q)
         where
-          new : (octet : Option ℕ) → IfSome octet (λ x. x ≡ content place) → IfSome (octet_by place (as_part octet) packet q) (λ o. o.octet ≡ content q)
+          Has : Octet → Type 0
+          Has = λ o. (q < limit) × (o.octet ≡ content q)
+
+          new : (octet : Option ℕ) → IfSome octet (λ x. x ≡ content place) → IfSome (octet_by place (as_part octet) packet q) Has
           new None is = none (nat_le place q) (nat_lt q (place + 0)) refl refl
             where
               none : (low over : Bool) → nat_le place q ≡ low → nat_lt q (place + 0) ≡ over
-                  → IfSome {T = Octet} (if low && over then Some (record { octet = get_or [] (q - place) 0; teller = packet }) else None) (λ o. o.octet ≡ content q)
+                  → IfSome {T = Octet} (if low && over then Some (record { octet = get_or [] (q - place) 0; teller = packet }) else None) Has
               none false over l m = tt
               none true false l m = tt
               none true true l m = absurd (let from = leb-true place q l in let to = ltb-true q (place + 0) m in omega (arith, from, to))
           new (Some x) is = some (nat_le place q) (nat_lt q (place + 1)) refl refl
             where
               some : (low over : Bool) → nat_le place q ≡ low → nat_lt q (place + 1) ≡ over
-                  → IfSome {T = Octet} (if low && over then Some (record { octet = get_or (x ∷ []) (q - place) 0; teller = packet }) else None) (λ o. o.octet ≡ content q)
+                  → IfSome {T = Octet} (if low && over then Some (record { octet = get_or (x ∷ []) (q - place) 0; teller = packet }) else None) Has
               some false over l m = tt
               some true false l m = tt
               some true true l m =
                   let from = leb-true place q l in let to = ltb-true q (place + 1) m in
-                  let same : place ≡ q = omega (arith, from, to) in
-                  ap (λ (i : ℕ). get_or (x ∷ []) i 0) (let none : q - place ≡ 0 = omega (arith, same) in none) ∙ is ∙ ap content same
+                  let same : place ≡ q = omega (arith, from, to) in (
+                    omega (arith, same, below),
+                    ap (λ (i : ℕ). get_or (x ∷ []) i 0) (let none : q - place ≡ 0 = omega (arith, same) in none) ∙ is ∙ ap content same,
+                  )
 
-          by : (was : Option Octet) → IfSome was (λ o. o.octet ≡ content q) → IfSome (option_or was (octet_by place (as_part octet) packet q)) (λ o. o.octet ≡ content q)
+          by : (was : Option Octet) → IfSome was Has → IfSome (option_or was (octet_by place (as_part octet) packet q)) Has
           by (Some was) has = has
           by None has = new octet is
 
+      -- and what is seen is there
+      shown_there : (packet place : ℕ) (octet : Option ℕ) (s : StreamValue) → is_some octet ≡ true → StreamLined s → (q : ℕ) → s.seen q || is_of place 1 q ≡ true
+          → is_some (option_or (s.octet q) (octet_by place (as_part octet) packet q)) ≡ true
+      shown_there packet place None s some h q is = absurd (false≢true some)
+      shown_there packet place (Some x) s some h q is =
+          stays_held (s.octet q) (s.seen q) (is_of place 1 q) (record { octet = get_or (x ∷ []) (q - place) 0; teller = packet }) (h.there q) is
+
       -- what comes to a position is its octet, at one of the lane's, and its place is that which it has
       abbrev Comes : ℕ → Option (Option ℕ) → Type 0
-      Comes p come = IfSome come (λ octet. (p ≤ upto) × IfSome octet (λ x. x ≡ at p))
+      Comes p come = IfSome come (λ octet. (p ≤ upto) × IsSomeAnd octet (λ x. x ≡ at p))
 
       abbrev Sits : ℕ → Option ℕ → Type 0
       Sits p place = IfSome place (λ q. p ≤ upto → q ≡ where_at p)
 
-      place_so : (acknowledged packet p : ℕ) (come : Option (Option ℕ)) (place : Option ℕ) (s : StreamValue) → Comes p come → Sits p place → StreamLined s
+      -- the places of its positions are the stream's
+      abbrev pub AreInside : Type 0
+      AreInside = (p : ℕ) → 1 ≤ p → p ≤ upto → where_at p < limit
+
+      place_so : AreInside → (acknowledged packet p : ℕ) (come : Option (Option ℕ)) (place : Option ℕ) (s : StreamValue) → 1 ≤ p → Comes p come → Sits p place → StreamLined s
           → StreamLined (at_place acknowledged packet come place s)
-      place_so acknowledged packet p None place s came sits h = h
-      place_so acknowledged packet p (Some octet) None s came sits h = h
-      place_so acknowledged packet p (Some octet) (Some place) s came sits h =
+      place_so inside acknowledged packet p None place s low came sits h = h
+      place_so inside acknowledged packet p (Some octet) None s low came sits h = h
+      place_so inside acknowledged packet p (Some octet) (Some place) s low came sits h =
           let is = right octet came.1 in
           let it : StreamLined (record s { broken = with_found rule.PlaceContent packet (content_fault acknowledged s.octet place (as_part octet)) s.broken }) =
           subst (λ (o : Option Finding). StreamLined (record s { broken = with_found rule.PlaceContent packet o s.broken })) (sym (content_none acknowledged place octet s h is))
-          (record { octets = h.octets; fin = h.fin; untold = h.untold }) in
-          record { octets = shown_octet packet place octet s h is; fin = it.fin; untold = it.untold }
+          (record { octets = h.octets; there = h.there; fin = h.fin; untold = h.untold }) in
+          let within = inside p low came.0 in let same = sits came.0 in
+          record { octets = shown_octet packet place octet s (omega (arith, within, same)) h is; there = shown_there packet place octet s (some octet came.1) h; fin = it.fin; untold = it.untold }
         where
-          right : (octet : Option ℕ) → IfSome octet (λ x. x ≡ at p) → IfSome octet (λ x. x ≡ content place)
-          right None is = tt
+          some : (octet : Option ℕ) → IsSomeAnd octet (λ x. x ≡ at p) → is_some octet ≡ true
+          some None is = absurd is
+          some (Some x) is = refl
+
+          right : (octet : Option ℕ) → IsSomeAnd octet (λ x. x ≡ at p) → IfSome octet (λ x. x ≡ content place)
+          right None is = absurd is
           right (Some x) is = is ∙ ap content (sym (sits came.0))
 
-      shown_so : (place : ℕ → Option ℕ) (come : ℕ → Option (Option ℕ)) (acknowledged packet p n : ℕ) (s : StreamValue) → ((q : ℕ) → Comes q (come q)) → ((q : ℕ) → Sits q (place q)) → StreamLined s
+      shown_so : AreInside → (place : ℕ → Option ℕ) (come : ℕ → Option (Option ℕ)) (acknowledged packet p n : ℕ) (s : StreamValue) → 1 ≤ p → ((q : ℕ) → Comes q (come q)) → ((q : ℕ) → Sits q (place q)) → StreamLined s
           → StreamLined (shown_from place come acknowledged packet p n s)
-      shown_so place come acknowledged packet p zero s came sits h = h
-      shown_so place come acknowledged packet p (suc n) s came sits h =
-          shown_so place come acknowledged packet (p + 1) n (at_place acknowledged packet (come p) (place p) s) came sits (place_so acknowledged packet p (come p) (place p) s (came p) (sits p) h)
+      shown_so inside place come acknowledged packet p zero s low came sits h = h
+      shown_so inside place come acknowledged packet p (suc n) s low came sits h =
+          shown_so inside place come acknowledged packet (p + 1) n (at_place acknowledged packet (come p) (place p) s) (omega arith) came sits
+          (place_so inside acknowledged packet p (come p) (place p) s low (came p) (sits p) h)
 
       -- the places of a lane
       place_is : (l : LaneValue) → LanePlaced false limit few content first where_at l → LaneLined l → (p : ℕ) → Sits p (place_of l p)
@@ -387,7 +411,8 @@ module _ (ends : Bool) (limit : ℕ) (few : limit < 2 ^ 31) (content : ℕ → �
           by None is line lined = on_line line lined
           by (Some told) is line lined = λ within. is
 
-      module _ (facts : Facts) (position : ℕ) (bears : Bears at position facts.seen.segment.payload) (within : (payload_len facts ≡ 0) ⊎ (position + payload_len facts ≤ suc upto)) where
+      module _ (facts : Facts) (position : ℕ) (bears : Bears at position facts.seen.segment.payload) (whole : facts.seen.payload_len ≡ length facts.seen.segment.payload)
+          (within : (payload_len facts ≡ 0) ⊎ (position + payload_len facts ≤ suc upto)) where
         abbrev payload : PayloadValue
         payload = payload_at facts position
 
@@ -400,52 +425,59 @@ module _ (ends : Bool) (limit : ℕ) (few : limit < 2 ^ 31) (content : ℕ → �
             (λ now. let both = and_parts (nat_le payload.from p) (nat_lt p payload.to) now in payload_within p (leb-true payload.from p both.0) (ltb-true p payload.to both.1))
             (or_cases (l.seen p) (nat_le payload.from p && nat_lt p payload.to) is)
 
-        comes_so : (x : Mapped) (l : LaneValue) → ((p : ℕ) → IfSome (l.octet p) (λ o. o.octet ≡ at p)) → ((p : ℕ) → l.seen p ≡ true → p ≤ upto) → (p : ℕ) → Comes p (comes payload x l p)
-        comes_so x l octets seen p =
+        with_there : (packet : ℕ) (l : LaneValue) → LaneLined l → (p : ℕ) → (with_payload payload packet l).seen p ≡ true → is_some ((with_payload payload packet l).octet p) ≡ true
+        with_there packet l h p is =
+            stays_held (l.octet p) (l.seen p) (has_place payload.from payload.held p) (record { octet = get_or payload.held (p - payload.from) 0; teller = packet }) (h.there p)
+            (⊎_elim (or_left (l.seen p) (has_place payload.from payload.held p))
+            (λ now. or_right (l.seen p) (has_place payload.from payload.held p) (has_all facts.seen.segment.head.rst facts.seen.payload_len position facts.seen.segment.payload whole p now))
+            (or_cases (l.seen p) (nat_le payload.from p && nat_lt p payload.to) is))
+
+        comes_so : (x : Mapped) (l : LaneValue) → ((p : ℕ) → IfSome (l.octet p) (λ o. o.octet ≡ at p)) → ((p : ℕ) → l.seen p ≡ true → p ≤ upto)
+            → ((p : ℕ) → l.seen p ≡ true → is_some (l.octet p) ≡ true) → (p : ℕ) → Comes p (comes payload x l p)
+        comes_so x l octets seen there p =
             by (nat_le payload.from p) (nat_lt p payload.to) (is_mapped_by x.learnt x.has_line l.line p && l.seen p) refl refl refl
           where
-            held : (o : Option ℕ) → slice_get payload.held (p - payload.from) ≡ o → payload.from ≤ p → IfSome o (λ x. x ≡ at p)
-            held None e low = tt
-            held (Some x) e low =
-                let below = slice_get_within payload.held (p - payload.from) x e in
-                some_is (sym e ∙ slice_get-get_or payload.held (p - payload.from) 0 below)
-                ∙ lane.held_is false limit few content first where_at facts position bears (p - payload.from) below ∙ ap at (let same : payload.from + (p - payload.from) ≡ p = omega (arith, low) in same)
-              where
-                some_is : {a b : ℕ} → (let one : Option ℕ = Some a in one) ≡ Some b → a ≡ b
-                some_is e = cc
+            now : nat_le payload.from p ≡ true → nat_lt p payload.to ≡ true → IsSomeAnd (slice_get payload.held (p - payload.from)) (λ x. x ≡ at p)
+            now is less =
+                let low = leb-true payload.from p is in
+                let all = held_all facts.seen.segment.head.rst facts.seen.payload_len position facts.seen.segment.payload whole p low (ltb-true p payload.to less) in
+                subst (λ (o : Option ℕ). IsSomeAnd o (λ x. x ≡ at p)) (sym (slice_get-get_or payload.held (p - payload.from) 0 all))
+                (lane.held_is false limit few content first where_at facts position bears (p - payload.from) all ∙ ap at (let same : payload.from + (p - payload.from) ≡ p = omega (arith, low) in same))
 
-            was : (o : Option Octet) → IfSome o (λ o. o.octet ≡ at p) → IfSome (option_map (λ (octet : Octet). octet.octet) o) (λ x. x ≡ at p)
-            was None is = tt
-            was (Some o) is = is
+            was : (o : Option Octet) → IfSome o (λ o. o.octet ≡ at p) → is_some o ≡ true → IsSomeAnd (option_map (λ (octet : Octet). octet.octet) o) (λ x. x ≡ at p)
+            was None is some = absurd (false≢true some)
+            was (Some o) is some = is
 
-            earlier : is_mapped_by x.learnt x.has_line l.line p && l.seen p ≡ true → (p ≤ upto) × IfSome (octet_of l p) (λ x. x ≡ at p)
-            earlier m = (seen p (and_parts (is_mapped_by x.learnt x.has_line l.line p) (l.seen p) m).1, was (l.octet p) (octets p))
+            earlier : is_mapped_by x.learnt x.has_line l.line p && l.seen p ≡ true → (p ≤ upto) × IsSomeAnd (octet_of l p) (λ x. x ≡ at p)
+            earlier m =
+                let is = (and_parts (is_mapped_by x.learnt x.has_line l.line p) (l.seen p) m).1 in
+                (seen p is, was (l.octet p) (octets p) (there p is))
 
             by : (low over m : Bool) → nat_le payload.from p ≡ low → nat_lt p payload.to ≡ over → is_mapped_by x.learnt x.has_line l.line p && l.seen p ≡ m
                 → Comes p (if low && over then Some (slice_get payload.held (p - payload.from)) else (if m then Some (octet_of l p) else None))
-            by true true m is less told =
-                let low = leb-true payload.from p is in (payload_within p low (ltb-true p payload.to less), held (slice_get payload.held (p - payload.from)) refl low)
+            by true true m is less told = (payload_within p (leb-true payload.from p is) (ltb-true p payload.to less), now is less)
             by true false true is less told = earlier told
             by true false false is less told = tt
             by false over true is less told = earlier told
             by false over false is less told = tt
 
-      payload_so : (facts : Facts) (position acknowledged : ℕ) (x : Mapped) → Bears at position facts.seen.segment.payload → (payload_len facts ≡ 0) ⊎ (position + payload_len facts ≤ suc upto)
+      payload_so : AreInside → (facts : Facts) (position acknowledged : ℕ) (x : Mapped) → Bears at position facts.seen.segment.payload → facts.seen.payload_len ≡ length facts.seen.segment.payload → (payload_len facts ≡ 0) ⊎ (position + payload_len facts ≤ suc upto)
           → (payload_at facts position).to ≤ high → Placed x.stream x.lane → Holds x
           → Lined (behind_payload facts position acknowledged x).stream (behind_payload facts position acknowledged x).lane
-      payload_so facts position acknowledged x bears within to h lined =
+      payload_so inside facts position acknowledged x bears whole within to h lined =
           let payload = payload_at facts position in
           let behind = with_payload payload facts.packet x.lane in
           let octets = lane.with_octets false limit few content first where_at facts position bears facts.packet x.lane h.1.octets in
           let new : LaneLined behind = record {
             line = lined.1.line;
-            seen = with_seen facts position bears within facts.packet x.lane lined.1;
+            seen = with_seen facts position bears whole within facts.packet x.lane lined.1;
+            there = with_there facts position bears whole within facts.packet x.lane lined.1;
             fin = lined.1.fin;
             top = let low = lined.1.top in omega (arith, low, to);
           } in
           let s = within_each facts position x.learnt x.stream in (
-            shown_so (place_of behind) (comes payload x behind) acknowledged facts.packet 1 (behind.top - 1) (ended_by_fin x.lane facts.packet s)
-                (comes_so facts position bears within x behind octets new.seen) (place_is behind (record { placed = h.1.placed; octets = octets; waiting = h.1.waiting }) new)
+            shown_so inside (place_of behind) (comes payload x behind) acknowledged facts.packet 1 (behind.top - 1) (ended_by_fin x.lane facts.packet s) (omega arith)
+                (comes_so facts position bears whole within x behind octets new.seen new.there) (place_is behind (record { placed = h.1.placed; octets = octets; waiting = h.1.waiting }) new)
                 (ended_so facts.packet s x.lane (within_each_so facts position x.learnt x.stream lined.0, lined.1)),
             new,
           )
@@ -457,7 +489,7 @@ module _ (ends : Bool) (limit : ℕ) (few : limit < 2 ^ 31) (content : ℕ → �
       tried_so packet known octet (one ∷ waiting) s h = tried_so packet known octet waiting (tried_if_whole packet known octet one s) (by (is_whole octet one))
         where
           by : (b : Bool) → StreamLined (if b then tried_sum packet known octet one s else s)
-          by true = let it = found_so rule.DssSum packet (sum_fault known octet one) s refl h in record { octets = it.octets; fin = it.fin; untold = it.untold }
+          by true = let it = found_so rule.DssSum packet (sum_fault known octet one) s refl h in record { octets = it.octets; there = it.there; fin = it.fin; untold = it.untold }
           by false = h
 
       sum_lane : (packet : ℕ) (m : ToldMapping) (l : LaneValue) → LaneLined l → LaneLined (summed_by packet m l)
@@ -468,7 +500,7 @@ module _ (ends : Bool) (limit : ℕ) (few : limit < 2 ^ 31) (content : ℕ → �
             waiting = l.waiting ++ record { mapping = m; packet = packet } ∷ [];
           }) else l)
           by true true = h
-          by true false = record { line = h.line; seen = h.seen; fin = h.fin; top = h.top }
+          by true false = record { line = h.line; seen = h.seen; there = h.there; fin = h.fin; top = h.top }
           by false known = h
 
       sums_lane : (packet : ℕ) (mappings : List ToldMapping) (l : LaneValue) → LaneLined l → LaneLined (with_sums packet mappings l)
@@ -481,15 +513,15 @@ module _ (ends : Bool) (limit : ℕ) (few : limit < 2 ^ 31) (content : ℕ → �
       summed_so facts (Some known) learnt acked h =
           let behind = with_sums facts.packet learnt acked.lane in
           let it = sums_lane facts.packet learnt acked.lane h.1 in
-          (tried_so facts.packet known behind.octet behind.waiting acked.stream h.0, record { line = it.line; seen = it.seen; fin = it.fin; top = it.top })
+          (tried_so facts.packet known behind.octet behind.waiting acked.stream h.0, record { line = it.line; seen = it.seen; there = it.there; fin = it.fin; top = it.top })
 
       acked_one_so : (facts : Facts) (known : ℕ) (peers : StreamValue) (option : OptionValue) (acked : Acked) → Lined acked.stream acked.lane
           → Lined (acked_one facts known peers option acked).stream (acked_one facts known peers option acked).lane
       acked_one_so facts known peers (Dss (Some number) told fin) acked h = by (ack_place (ack_facts facts.at_sender known peers acked.lane) number)
         where
           by : (place : Result ℕ Finding) → Lined (acked_by place facts.packet (ack_counted acked)).stream (acked_by place facts.packet (ack_counted acked)).lane
-          by (Err finding) = let it = tell_so rule.DataAck facts.packet (Found finding) acked.stream refl h.0 in (record { octets = it.octets; fin = it.fin; untold = it.untold }, h.1)
-          by (Ok place) = (record { octets = h.0.octets; fin = h.0.fin; untold = h.0.untold }, record { line = h.1.line; seen = h.1.seen; fin = h.1.fin; top = h.1.top })
+          by (Err finding) = let it = tell_so rule.DataAck facts.packet (Found finding) acked.stream refl h.0 in (record { octets = it.octets; there = it.there; fin = it.fin; untold = it.untold }, h.1)
+          by (Ok place) = (record { octets = h.0.octets; there = h.0.there; fin = h.0.fin; untold = h.0.untold }, record { line = h.1.line; seen = h.1.seen; there = h.1.there; fin = h.1.fin; top = h.1.top })
       acked_one_so facts known peers option acked h = h
 
       acked_so : (facts : Facts) (known : ℕ) (peers : StreamValue) (options : List OptionValue) (acked : Acked) → Lined acked.stream acked.lane
@@ -517,22 +549,22 @@ module _ (ends : Bool) (limit : ℕ) (few : limit < 2 ^ 31) (content : ℕ → �
 
       -- ---- all of a segment
 
-      pub at_so : (facts : Facts) (position : ℕ) (options : List OptionValue) (keys : Keys) (peers s : StreamValue) (l : LaneValue) → IfSome (first_of facts.side keys) (λ n. n ≡ first)
-          → All (OptionLined position) options → Bears at position facts.seen.segment.payload → (payload_len facts ≡ 0) ⊎ (position + payload_len facts ≤ suc upto)
+      pub at_so : AreInside → (facts : Facts) (position : ℕ) (options : List OptionValue) (keys : Keys) (peers s : StreamValue) (l : LaneValue) → IfSome (first_of facts.side keys) (λ n. n ≡ first)
+          → All (OptionLined position) options → Bears at position facts.seen.segment.payload → facts.seen.payload_len ≡ length facts.seen.segment.payload → (payload_len facts ≡ 0) ⊎ (position + payload_len facts ≤ suc upto)
           → (ends ≡ true → facts.seen.segment.head.fin ≡ true → IsEnd (position + facts.seen.payload_len)) → (payload_at facts position).to ≤ high → Placed s l → Lined s l
           → Lined (judged_at facts position options keys peers s l).stream (judged_at facts position options keys peers s l).lane
-      at_so facts position options keys peers s l is all bears within end to h lined =
+      at_so inside facts position options keys peers s l is all bears whole within end to h lined =
           let before : Mapped = record { stream = s; lane = fin_taken facts position l; learnt = []; has_line = false } in
           let told = mapped_with facts (first_of facts.side keys) position options before in
           let held = mapped_so facts (first_of facts.side keys) is position options before all (((h.0, lane.fin_lane false limit few content first where_at facts position l h.1), lane.none_learnt false limit few content first where_at), (lined.0, fin_so facts.seen.segment.head.fin refl)) in
           let paid = behind_payload facts position peers.acknowledged told in
           acks_so facts (first_of (peer facts.side) keys) peers options (summed facts (first_of facts.side keys) told.learnt paid)
-          (summed_so facts (first_of facts.side keys) told.learnt paid (payload_so facts position peers.acknowledged told bears within to held.0.0 held.1))
+          (summed_so facts (first_of facts.side keys) told.learnt paid (payload_so inside facts position peers.acknowledged told bears whole within to held.0.0 held.1))
         where
           taken : (o : Option ℕ) → IfSome o IsEnd → IsEnd (position + facts.seen.payload_len) → IfSome (option_or o (Some (position + facts.seen.payload_len))) IsEnd
           taken None was now = now
           taken (Some p) was now = was
 
           fin_so : (b : Bool) → facts.seen.segment.head.fin ≡ b → LaneLined (if b then with_fin (position + facts.seen.payload_len) l else l)
-          fin_so true e = record { line = lined.1.line; seen = lined.1.seen; fin = λ asked. taken l.fin (lined.1.fin asked) (end asked e); top = lined.1.top }
+          fin_so true e = record { line = lined.1.line; seen = lined.1.seen; there = lined.1.there; fin = λ asked. taken l.fin (lined.1.fin asked) (end asked e); top = lined.1.top }
           fin_so false e = lined.1

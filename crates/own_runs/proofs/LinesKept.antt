@@ -1,6 +1,6 @@
 -- No packet of a connection of ours breaks `place-content`, whatever its script does: what comes to a place is its octet, by an infinite mapping, too. Where
 -- each segment that isn't a reset stands low, its position is that of its number. A reset maps nothing, and nothing but resets comes behind it.
-use Rattle.std.proofs.Common.{◌≡◌, refl, sym, ap, ◌∙◌, subst, ℕ, suc, ◌+◌, ◌%◌, ◌^◌, ◌<◌, ◌≤◌, ◌⊎◌, inl, inr, ⊎_elim, max, Bool, true, false, if◌then◌else◌, Option, Some, None, is_some, List, [], ◌∷◌, map, arith}
+use Rattle.std.proofs.Common.{◌≡◌, refl, sym, ap, ◌∙◌, subst, ℕ, suc, ◌+◌, ◌%◌, ◌^◌, ◌<◌, ◌≤◌, ◌⊎◌, inl, inr, ⊎_elim, max, Bool, true, false, if◌then◌else◌, Option, Some, None, is_some, List, [], ◌∷◌, length, map, arith}
 use Rattle.std.specs.Prelude.{All, IfSome}
 use Rattle.std.specs.Option.{option_map}
 use Rattle.std.proofs.lemmas.Bool.{false≢true}
@@ -68,6 +68,9 @@ module _ (ends : Bool) (d : Drawn) (limit : Side → ℕ) (few : (s : Side) → 
       pub low : Straight telling.own.path telling.own.from → S telling.own.path → telling.at + seen.payload_len < 2 ^ 31
       pub lines : All (LinedIn telling.own.path telling.own.from telling.at) telling.own.values
       pub within : (seen.payload_len ≡ 0) ⊎ (telling.at + seen.payload_len ≤ suc (upto telling.own.path telling.own.from))
+      -- its places are the stream's, and nothing was cut off
+      pub inside : (p : ℕ) → 1 ≤ p → p ≤ upto telling.own.path telling.own.from → where_at telling.own.path telling.own.from p < limit telling.own.from
+      pub whole : seen.payload_len ≡ length seen.segment.payload
       pub end : ends ≡ true → seen.segment.head.fin ≡ true → IsEnd telling.own.path telling.own.from (telling.at + seen.payload_len)
       pub plain : Straight telling.own.path telling.own.from
           ⊎ ((seen.segment.head.rst ≡ true) × (ends ≡ true → seen.segment.head.fin ≡ false) × All OffersNone telling.own.values)
@@ -115,20 +118,21 @@ module _ (ends : Bool) (d : Drawn) (limit : Side → ℕ) (few : (s : Side) → 
     higher : (path : ℕ) (s : Side) (l : LaneValue) (high more : ℕ) → high ≤ more
         → LaneLined ends (limit s) (few s) (content s) (first_at s) (where_at path s) (upto path s) (IsEnd path s) high l
         → LaneLined ends (limit s) (few s) (content s) (first_at s) (where_at path s) (upto path s) (IsEnd path s) more l
-    higher path s l high more up h = record { line = h.line; seen = h.seen; fin = h.fin; top = (let low = h.top in omega (arith, low, up)) }
+    higher path s l high more up h = record { line = h.line; seen = h.seen; there = h.there; fin = h.fin; top = (let low = h.top in omega (arith, low, up)) }
 
     top_keeps : (s : Side) → TellingKeeps (λ (stream : StreamValue). stream.top ≤ limit s)
     top_keeps s = record { tells = λ r packet fault stream h. h; counts = λ stream keys joins mappings sums data_acks h. h }
 
     -- what a stream is beside the rules that were told
     record Fields (s : Side) (stream : StreamValue) : Type 0 where
-      octets : (q : ℕ) → IfSome (stream.octet q) (λ o. o.octet ≡ content s q)
+      octets : (q : ℕ) → IfSome (stream.octet q) (λ o. (q < limit s) × (o.octet ≡ content s q))
+      there : (q : ℕ) → stream.seen q ≡ true → is_some (stream.octet q) ≡ true
       fin : ends ≡ true → IfSome stream.fin (λ told. told.place ≡ limit s)
 
     fields_keep : (s : Side) → TellingKeeps (Fields s)
     fields_keep s = record {
-      tells = λ r packet fault stream h. record { octets = h.octets; fin = h.fin };
-      counts = λ stream keys joins mappings sums data_acks h. record { octets = h.octets; fin = h.fin };
+      tells = λ r packet fault stream h. record { octets = h.octets; there = h.there; fin = h.fin };
+      counts = λ stream keys joins mappings sums data_acks h. record { octets = h.octets; there = h.there; fin = h.fin };
     }
 
     abbrev Leaves : ℕ → Told → Type 0
@@ -243,8 +247,9 @@ module _ (ends : Bool) (d : Drawn) (limit : Side → ℕ) (few : (s : Side) → 
             let well = subst (λ (t : Side). All (Well own.path t position) options) (sym sides) (wells position (same position e)) in
             let placed = placed_so false (limit s) (few s) (content s) (first_at s) (where_at own.path s) facts position options keys peers own_stream its_lane (first_so s keys k) well (never_calm options) bears
             ((h.book s).0, lane.1.0) in
-            let lined = lined_so ends (limit s) (few s) (content s) (first_at s) (where_at own.path s) (upto own.path s) (IsEnd own.path s) high facts position options keys peers own_stream its_lane
-            (first_so s keys k) (lines_here position e) bears (within_here position e) (end_here position e) (omega arith) ((h.book s).0, lane.1.0)
+            let lined = lined_so ends (limit s) (few s) (content s) (first_at s) (where_at own.path s) (upto own.path s) (IsEnd own.path s) high
+            (subst (λ (t : Side). (p : ℕ) → 1 ≤ p → p ≤ upto own.path t → where_at own.path t p < limit t) (sym sides) g.inside) facts position options keys peers own_stream its_lane
+            (first_so s keys k) (lines_here position e) bears (subst (λ (x : Seen). x.payload_len ≡ length x.segment.payload) (sym sees) g.whole) (within_here position e) (end_here position e) (omega arith) ((h.book s).0, lane.1.0)
             ((h.book s).1, higher own.path s its_lane lane.0 high (omega arith) lane.1.1) in
             record {
               book = with_lined s it.stream gone (placed.0, lined.0) (gaps_lined gone.gaps left.book h.book);
@@ -283,7 +288,7 @@ module _ (ends : Bool) (d : Drawn) (limit : Side → ℕ) (few : (s : Side) → 
             let also = options_so d (is_line ends) own.path facts of_line own.values first own.each (record { keys = k; untold = was.1.untold; each = All-nil (ValueIs d own.path own.from) }) in
             let all = judged_options facts (map Readable own.values) first in
             let top = fields_so (top_keeps own.from) facts (map Readable own.values) first was.0.top in
-            let fields = fields_so (fields_keep own.from) facts (map Readable own.values) first (record { octets = was.1.octets; fin = was.1.fin }) in
+            let fields = fields_so (fields_keep own.from) facts (map Readable own.values) first (record { octets = was.1.octets; there = was.1.there; fin = was.1.fin }) in
             let wells : (q : ℕ) → q % 2 ^ 32 ≡ p.at % 2 ^ 32 → All (Well own.path own.from q) all.options =
             λ q same. kept_so (Well own.path own.from q) facts own.values first (p.offers q same) (All-nil (Well own.path own.from q)) in
             let lines = kept_so (LinedIn own.path own.from p.at) facts own.values first g.lines (All-nil (LinedIn own.path own.from p.at)) in
@@ -291,7 +296,7 @@ module _ (ends : Bool) (d : Drawn) (limit : Side → ℕ) (few : (s : Side) → 
             let behind = positions_so facts all.options all.keys (record left { book = with_stream own.from all.stream left.book }) refl refl (opens_so d seen own flow f)
             (seq_so opened e) made.keys wells lines none begun
             (record {
-              book = with_lined own.from all.stream left.book (record { top = top; untold = made.untold }, record { octets = fields.octets; fin = fields.fin; untold = also.untold }) h.book;
+              book = with_lined own.from all.stream left.book (record { top = top; untold = made.untold }, record { octets = fields.octets; there = fields.there; fin = fields.fin; untold = also.untold }) h.book;
               lanes = h.lanes;
             }) in
             record { keys = made.keys; book = behind.book; lanes = behind.lanes }
@@ -323,7 +328,7 @@ module _ (ends : Bool) (d : Drawn) (limit : Side → ℕ) (few : (s : Side) → 
       1,
       (
         new_placed false d limit few content where_at path s,
-        record { line = tt; seen = λ p is. absurd (false≢true is); fin = λ asked. tt; top = omega arith },
+        record { line = tt; seen = λ p is. absurd (false≢true is); there = λ p is. absurd (false≢true is); fin = λ asked. tt; top = omega arith },
         λ straight. omega arith,
       ),
     )
@@ -337,15 +342,15 @@ module _ (ends : Bool) (d : Drawn) (limit : Side → ℕ) (few : (s : Side) → 
           let was = h s in
           with_lined s _ book (
             record { top = was.0.top; untold = others_keep (is_place false) rule.Token wrong.packet (Found (Number32 wrong.expected wrong.was)) (stream_at s book).broken refl was.0.untold },
-            record { octets = was.1.octets; fin = was.1.fin; untold = others_keep (is_line ends) rule.Token wrong.packet (Found (Number32 wrong.expected wrong.was)) (stream_at s book).broken refl was.1.untold },
+            record { octets = was.1.octets; there = was.1.there; fin = was.1.fin; untold = others_keep (is_line ends) rule.Token wrong.packet (Found (Number32 wrong.expected wrong.was)) (stream_at s book).broken refl was.1.untold },
           ) h;
       flow = λ at packet seen g index flow f opens belongs is keys left k h lanes.
           flow_so at packet seen g index flow f opens belongs is keys left k (record { book = h; lanes = lanes });
     }
 
     pub new_lined : BookLined empty_book
-    new_lined A = (record { top = omega arith; untold = λ r is. refl }, record { octets = λ q. tt; fin = λ asked. tt; untold = λ r is. refl })
-    new_lined B = (record { top = omega arith; untold = λ r is. refl }, record { octets = λ q. tt; fin = λ asked. tt; untold = λ r is. refl })
+    new_lined A = (record { top = omega arith; untold = λ r is. refl }, record { octets = λ q. tt; there = λ q is. absurd (false≢true is); fin = λ asked. tt; untold = λ r is. refl })
+    new_lined B = (record { top = omega arith; untold = λ r is. refl }, record { octets = λ q. tt; there = λ q is. absurd (false≢true is); fin = λ asked. tt; untold = λ r is. refl })
 
   -- as fewer sides are straight
   module _ (S S_later : ℕ → Type 0) (Straight Still : ℕ → Side → Type 0) (was : (path : ℕ) (s : Side) → Still path s → Straight path s) where

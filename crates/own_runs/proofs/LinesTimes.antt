@@ -1,5 +1,5 @@
 -- In the capture of a run, whatever its script does, no place has two octets, and the DATA_FIN stands at one place.
-use Rattle.std.proofs.Common.{◌≡◌, refl, sym, ap, ◌∙◌, subst, ℕ, ◌+◌, ◌<◌, ◌≤◌, ◌⊎◌, inl, inr, ⊎_elim, Bool, true, false, Option, Some, None, option_map, Ok, Result, List, [], ◌∷◌, ◌++◌, append_assoc, length, map, arith}
+use Rattle.std.proofs.Common.{◌≡◌, refl, sym, ap, ◌∙◌, subst, ℕ, ◌+◌, ◌<◌, ◌^◌, ◌≤◌, ◌⊎◌, inl, inr, ⊎_elim, Bool, true, false, Option, Some, None, option_map, Ok, Result, List, [], ◌∷◌, ◌++◌, append_assoc, length, map, arith}
 use Rattle.std.specs.Prelude.{All}
 use Rattle.std.specs.List.{slice_get}
 use Rattle.std.proofs.lemmas.List.Elements.{All-cons, All-head, All-nil, All-tail}
@@ -9,7 +9,7 @@ use Rattle.capture_reader.specs.Seen.{Seen, segment_in_packet}
 use Rattle.capture_reader.specs.Steps.{◌>>=◌}
 use Rattle.capture_verdict.specs.Judging.{judged_capture, judged_if_seen, judged_packets}
 use Rattle.judge_laws.proofs.Standing.{some_same}
-use Rattle.judge_laws.specs.GoesOn.{broke, stream_in}
+use Rattle.judge_laws.specs.GoesOn.{stream_in}
 use Rattle.judge_rules.specs.declared.finding.Rule.{Rule}
 use Rattle.link_trace.specs.declared.sent.Sent.{Sent}
 use Rattle.path_core.specs.Octets.{octets}
@@ -42,11 +42,16 @@ use Rattle.own_runs.proofs.Learning.{IsAlone, IsAnswer}
 use Rattle.own_runs.proofs.Lines.{StreamLined, is_line}
 use Rattle.own_runs.proofs.LinesTrace.{EndIn, LineKnown, LinesAt, as_told, begins, lines_next}
 use Rattle.own_runs.proofs.MapTrace.{few}
+use Rattle.own_runs.proofs.OneConnection.{OneHolds}
+use Rattle.own_runs.proofs.OpenCounts.{AreCounted}
+use Rattle.own_runs.proofs.OwnFlows.{Each, FlowsOwn}
+use Rattle.own_runs.proofs.TokenFlows.{IsNamed}
+use Rattle.own_runs.proofs.Values.{drawn}
 use Rattle.own_runs.proofs.Moments.{IsSpoken, WorldAlso, world_speaks}
 use Rattle.own_runs.proofs.NextTrace.{octets_append}
 use Rattle.own_runs.proofs.OwnTrace.{found}
 use Rattle.own_runs.proofs.ShownAcks.{both_worlds}
-use Rattle.own_runs.proofs.TellsPlaces.{RunTells, Tells, run_told}
+use Rattle.own_runs.proofs.TellsPlaces.{RunTells, RunTold, Tells, run_told}
 use Rattle.own_runs.proofs.TimeRuns.{OpensSo, opens_so}
 use Rattle.own_runs.proofs.Traces.{traces_are}
 
@@ -65,10 +70,19 @@ module _ (start : Start) (ends : Bool) (last : Duo) (fit : NumbersFit start) (en
   abbrev pub BooksLined : JudgedValue → Type 0
   BooksLined state = (i : ℕ) (book : BookValue) → slice_get state.books i ≡ Some book → (s : Side) → StreamLined ends (file_len start s) (few start last fit s) (content start s) (stream_at s book)
 
+  -- and what is known of the flows and the connection
+  pub record Settled (state : JudgedValue) : Type 0 where
+    pub books : BooksLined state
+    pub own : FlowsOwn (drawn start) state.seen
+    pub named : Each IsNamed state.seen.flows
+    pub one : OneHolds (drawn start) state.seen
+    pub counts : AreCounted state
+
   module _ (at : Option Side) where
     run_lined : (trace : List Sent) (U T : Type 0) (S : ℕ → Type 0) (X : ℕ → Side → Type 0) (state : JudgedValue) (n : ℕ) → AllKnown U T S X trace → All FitsCapture trace
-        → LinesAt start ends last fit ended U T S X state → BooksLined (judged_packets at true state n (map packet_for trace))
-    run_lined [] U T S X state n known fits h = λ i book there s. (h.hold.books i book there s).1
+        → LinesAt start ends last fit ended U T S X state → Settled (judged_packets at true state n (map packet_for trace))
+    run_lined [] U T S X state n known fits h =
+        record { books = λ i book there s. (h.hold.books i book there s).1; own = h.tokens.seen.own; named = h.tokens.seen.named; one = h.tokens.one; counts = h.counts }
     run_lined (x ∷ trace) U T S X state n known fits h =
         run_lined trace (U ⊎ Says start A IsAlone x s.segment) (T ⊎ Says start B IsAnswer x s.segment) (λ n. S n ⊎ SynsPath x s.segment n)
         (λ n t. X n t ⊎ ((S n ⊎ SynsPath x s.segment n) × ResetsPath x s.segment n t)) (judged_if_seen at true state n (segment_in_packet (packet_for x))) (n + 1) known.1 (All-tail FitsCapture x trace fits)
@@ -87,7 +101,7 @@ module _ (start : Start) (ends : Bool) (last : Duo) (fit : NumbersFit start) (en
         Now = LinesAt start ends last fit ended (U ⊎ Says start A IsAlone x s.segment) (T ⊎ Says start B IsAnswer x s.segment) (λ n. S n ⊎ SynsPath x s.segment n)
             (λ n t. X n t ⊎ ((S n ⊎ SynsPath x s.segment n) × ResetsPath x s.segment n t))
 
-    pub all_lined : (trace : List Sent) → AllKnown ⊥ ⊥ (λ n. ⊥) (λ n t. ⊥) trace → All FitsCapture trace → BooksLined (judged_packets at true nothing_judged 1 (map packet_for trace))
+    pub all_lined : (trace : List Sent) → AllKnown ⊥ ⊥ (λ n. ⊥) (λ n t. ⊥) trace → All FitsCapture trace → Settled (judged_packets at true nothing_judged 1 (map packet_for trace))
     all_lined trace known fits = run_lined trace ⊥ ⊥ (λ n. ⊥) (λ n t. ⊥) nothing_judged 1 known fits (begins start ends last fit ended)
 
   -- on the paths of the start
@@ -257,39 +271,64 @@ module _ (start : Start) (ends : Bool) (turns : List Turn) (size : HasRoom start
         known_rest turns [] refl ⊥ ⊥ (λ n. ⊥) (λ n t. ⊥)
         (record { opened = λ is. none_said (OpensAt 0) is; answered = λ is. none_said Keyed is; syn = λ n no. absurd no; reset = λ n t no. absurd no })
 
-    pub breaks_none : RunFits start turns → (r : Rule) → is_line ends r ≡ true → (side : Side) (at : Option Side) (judged : JudgedValue) → judged_capture at true (capture_of start turns side) ≡ Ok judged
-        → (connection : ℕ) (s : Side) (stream : StreamValue) → stream_in judged connection s ≡ Some stream → broke r stream ≡ false
-    breaks_none run r is side at judged read connection s stream there = by (slice_get all_judged.books connection) refl (ap (λ (j : JudgedValue). stream_in j connection s) same ∙ there)
-      where
-        trace : List Sent
-        trace = trace_of turns (opened_world start)
+    -- what the judge finds
+    module _ (run : RunFits start turns) (side : Side) (at : Option Side) where
+      abbrev trace : List Sent
+      trace = trace_of turns (opened_world start)
 
-        room : All FitsCapture trace
-        room = traces_fit start turns size fit run
+      room : All FitsCapture trace
+      room = traces_fit start turns size fit run
 
-        all_judged : JudgedValue
-        all_judged = judged_packets at true nothing_judged 1 (map packet_for trace)
+      abbrev pub verdict : JudgedValue
+      verdict = judged_packets at true nothing_judged 1 (map packet_for trace)
 
-        same : all_judged ≡ judged
-        same =
-            let few_paths = fit.paths in
-            same_judged all_judged judged
-            (sym (ap (λ (m : Result (List Captured) ℕ). m >>= λ packets. Ok (judged_packets at true nothing_judged 1 packets))
-            (traces_are side (length start.paths) trace (omega (arith, few_paths)) (paths_are start ends told.0 fit told.2 trace _ _ _ _ all_known) room)) ∙ read)
+      pub is_read : judged_capture at true (capture_of start turns side) ≡ Ok verdict
+      is_read =
+          let few_paths = fit.paths in
+          ap (λ (m : Result (List Captured) ℕ). m >>= λ packets. Ok (judged_packets at true nothing_judged 1 packets))
+          (traces_are side (length start.paths) trace (omega (arith, few_paths)) (paths_are start ends told.0 fit told.2 trace _ _ _ _ all_known) room)
 
-        by : (o : Option BookValue) → slice_get all_judged.books connection ≡ o → option_map (stream_at s) o ≡ Some stream → broke r stream ≡ false
-        by None e none = cc
-        by (Some book) e some =
-            subst (λ (x : StreamValue). broke r x ≡ false) (some_same (stream_at s book) stream some) ((all_lined start ends told.0 fit told.2 at trace all_known room connection book e s).untold r is)
+      pub settled : Settled start ends told.0 fit told.2 verdict
+      settled = all_lined start ends told.0 fit told.2 at trace all_known room
+
+      -- of a side
+      pub stands_so : (judged : JudgedValue) → judged_capture at true (capture_of start turns side) ≡ Ok judged → (connection : ℕ) (s : Side) (stream : StreamValue)
+          → stream_in judged connection s ≡ Some stream → StreamLined ends (file_len start s) (few start told.0 fit s) (content start s) stream
+      stands_so judged read connection s stream there =
+          by (slice_get verdict.books connection) refl (ap (λ (j : JudgedValue). stream_in j connection s) (same_judged verdict judged (sym is_read ∙ read)) ∙ there)
+        where
+          by : (o : Option BookValue) → slice_get verdict.books connection ≡ o → option_map (stream_at s) o ≡ Some stream
+              → StreamLined ends (file_len start s) (few start told.0 fit s) (content start s) stream
+          by None e none = cc
+          by (Some book) e some =
+              subst (StreamLined ends (file_len start s) (few start told.0 fit s) (content start s)) (some_same (stream_at s book) stream some) (settled.books connection book e s)
 
 -- whatever its script does
+module _ (start : Start) (turns : List Turn) (size : HasRoom start) (fit : NumbersFit start) (run : RunFits start turns) (side : Side) (at : Option Side) where
+  abbrev pub told : RunTold start (anyhow start size) (Unit {0}) turns
+  told = run_told start turns size fit
+
+  pub stand : FinsStand start true turns size fit (told.0, told.1, told.2)
+  stand before later turn split y sends asked fin =
+      let it = fin_stands start (anyhow start size) size fit turns told.0 told.3 before later turn split y sends fin in
+      (it.0, subst (FinOn (lane_of told.0 y.path y.from)) (at_end y.segment.position y.segment.payload it.1) it.2)
+    where
+      at_end : (position : ℕ) (payload : List ℕ) → payload ≡ [] → position ≡ position + length payload
+      at_end position payload none = let empty : length payload ≡ 0 = ap (λ (xs : List ℕ). length xs) none in omega (arith, empty)
+
+  abbrev pub run_verdict : JudgedValue
+  run_verdict = verdict start true turns size fit (told.0, told.1, told.2) stand run side at
+
+  pub run_read : judged_capture at true (capture_of start turns side) ≡ Ok run_verdict
+  run_read = is_read start true turns size fit (told.0, told.1, told.2) stand run side at
+
+  pub run_settled : Settled start true told.0 fit told.2 run_verdict
+  run_settled = settled start true turns size fit (told.0, told.1, told.2) stand run side at
+
+  pub run_lined_so : (judged : JudgedValue) → judged_capture at true (capture_of start turns side) ≡ Ok judged → (connection : ℕ) (s : Side) (stream : StreamValue)
+      → stream_in judged connection s ≡ Some stream → (small : file_len start s < 2 ^ 31) × StreamLined true (file_len start s) small (content start s) stream
+  run_lined_so judged read connection s stream there =
+      (few start told.0 fit s, stands_so start true turns size fit (told.0, told.1, told.2) stand run side at judged read connection s stream there)
+
 pub no_run_breaks : (r : Rule) → is_line true r ≡ true → NoRunBreaks r
-no_run_breaks r is start turns size fit run =
-    let told = run_told start turns size fit in
-    breaks_none start true turns size fit (told.0, told.1, told.2)
-    (λ before later turn split y sends asked fin.
-    let it = fin_stands start (anyhow start size) size fit turns told.0 told.3 before later turn split y sends fin in
-    (it.0, subst (FinOn (lane_of told.0 y.path y.from)) (at_end y.segment.position y.segment.payload it.1) it.2)) run r is
-  where
-    at_end : (position : ℕ) (payload : List ℕ) → payload ≡ [] → position ≡ position + length payload
-    at_end position payload none = let empty : length payload ≡ 0 = ap (λ (xs : List ℕ). length xs) none in omega (arith, empty)
+no_run_breaks r is start turns size fit run side at judged read connection s stream there = (run_lined_so start turns size fit run side at judged read connection s stream there).1.untold r is

@@ -36,7 +36,7 @@ use Rattle.own_runs.proofs.BearsPlain.{is_mapping, says_more}
 use Rattle.own_runs.proofs.Bearing.{Carries}
 use Rattle.own_runs.proofs.EndMaps.{FinOn, IsMapped, LineAt, content, file_len, lane_of, place_at, upto_of}
 use Rattle.own_runs.proofs.InTime.{ResetsPath, SynsPath, has_octets}
-use Rattle.own_runs.proofs.LastLanes.{AtLast, upto_short}
+use Rattle.own_runs.proofs.LastLanes.{AtLast, places_within, upto_short}
 use Rattle.own_runs.proofs.LateJoins.{ComesBehind, Says}
 use Rattle.own_runs.proofs.Learning.{IsAlone, IsAnswer}
 use Rattle.own_runs.proofs.Lines.{LineIs, OptionLined}
@@ -84,6 +84,12 @@ module _ (start : Start) (ends : Bool) (last : Duo) (fit : NumbersFit start) (en
   upto_low : (path : ℕ) (s : Side) → upto_in path s < 2 ^ 31 - 2
   upto_low path A = let most = upto_short start last ended path A in let short = fit.short_a in omega (arith, most, short)
   upto_low path B = let most = upto_short start last ended path B in let short = fit.short_b in omega (arith, short, most)
+
+  -- each of them has a place of the side's file
+  inside_so : (path : ℕ) (s : Side) (p : ℕ) → 1 ≤ p → p ≤ upto_in path s → where_in last path s p < file_len start s
+  inside_so path s p some below =
+      let low = upto_low path s in
+      subst (λ (q : ℕ). place_at (lane_of last path s) q < file_len start s) (let same : p ≡ p % 2 ^ 32 = omega (arith, low, below) in same) (places_within start last ended path s p some below)
 
   -- ---- an option as it is written, in a segment at its position
 
@@ -298,6 +304,8 @@ module _ (start : Start) (ends : Bool) (last : Duo) (fit : NumbersFit start) (en
           (subst (λ (t : Side). EndIn x.path t (telling.at + seen.payload_len)) (sym from_so)
           (subst (λ (q : ℕ). EndIn x.path x.from q) (let at = at_so in let len = len_so in let same : sg.position + length sg.payload ≡ telling.at + seen.payload_len = omega (arith, at, len) in same)
           (s.also.fin asked (sym fin_so ∙ fin)).1));
+      inside = inside_so telling.own.path telling.own.from;
+      whole = refl;
       plain = plain_by sg.rst refl;
     }
       where

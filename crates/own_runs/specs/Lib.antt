@@ -1,4 +1,5 @@
 pub mod Arrivals
+pub mod Connections
 pub mod Counting
 pub mod Fitting
 pub mod Granting

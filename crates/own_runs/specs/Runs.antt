@@ -31,12 +31,16 @@ use Rattle.own_runs.specs.Fitting.{RunFits}
 abbrev pub capture_of : Start → List Turn → Side → List ℕ
 capture_of start turns side = capture_text (blocks_of side (length start.paths) (trace_of turns (opened_world start)))
 
--- In the capture of a connection, whatever its script does, in whatever order its actors go, and wherever the judge takes it to be captured,
--- no side broke this rule.
-abbrev pub NoRunBreaks : Rule → Type 0
-NoRunBreaks rule = (start : Start) (turns : List Turn) → HasRoom start → NumbersFit start → RunFits start turns
+-- of each stream that the judge finds in the capture of a connection, whatever its script does, in whatever order its actors go, and wherever
+-- the judge takes it to be captured
+abbrev pub OfRuns : (Start → Side → StreamValue → Type 0) → Type 0
+OfRuns Holds = (start : Start) (turns : List Turn) → HasRoom start → NumbersFit start → RunFits start turns
     → (side : Side) (at : Option Side) (judged : JudgedValue) → judged_capture at true (capture_of start turns side) ≡ Ok judged
-    → (connection : ℕ) (s : Side) (stream : StreamValue) → stream_in judged connection s ≡ Some stream → broke rule stream ≡ false
+    → (connection : ℕ) (s : Side) (stream : StreamValue) → stream_in judged connection s ≡ Some stream → Holds start s stream
+
+-- its side didn't break this rule
+abbrev pub NoRunBreaks : Rule → Type 0
+NoRunBreaks rule = OfRuns (λ start s stream. broke rule stream ≡ false)
 
 -- of each stream that the judge finds in the capture of a connection whose script alters no payload and takes no options away
 abbrev pub OfWholeRuns : (Start → Side → StreamValue → Type 0) → Type 0
@@ -59,16 +63,16 @@ file_of start s = pick s start.file_a start.file_b
 
 -- What is written of it, up to the first octet that isn't there, is a first part of its side's file.
 abbrev pub StreamsBeginTheFiles : Type 0
-StreamsBeginTheFiles = OfWholeRuns (λ start s stream. (octets : List ℕ) → IsSent stream.octet octets → IsPrefix octets (file_of start s))
+StreamsBeginTheFiles = OfRuns (λ start s stream. (octets : List ℕ) → IsSent stream.octet octets → IsPrefix octets (file_of start s))
 
 -- Each octet of it that was seen is there, and is the file's: none was cut off.
 abbrev pub SeenOctetsAreTheFiles : Type 0
-SeenOctetsAreTheFiles = OfWholeRuns (λ start s stream. (place : ℕ) → stream.seen place ≡ true
+SeenOctetsAreTheFiles = OfRuns (λ start s stream. (place : ℕ) → stream.seen place ≡ true
     → (place < length (file_of start s)) × (option_map (λ held. held.octet) (stream.octet place) ≡ slice_get (file_of start s) place))
 
 -- Its DATA_FIN stands behind the last octet of the file.
 abbrev pub DataFinsEndTheFiles : Type 0
-DataFinsEndTheFiles = OfWholeRuns (λ start s stream. (fin : ToldPlace) → stream.fin ≡ Some fin → fin.place ≡ length (file_of start s))
+DataFinsEndTheFiles = OfRuns (λ start s stream. (fin : ToldPlace) → stream.fin ≡ Some fin → fin.place ≡ length (file_of start s))
 
 -- What the judge finds of a side in a capture's first connection is its whole file, and the DATA_FIN behind it.
 pub record ShowsTheFile (start : Start) (s : Side) (judged : JudgedValue) : Type 0 where
@@ -117,5 +121,5 @@ ReadersGetWhatIsShown =
 
 -- Where all octets before the DATA_FIN are there, it is the file.
 abbrev pub WholeStreamsAreTheFiles : Type 0
-WholeStreamsAreTheFiles = OfWholeRuns (λ start s stream. (fin : ToldPlace) → stream.fin ≡ Some fin
+WholeStreamsAreTheFiles = OfRuns (λ start s stream. (fin : ToldPlace) → stream.fin ≡ Some fin
     → (octets : List ℕ) → IsSent stream.octet octets → length octets ≡ fin.place → octets ≡ file_of start s)

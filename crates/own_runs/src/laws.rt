@@ -1,6 +1,7 @@
 //! What is read in a capture of ours, as clauses of functions that do nothing.
 ghost use Rattle.judge_rules.specs.declared.finding.Rule.TheVariants.{AddressHmac, DataAck, DataFin, DssSum, Fail, FastCloseKey, Form, Infinite, JoinHmac, Keys, Mapping, PlaceContent, Token, Within};
 ghost use Rattle.own_runs.specs.Arrivals.{EachAckIsCarried, EachAckRises, WhatCameWasSent};
+ghost use Rattle.own_runs.specs.Connections.{EachRunIsOneConnection};
 ghost use Rattle.own_runs.specs.Fitting.{TracesFit};
 ghost use Rattle.own_runs.specs.Handshakes.{EachComesInOrder};
 ghost use Rattle.own_runs.specs.KeysShown.{EachComesBehindKeys, EachShowsKeysSo};
@@ -64,6 +65,14 @@ pub fn own_runs_break_no_rule()
     ensures fail { NoPlainRunBreaks Fail }
 {}
 
+/// A law: the capture of a run is read, and at most one connection is seen in it, whatever the script does. B's key is that of the start, and A's,
+/// where it was shown; checksums are used where the start says so (RFC 8684, section 3.1). Each subflow runs between the ends of a path, A opened
+/// it, and no two run on the same path. Each join's connection was found (section 3.2), so no line is of a join, and whether the capture ends well
+/// is for the rules of the two sides alone. The premises are those of `own_runs_break_no_rule`.
+pub fn own_runs_are_one_connection()
+    ensures { EachRunIsOneConnection }
+{}
+
 /// A law: where the script alters no payload and takes no options away, no side is told to break a rule on the end of a stream: the DATA_FIN
 /// stands at one place, and no data behind it (`data_fin`, RFC 8684, section 3.3.3); no infinite mapping is followed by another
 /// (`infinite`, section 3.7). Nor does an MP_FAIL name what is no mapping (`fail`, section 3.7), as there is none. Else as in
@@ -107,13 +116,14 @@ pub fn whole_runs_end_well()
     ensures lines { WholeReportsAreKept }
 {}
 
-/// A law: what the judge finds of a side's stream in the capture of such a run, over all subflows, up to the first octet that isn't there, is a
-/// first part of the side's file (`begins`). Each octet of it that was seen is there, behind a gap, too, and is the file's (`seen`). Its DATA_FIN
-/// stands behind the file's last octet (`ends`, RFC 8684, section 3.3.3), so where all octets before it are there it is the file (`whole`). Else
-/// as in `whole_runs_break_no_rule`. Once such a run is delivered its capture is read, and shows both files whole, each with its DATA_FIN
-/// (`delivered`). Whether it is or not, an application has read nothing that the capture doesn't show: each octet that it has read was seen, in
-/// the other side's stream, at its place (`read`). As a round ends, where each actor's turn is over, each octet that was granted to a path, and
-/// isn't acknowledged, was seen (`tried`).
+/// A law: what the judge finds of a side's stream in the capture of a run, whatever the run's script does, over all subflows, up to the first octet
+/// that isn't there, is a first part of the side's file (`begins`). Each octet of it that was seen is there, behind a gap, too, and is the file's,
+/// also where an infinite mapping gives it its place (`seen`, RFC 8684, section 3.7): links may alter payload and take options away, but what was
+/// sent is the file's. Its DATA_FIN stands behind the file's last octet (`ends`, RFC 8684, section 3.3.3), so where all octets before it are there
+/// it is the file (`whole`). These four hold as `own_runs_break_no_rule` does, the others of runs as in `whole_runs_break_no_rule`. Once such a run
+/// is delivered its capture is read, and shows both files whole, each with its DATA_FIN (`delivered`). Whether it is or not, an application has
+/// read nothing that the capture doesn't show: each octet that it has read was seen, in the other side's stream, at its place (`read`). As a round
+/// ends, where each actor's turn is over, each octet that was granted to a path, and isn't acknowledged, was seen (`tried`).
 pub fn captures_show_the_files()
     ensures begins { StreamsBeginTheFiles }
     ensures seen { SeenOctetsAreTheFiles }

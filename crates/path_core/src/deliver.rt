@@ -1,6 +1,6 @@
 //! The bytes that an end's receive edge passes are placed, piece by piece (RFC 8684, section 3.3.1).
 
-ghost use Rattle.std.specs.Prelude.{◌+◌, ◌≡◌, ◌-◌, ◌<◌, ◌≤◌, ◌&&◌, ◌^◌, min, is_some, true, IfOk, length, take, option_map, IfSome};
+ghost use Rattle.std.specs.Prelude.{◌+◌, ◌≡◌, ◌-◌, ◌<◌, ◌≤◌, ◌&&◌, ◌^◌, ◌++◌, min, is_some, true, IfOk, OnOk, length, take, option_map, IfSome};
 ghost use Rattle.std.specs.List.{concat};
 ghost use Rattle.dss_mapping.specs.Mappings.{mapping_at};
 ghost use Rattle.subflow_recv.specs.Receiving.{filled};
@@ -14,6 +14,7 @@ use crate::end::PathEnd;
 use crate::profile::Profile;
 use crate::state::PathState;
 use actor_desk::{Ask, LocalStep, Reply};
+use bytes::Bytes;
 use dss_mapping::{KeptMapping, Mappings};
 use fallback_state::Mode;
 use octet_text::Text;
@@ -25,7 +26,20 @@ use sides::Side;
 use std::alloc::{AllocError, Global};
 use subflow_tcp::Parts;
 
-/// The first octets of these parts, in order, as a text that is shared. Takes memory for them.
+/// Puts the first octets of a part at the end of a text, so many: they are shared where the text has none, and else copied.
+fn put_part(alloc: Global, text: &mut Text, part: &Bytes, count: usize) -> Result<(), AllocError>
+    requires { count ≤ length part.now }
+    ensures { OnOk result (text.new ≡ text.old ++ take count part.now) }
+{
+    if text.is_empty() {
+        *text = Text::of_shared(alloc, part.slice(0..count)?);
+        Ok(())
+    } else {
+        text.append(&part.as_slice()[..count])
+    }
+}
+
+/// The first octets of these parts, in order, as a text that is shared. They are copied where they stand in more than one part.
 fn text_of(alloc: Global, parts: Parts<'_>, count: u64) -> Result<Text, AllocError>
     ensures octets { IfOk result (λ text. text ≡ take count (concat parts.entry)) }
     ensures few { IfOk result (λ text. length text ≤ count) }
@@ -37,10 +51,20 @@ fn text_of(alloc: Global, parts: Parts<'_>, count: u64) -> Result<Text, AllocErr
             return text.share();
         }
         let taken = left.min(part.len() as u64);
-        text.append(&part[..taken as usize])?;
+        put_part(alloc, &mut text, part, taken as usize)?;
         left -= taken;
     }
     text.share()
+}
+
+/// A text, or the other one in its place where both have the same octets and the other one is kept anyhow.
+fn or_kept(text: Text, kept: Option<&Text>) -> Result<Text, AllocError>
+    ensures { IfOk result (λ same. same ≡ text) }
+{
+    match kept {
+        Some(kept) if *kept == text => kept.copy(),
+        _ => Ok(text),
+    }
 }
 
 /// The mapping of a position.
@@ -326,6 +350,18 @@ impl PathState {
         self.end(side).right_piece(&self.profile)
     }
 
+    /// The octets of such a piece. Where they are the piece that the other end sent at this position, and still has, they are
+    /// shared with it, and what came is let go.
+    fn piece_text(&self, side: Side, found: InOrder) -> Result<Text, AllocError>
+        ensures octets { IfOk result (λ text. text ≡
+            (piece_from found (end_at side self.now).tcp).octets) }
+        ensures few { IfOk result (λ text. length text ≤ found.count) }
+    {
+        let end = self.end(side);
+        let octets = end.octets_of(self.alloc, found)?;
+        or_kept(octets, self.end(side.peer()).tcp.text_at(end.tcp.edge()))
+    }
+
     /// They are to be placed. Takes memory for them.
     pub(crate) fn piece_ask(&self, side: Side) -> Result<Ask, AllocError>
         requires { is_some (piece_of side self.now) ≡ true }
@@ -334,7 +370,7 @@ impl PathState {
     {
         match self.piece(side) {
             Some(found) => {
-                let bytes = self.end(side).octets_of(self.alloc, found)?;
+                let bytes = self.piece_text(side, found)?;
                 let at = found.place;
                 Ok(Ask::Reassembly(side, ReassemblyCall::Place { at, bytes }))
             }

@@ -19,6 +19,7 @@ use crate::profile::Profile;
 use crate::said::SegmentKind;
 use crate::state::PathState;
 use actor_desk::{Ask, Reply};
+use octet_text::Text;
 use path_store::GrantedPiece;
 use send_book::{SendCall, SendReply, Span};
 use seq_units::Mapping;
@@ -78,7 +79,7 @@ impl PathEnd {
     pub(crate) fn take_grant(
         &mut self,
         span: Span,
-        piece: &[u8],
+        piece: &Text,
         mapping: &Mapping,
     ) -> Result<(), AllocError>
         requires piece { IsSendable piece.now }
@@ -176,7 +177,7 @@ impl PathState {
 
     /// The granted piece is to be sent; the duty stays. At an error all is as it was.
     #[tactic(auto, using(crate::proofs::Grants::may_state, crate::proofs::Grants::may_room))]
-    fn take_grant(&mut self, side: Side, span: Span, piece: &[u8]) -> Result<(), AllocError>
+    fn take_grant(&mut self, side: Side, span: Span, piece: &Text) -> Result<(), AllocError>
         requires piece { IsSendable piece.now }
         requires may { may_ask self.old.profile side (end_at side self.old) ≡ true }
         ensures ok { OnOk result (self.new ≡
@@ -185,7 +186,9 @@ impl PathState {
         ensures err { OnErr result (self.new ≡ self.old) }
     {
         let position = self.end(side).tcp.nxt();
-        let mapping = self.profile.mapping_of(side, span.from, position, piece);
+        let mapping = self
+            .profile
+            .mapping_of(side, span.from, position, piece.as_bytes());
         self.end_mut(side).take_grant(span, piece, &mapping)
     }
 
@@ -209,7 +212,7 @@ impl PathState {
     {
         match reply {
             Reply::Send(SendReply::Granted { span, piece }) => {
-                self.take_grant(side, *span, piece.as_bytes())
+                self.take_grant(side, *span, piece)
             }
             _ => {
                 self.refuse_grant(side, reply);

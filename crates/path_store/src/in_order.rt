@@ -31,7 +31,7 @@ fn checksum_of(mapping: &Mapping, parts: Parts<'_>, count: u16) -> u16
             return sum.make();
         }
         let taken = left.min(part.len() as u64);
-        sum.add(&part[..taken as usize]);
+        sum.add(&part.as_slice()[..taken as usize]);
         left -= taken;
     }
     sum.make()

@@ -1,4 +1,4 @@
 pub mod Arrivals
 pub mod Bounds
-pub mod KeptParts
+pub mod Kept
 pub mod Merging

@@ -25,9 +25,6 @@ clash (Some e) at bytes = if reaches_past e at bytes then Some e else None
 abbrev pub places_after : ℕ → List ℕ → Arriving → List (Option ℕ)
 places_after at bytes b = merged b.places (drop b.read (by_place at bytes))
 
-abbrev pub with_places : List (Option ℕ) → Arriving → Arriving
-with_places places b = record b { places = places }
-
 -- below the edge: a clash with the known end, or how many places get their byte
 abbrev pub placed_reply : Option ℕ → ℕ → List ℕ → Arriving → ReassemblyReply
 placed_reply (Some e) at bytes b = FinClash e at

@@ -1,10 +1,9 @@
-ghost use Rattle.std.specs.Prelude.{◌≡◌, ◌+◌, ◌-◌, ◌^◌, ◌≤◌, ◌↔◌, [], true, length, take, drop, max, count_by, is_some, IfOk, OnOk, OnErr};
+ghost use Rattle.std.specs.Prelude.{◌≡◌, ◌+◌, ◌-◌, ◌^◌, ◌≤◌, ◌↔◌, [], length, take, count_by, is_some, IfOk, OnOk, OnErr};
+ghost use Rattle.std.specs.List.{concat};
 
-use crate::beyond::take_in;
 use crate::call::{ReassemblyCall, ReassemblyReply};
-use byte_pieces::BytePieces;
-use circular_buffer::HeapCircularBuffer;
-use octet_text::Text;
+use byte_pieces::{BytePieces, Parts};
+use octet_text::{JoinedText, Text};
 use stamped_book::Book;
 use std::alloc::{AllocError, Global};
 use std::marker::Model;
@@ -13,12 +12,10 @@ use std::marker::Model;
 #[derive(Drop)]
 pub struct ReassemblyBook {
     alloc: Global,
-    /// How many bytes were read.
-    read: u64,
-    /// The bytes from there on up to the first gap.
-    ring: HeapCircularBuffer<u8>,
-    /// The bytes beyond the gap, in pieces. They count from the gap on.
-    beyond: BytePieces,
+    /// How many bytes past those read are taken, at most 1,048,576.
+    capacity: u64,
+    /// The bytes from the first one on that isn't read, in pieces that share those that arrived.
+    kept: BytePieces,
     /// How many bytes there are in all, where that is known.
     known_end: Option<u64>,
     /// Whether the peer was the first to abort, where one did.
@@ -30,34 +27,51 @@ impl Model for ReassemblyBook {
 
     ghost Value = { Arriving };
 
-    ghost use Rattle.reassembly_book.specs.Kept.{as_arriving, IsKept};
+    ghost use Rattle.std.specs.Prelude.{◌≤◌};
+    ghost use Rattle.reassembly_book.specs.State.{IsSound};
+    ghost use Rattle.reassembly_book.specs.Kept.{as_arriving};
 
-    ghost view = { λ b.
-        as_arriving b.read b.ring.items b.ring.capacity b.beyond.places b.known_end b.aborted };
+    ghost view = { λ b. as_arriving b.kept b.capacity b.known_end b.aborted };
 
-    ghost invariant = { λ b.
-        IsKept b.read b.ring.items b.ring.capacity b.beyond b.known_end b.aborted };
+    ghost invariant = { λ b. IsSound (as_arriving b.kept b.capacity b.known_end b.aborted)
+        × (b.capacity ≤ 1048576) };
+}
+
+/// The first bytes of these parts, in order. They are shared.
+fn first_of(alloc: Global, parts: Parts<'_>, count: usize) -> Result<JoinedText, AllocError>
+    ensures { IfOk result (λ text. text ≡ take count (concat parts.entry)) }
+{
+    let mut text = JoinedText::new(alloc);
+    let mut left = count;
+    for part in parts {
+        if left == 0 {
+            return Ok(text);
+        }
+        let taken = left.min(part.len());
+        text.push(part.slice(0..taken)?)?;
+        left -= taken;
+    }
+    Ok(text)
 }
 
 impl ReassemblyBook {
     ghost use Rattle.reassembly_book.specs.State.{new_arriving, filled};
     ghost use Rattle.reassembly_book.specs.State.{received, top};
-    ghost use Rattle.reassembly_book.specs.Steps.{by_place, after_reading, edge, refusal, is_taken, with_places, places_after, bytes_reply, place_reply, after_place, fin_clash, fin_reply, after_fin, read_reply, after_read, next_wanted, window, CanAsk, after_call};
+    ghost use Rattle.reassembly_book.specs.Steps.{after_reading, edge, refusal, is_taken, places_after, bytes_reply, place_reply, after_place, fin_clash, fin_reply, after_fin, read_reply, after_read, next_wanted, window, CanAsk, after_call};
 
-    /// A book that takes `capacity` bytes, 1 to 1,048,576, past those read, and takes the memory for them now.
-    pub fn new(alloc: Global, capacity: u64) -> Result<Self, AllocError>
+    /// A book that takes `capacity` bytes, 1 to 1,048,576, past those read. It takes no memory.
+    pub fn new(alloc: Global, capacity: u64) -> Self
         requires some { 1 ≤ capacity }
         requires most { capacity ≤ 1048576 }
-        ensures { IfOk result (λ book. book ≡ new_arriving capacity) }
+        ensures { result ≡ new_arriving capacity }
     {
-        Ok(ReassemblyBook {
+        ReassemblyBook {
             alloc,
-            read: 0,
-            ring: HeapCircularBuffer::with_capacity(alloc, capacity as usize)?,
-            beyond: BytePieces::new(alloc, 0),
+            capacity,
+            kept: BytePieces::new(alloc, 0),
             known_end: None,
             aborted: None,
-        })
+        }
     }
 
     /// The next bytes, lent: some of those before the first gap, from the first one on, or none where there are none.
@@ -65,8 +79,10 @@ impl ReassemblyBook {
         ensures prefix { result.now ≡ take (length result.now) (filled self.now.places) }
         ensures none { (result.now ≡ []) ↔ (filled self.now.places ≡ []) }
     {
-        let (first, second) = self.ring.as_slices();
-        if first.is_empty() { second } else { first }
+        match self.kept.in_order().next() {
+            Some(first) => first.as_slice(),
+            None => &[],
+        }
     }
 
     /// Passes over `n` of the bytes before the first gap, as if they had been read.
@@ -74,35 +90,37 @@ impl ReassemblyBook {
         requires { n ≤ length (filled self.old.places) }
         ensures { self.new ≡ after_reading n self.old }
     {
-        self.read += n as u64;
-        self.ring.truncate_front(self.ring.len() - n);
+        // For the proof: the bytes before the first gap end at place 2^62 or before it.
+        let _end = self.kept.in_order_end();
+        let to = self.kept.start() + n as u64;
+        self.kept.drop_front(to);
     }
 
     // How many bytes are before the first gap.
-    fn waiting(&self) -> usize
+    fn waiting(&self) -> u64
         ensures { result ≡ length (filled self.now.places) }
     {
-        self.ring.len()
+        self.kept.in_order_end() - self.kept.start()
     }
 
     fn received(&self) -> u64
         ensures value { result ≡ received self.now }
         ensures bound { result ≤ 2 ^ 62 }
     {
-        self.beyond.start()
+        self.kept.in_order_end()
     }
 
     fn edge(&self) -> u64
         ensures { result ≡ edge self.now }
     {
-        self.read + self.ring.capacity() as u64
+        self.kept.start() + self.capacity
     }
 
     // The place after the last byte.
     fn top(&self) -> u64
         ensures { result ≡ top self.now }
     {
-        self.beyond.top()
+        self.kept.top()
     }
 
     // Why the bytes aren't taken, where they aren't.
@@ -131,7 +149,7 @@ impl ReassemblyBook {
             count_by is_some (places_after at bytes.now self.now) - count_by is_some
             self.now.places }
     {
-        self.beyond.count_new(at, bytes)
+        self.kept.count_new(at, bytes)
     }
 
     fn place_reply(&self, at: u64, bytes: &Text) -> ReassemblyReply
@@ -151,20 +169,6 @@ impl ReassemblyBook {
         self.refusal(at, bytes).is_none()
     }
 
-    fn put(&mut self, at: u64, bytes: &[u8]) -> Result<(), AllocError>
-        requires places { at + length bytes.now ≤ 2 ^ 62 }
-        requires taken { is_taken at bytes.now self.old ≡ true }
-        ensures ok { OnOk result (self.new ≡
-            with_places (places_after at bytes.now self.old) self.old) }
-        ensures err { OnErr result (self.new ≡ self.old) }
-    {
-        if bytes.is_empty() {
-            return Ok(());
-        }
-        take_in(&mut self.ring, &mut self.beyond, at, bytes)?;
-        Ok(())
-    }
-
     fn place(&mut self, at: u64, bytes: &Text) -> Result<(), AllocError>
         requires { at + length bytes.now ≤ 2 ^ 62 }
         ensures ok { OnOk result (self.new ≡ after_place at bytes.now self.old) }
@@ -173,7 +177,9 @@ impl ReassemblyBook {
         if !self.is_taken(at, bytes) {
             return Ok(());
         }
-        self.put(at, bytes.as_bytes())
+        let shared = bytes.to_shared()?;
+        self.kept.put_shared(at, &shared)?;
+        Ok(())
     }
 
     fn fin_clash(&self, at: u64) -> Option<u64>
@@ -202,17 +208,11 @@ impl ReassemblyBook {
         }
     }
 
-    // The first bytes of the ring, from both of its slices.
-    fn first_bytes(&self, count: usize) -> Result<Text, AllocError>
-        requires { count ≤ length (filled self.now.places) }
+    // The first of the bytes before the first gap.
+    fn first_bytes(&self, count: usize) -> Result<JoinedText, AllocError>
         ensures { IfOk result (λ text. text ≡ take count (filled self.now.places)) }
     {
-        let (first, second) = self.ring.as_slices();
-        let near = count.min(first.len());
-        let far = (count - near).min(second.len());
-        let mut text = Text::of(self.alloc, &first[..near])?;
-        text.append(&second[..far])?;
-        text.share()
+        first_of(self.alloc, self.kept.in_order(), count)
     }
 
     // The bytes before the first gap, or why there are none.
@@ -220,11 +220,11 @@ impl ReassemblyBook {
         ensures { IfOk result (λ reply. reply ≡
             bytes_reply (take max (filled self.now.places)) self.now) }
     {
-        let count = self.waiting().min(max as usize);
+        let count = self.waiting().min(u64::from(max));
         if count > 0 {
-            return Ok(ReassemblyReply::Bytes(self.first_bytes(count)?));
+            return Ok(ReassemblyReply::Bytes(self.first_bytes(count as usize)?));
         }
-        if self.known_end == Some(self.read) {
+        if self.known_end == Some(self.kept.start()) {
             return Ok(ReassemblyReply::End);
         }
         Ok(ReassemblyReply::NoneYet)
@@ -243,8 +243,8 @@ impl ReassemblyBook {
         ensures { self.new ≡ after_read max self.old }
     {
         if self.aborted.is_none() {
-            let count = self.waiting().min(max as usize);
-            self.consume(count);
+            let count = self.waiting().min(u64::from(max));
+            self.consume(count as usize);
         }
     }
 

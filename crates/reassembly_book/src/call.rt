@@ -1,6 +1,6 @@
 ghost use Rattle.std.specs.Prelude.{◌≡◌, IfOk};
 
-use octet_text::Text;
+use octet_text::{JoinedText, Text};
 use std::alloc::AllocError;
 
 /// What a reassembly book can be asked.
@@ -51,8 +51,8 @@ pub enum ReassemblyReply {
         /// The place that was told.
         at: u64,
     },
-    /// The next bytes.
-    Bytes(Text),
+    /// The next bytes, in parts that are shared with the calls that brought them.
+    Bytes(JoinedText),
     /// All bytes were read, and no more follow.
     End,
     /// The next byte has not arrived.
@@ -74,7 +74,7 @@ pub enum ReassemblyReply {
 }
 
 impl ReassemblyReply {
-    /// An equal reply. Bytes that are read are shared with it where they are shared, and else copied.
+    /// An equal reply. Bytes that are read are shared with it.
     pub fn copy(&self) -> Result<Self, AllocError>
         ensures { IfOk result (λ copy. copy ≡ self.now) }
     {

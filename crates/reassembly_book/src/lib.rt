@@ -4,7 +4,6 @@
 //! The book knows no segments and no numbers of the protocol. Places count the bytes of the stream from 0.
 #![tactic(auto)]
 
-mod beyond;
 mod book;
 mod call;
 mod laws;

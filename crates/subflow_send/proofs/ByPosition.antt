@@ -46,7 +46,7 @@ find-fin : (f : Record → Bool) (pos : ℕ) (fin : Option Sending) → find f (
 find-fin f pos None = refl
 find-fin f pos (Some s) = refl
 
-find_record : (f : Record → Bool) (syn : Option Sending) (ps : List Piece) (pos : ℕ) (fin : Option Sending)
+pub find_record : (f : Record → Bool) (syn : Option Sending) (ps : List Piece) (pos : ℕ) (fin : Option Sending)
     → find f (all_records syn ps pos fin)
     ≡ first_some (kept_if f (option_map syn_record syn)) (first_some (find f (map piece_record ps)) (kept_if f (option_map (fin_record pos) fin)))
 find_record f syn ps pos fin =

@@ -4,3 +4,4 @@ pub mod Whole
 pub mod Covering
 pub mod ByPosition
 pub mod Counting
+pub mod AtPosition

@@ -134,6 +134,17 @@ flight v = sum_by (octets_under_way v.una) v.records
 abbrev pub stands_at : ℕ → Record → Bool
 stands_at pos r = r.pos == pos
 
+abbrev pub is_data : RecordKind → Bool
+is_data Data = true
+is_data _ = false
+
+-- it is a piece of data that begins at this position
+abbrev pub is_piece_at : ℕ → Record → Bool
+is_piece_at pos r = is_data r.kind && r.pos == pos
+
+abbrev pub octets_of : Record → List ℕ
+octets_of r = r.piece
+
 abbrev pub is_fin : RecordKind → Bool
 is_fin Fin = true
 is_fin _ = false

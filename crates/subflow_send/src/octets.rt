@@ -1,7 +1,7 @@
 ghost use Rattle.std.specs.Prelude.{◌≡◌, ◌≤◌, length, IfOk};
 
 use octet_text::Text;
-use std::alloc::{AllocError, Global};
+use std::alloc::AllocError;
 use std::marker::Model;
 
 /// The octets of a piece, at most 65,475.
@@ -23,13 +23,20 @@ impl Model for Octets {
 }
 
 impl Octets {
-    /// A copy of these octets.
-    pub(crate) fn of(alloc: Global, octets: &[u8]) -> Result<Self, AllocError>
-        requires { length octets.now ≤ 65475 }
-        ensures { IfOk result (λ copy. copy ≡ octets.now) }
+    /// The octets of a text, shared with it where it is shared.
+    pub(crate) fn of(text: &Text) -> Result<Self, AllocError>
+        requires { length text.now ≤ 65475 }
+        ensures { IfOk result (λ octets. octets ≡ text.now) }
     {
-        let text = Text::of(alloc, octets)?;
+        let text = text.copy()?;
         Ok(Octets { text })
+    }
+
+    /// The text of the octets, lent.
+    pub(crate) fn as_text(&self) -> &Text
+        ensures { result.now ≡ self.now }
+    {
+        &self.text
     }
 
     /// The octets, lent.

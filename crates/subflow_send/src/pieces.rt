@@ -1,14 +1,16 @@
 //! The data pieces of a sending side, in order of their positions.
 ghost use Rattle.std.specs.Prelude.{◌≡◌, ℕ, ◌<◌, ◌≤◌, ◌++◌, true, false, take, drop, length, map, find, IfSome, nat_le};
 ghost use Rattle.std.specs.Prelude.{slice_index_or};
+ghost use Rattle.std.specs.List.Sorted.{IsNonDecreasingBy};
 ghost use Rattle.std.specs.Option.{option_map};
 ghost use Rattle.subflow_send.specs.Records.{record_of};
-ghost use Rattle.subflow_send.specs.Rules.{stands_at, last_covered};
+ghost use Rattle.subflow_send.specs.Rules.{stands_at, is_piece_at, octets_of, last_covered};
 ghost use Rattle.subflow_send.specs.Sendings.{sent_again, first_at_an_expiry};
 ghost use Rattle.subflow_send.specs.Pieces.{piece_record, piece_end, piece_under_way, is_unsent_piece, unsent_piece, sending_of};
 
 use crate::octets::Octets;
 use crate::record::{RecordKind, RecordRef, Sending};
+use octet_text::Text;
 use seq_units::{Mapping, Pos};
 use std::collections::VecDeque;
 
@@ -123,6 +125,35 @@ pub(crate) fn piece_at(pieces: &VecDeque<Piece>, pos: Pos) -> Option<RecordRef<'
         }
     }
     None
+}
+
+/// How many pieces begin before this position, found by halving.
+fn begun_before(pieces: &VecDeque<Piece>, pos: Pos) -> usize
+    requires { IsNonDecreasingBy (λ p. p.pos) pieces.now.items }
+    ensures within { result ≤ length pieces.now.items }
+    ensures before { (k : ℕ) (d : Piece) → k < result →
+        (slice_index_or pieces.now.items k d).pos < pos }
+    ensures behind { (k : ℕ) (d : Piece) → result ≤ k → k < length pieces.now.items →
+        pos ≤ (slice_index_or pieces.now.items k d).pos }
+{
+    pieces.partition_point(|piece| piece.pos < pos)
+}
+
+/// The octets of the piece at this position, lent.
+pub(crate) fn text_at(pieces: &VecDeque<Piece>, pos: Pos) -> Option<&Text>
+    requires { IsNonDecreasingBy (λ p. p.pos) pieces.now.items }
+    ensures { option_map (λ text. text.now) result ≡
+        option_map octets_of (find (is_piece_at pos) (map piece_record pieces.now.items)) }
+{
+    let index = begun_before(pieces, pos);
+    if index == pieces.len() {
+        return None;
+    }
+    let found = &pieces[index];
+    if found.pos != pos {
+        return None;
+    }
+    Some(found.bytes.as_text())
 }
 
 /// Marks each piece from this index on as to be sent.

@@ -1,14 +1,16 @@
 //! The data pieces of a sending side, with what is kept beside them so that none is looked at twice.
 ghost use Rattle.std.specs.Prelude.{◌≡◌, ℕ, ◌+◌, ◌<◌, ◌≤◌, ◌^◌, ◌==◌, not, ◌++◌, ◌∷◌, [], true, false, drop, length, map, sum_by, find, slice_get, slice_index_or, set, IfSome, OnOk, OnErr};
 ghost use Rattle.std.specs.List.{list_any};
+ghost use Rattle.std.specs.List.Sorted.{IsNonDecreasingBy};
 ghost use Rattle.std.specs.Option.{option_map};
 ghost use Rattle.subflow_send.specs.declared.pieces.Piece.{Piece};
 ghost use Rattle.subflow_send.specs.Records.{record_of};
-ghost use Rattle.subflow_send.specs.Rules.{stands_at, is_unsent, first_sent, expired_records, last_covered};
+ghost use Rattle.subflow_send.specs.Rules.{stands_at, is_piece_at, octets_of, is_unsent, first_sent, expired_records, last_covered};
 ghost use Rattle.subflow_send.specs.Pieces.{piece_record, piece_len, piece_under_way, is_unsent_piece, unsent_piece, uncovered_pieces, first_is_covered, sent_below, sent_piece, sent_pieces, sending_of};
 
-use crate::pieces::{Piece, last_covered, next_unsent, piece_at, unsend_from};
+use crate::pieces::{Piece, last_covered, next_unsent, piece_at, text_at, unsend_from};
 use crate::record::{RecordRef, Sending};
+use octet_text::Text;
 use seq_units::Pos;
 use std::alloc::{AllocError, Global};
 use std::collections::VecDeque;
@@ -119,6 +121,15 @@ impl PieceQueue {
         ensures bound { IfSome result (λ found. length found.piece.now ≤ 65475) }
     {
         piece_at(&self.items, pos)
+    }
+
+    /// The octets of the piece at this position, lent.
+    pub(crate) fn text_at(&self, pos: Pos) -> Option<&Text>
+        requires { IsNonDecreasingBy (λ p. p.pos) self.now }
+        ensures { option_map (λ text. text.now) result ≡
+            option_map octets_of (find (is_piece_at pos) (map piece_record self.now)) }
+    {
+        text_at(&self.items, pos)
     }
 
     /// How the last of the pieces that end at or before this position was sent; `None` where there is none.

@@ -10,6 +10,7 @@ use crate::octets::Octets;
 use crate::pieces::Piece;
 use crate::queue::PieceQueue;
 use crate::record::{AckKind, RecordKind, RecordRef, Sending};
+use octet_text::Text;
 use seq_units::{Mapping, Pos};
 use std::alloc::{AllocError, Global};
 use std::marker::Model;
@@ -26,7 +27,6 @@ const NO_MAPPING: Mapping = Mapping {
 /// whole, in order of their positions, and whether the FIN was pushed.
 #[derive(Drop)]
 pub struct SubflowSend {
-    alloc: Global,
     /// SND.UNA: the least position that is not acknowledged.
     una: Pos,
     /// SND.NXT: the position of the next record.
@@ -63,14 +63,13 @@ impl Model for SubflowSend {
 
 impl SubflowSend {
     ghost use Rattle.subflow_send.specs.Records.{span_of, Tile};
-    ghost use Rattle.subflow_send.specs.Rules.{opening, after_push, after_finish, ack_kind, after_acknowledge, newly_acknowledged, sample_of, is_unsent, after_sent, after_resent, after_expired, again_at_expiry, flight, stands_at, is_new_fin, after_fin_sent};
+    ghost use Rattle.subflow_send.specs.Rules.{opening, after_push, after_finish, ack_kind, after_acknowledge, newly_acknowledged, sample_of, is_unsent, after_sent, after_resent, after_expired, again_at_expiry, flight, stands_at, is_piece_at, octets_of, is_new_fin, after_fin_sent};
 
     /// A side that has sent nothing: its SYN stands at position 0 and is to be sent. Takes no memory.
     pub fn new(alloc: Global) -> Self
         ensures { result ≡ opening }
     {
         SubflowSend {
-            alloc,
             una: 0,
             nxt: 1,
             syn: Some(Sending::NEVER),
@@ -104,8 +103,9 @@ impl SubflowSend {
         self.finished
     }
 
-    /// Appends a piece with its mapping, to be sent, and answers its position. Without memory for it all is as it was.
-    pub fn push(&mut self, piece: &[u8], mapping: &Mapping) -> Result<Pos, AllocError>
+    /// Appends a piece with its mapping, to be sent, and answers its position. Its octets are shared where the text is
+    /// shared. Without memory for it all is as it was.
+    pub fn push(&mut self, piece: &Text, mapping: &Mapping) -> Result<Pos, AllocError>
         requires some { 0 < length piece.now }
         requires most { length piece.now ≤ 65475 }
         requires room { self.old.nxt < 2 ^ 61 }
@@ -115,7 +115,7 @@ impl SubflowSend {
         ensures err { OnErr result (self.new ≡ self.old) }
     {
         let pos = self.nxt;
-        let bytes = Octets::of(self.alloc, piece)?;
+        let bytes = Octets::of(piece)?;
         self.pieces.push(Piece {
             pos,
             bytes,
@@ -281,6 +281,14 @@ impl SubflowSend {
             return;
         }
         self.fin = again(self.fin, now);
+    }
+
+    /// The octets of the piece at this position, lent; `None` where no unacknowledged piece begins there.
+    pub fn text_at(&self, pos: Pos) -> Option<&Text>
+        ensures { option_map (λ text. text.now) result ≡
+            option_map octets_of (find (is_piece_at pos) self.now.records) }
+    {
+        self.pieces.text_at(pos)
     }
 
     /// The record at this position, lent; `None` where no unacknowledged record begins there.

@@ -10,6 +10,7 @@ use crate::dues::Due;
 use crate::handshake::State;
 use crate::spelling::Numbers;
 use loss_recovery::{Congestion, Pending, Timing};
+use octet_text::Text;
 use seq_units::{Mapping, Pos};
 use std::alloc::{AllocError, Global};
 use std::marker::Model;
@@ -219,8 +220,9 @@ impl Subflow {
         self.recv.forget_from(pos);
     }
 
-    /// Appends a piece with its mapping, to be sent, and answers its position. Without memory for it all is as it was.
-    pub fn push(&mut self, piece: &[u8], mapping: &Mapping) -> Result<Pos, AllocError>
+    /// Appends a piece with its mapping, to be sent, and answers its position. Its octets are shared where the text is
+    /// shared. Without memory for it all is as it was.
+    pub fn push(&mut self, piece: &Text, mapping: &Mapping) -> Result<Pos, AllocError>
         requires some { 0 < length piece.now }
         requires most { length piece.now ≤ 65475 }
         requires room { self.old.send.nxt < 2 ^ 61 }

@@ -2,9 +2,11 @@
 ghost use Rattle.std.specs.Prelude.{◌≡◌, ◌≤◌, find, slice_get, length, IfSome};
 ghost use Rattle.std.specs.Option.{option_map};
 ghost use Rattle.subflow_send.specs.Records.{record_of};
-ghost use Rattle.subflow_send.specs.Rules.{is_unsent};
+ghost use Rattle.subflow_send.specs.Rules.{is_unsent, is_piece_at, octets_of};
 
 use crate::end::Subflow;
+use octet_text::Text;
+use seq_units::Pos;
 use subflow_send::RecordRef;
 
 impl Subflow {
@@ -22,6 +24,14 @@ impl Subflow {
         ensures bound { IfSome result (λ lent. length lent.piece.now ≤ 65475) }
     {
         self.send.retransmit_first()
+    }
+
+    /// The octets of the piece at this position, lent; `None` where no piece begins there that isn't acknowledged whole.
+    pub fn text_at(&self, pos: Pos) -> Option<&Text>
+        ensures { option_map (λ text. text.now) result ≡
+            option_map octets_of (find (is_piece_at pos) self.now.send.records) }
+    {
+        self.send.text_at(pos)
     }
 
     /// Whether an acknowledgement is owed.

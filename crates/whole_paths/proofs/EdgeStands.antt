@@ -108,7 +108,7 @@ nothing_is_tried_past_the_edge start turns = books_by_turns values (λ six. (s :
 abbrev Tiled : Sending → Type 0
 Tiled b = (length b.marks ≡ length b.written) × AreAcked (acked_len b.marks) b.marks
 
-send_is_tiled : (start : Start) (turns : List Turn) → HasRoom start → (s : Side) → Tiled (send_of s (books_in (reached values start turns).books))
+pub send_is_tiled : (start : Start) (turns : List Turn) → HasRoom start → (s : Side) → Tiled (send_of s (books_in (reached values start turns).books))
 send_is_tiled start turns size =
     let shown = always_shown start turns size in
     let h = shown.1.0 in

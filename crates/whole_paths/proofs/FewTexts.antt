@@ -35,7 +35,8 @@ use Rattle.whole_paths.proofs.OpeningEnds.{LaterPath, later_path}
 use Rattle.whole_paths.proofs.OverOctets.{as_far}
 use Rattle.whole_paths.proofs.PatientPaths.{few_losses_finish_patiently_in_octets}
 use Rattle.whole_paths.proofs.QuietOpenings.{lost_early_fits}
-use Rattle.whole_paths.proofs.QuietTexts.{none_of_first, nothing_comes_early_by_text}
+use Rattle.whole_paths.specs.QuietTexts.{is_first}
+use Rattle.whole_paths.proofs.QuietTexts.{nothing_comes_early_by_text}
 
 -- a path lives
 lives : (crew : List (ActorCrew Carried)) (i : ℕ) (c : ActorCrew Carried) → slice_get crew i ≡ Some c → is_no_live_path c.member ≡ false → are_all_dead crew ≡ false
@@ -71,14 +72,14 @@ module _ (script : Script) (path : PathLine) (file_a file_b : List ℕ) (turns :
 
   -- no more count than come early by the text
   few_early : lost_early start turns ≤ early_by_text script path file_a
-  few_early = by (list_all (λ line. not (moves A line)) script.lines) refl h.early
+  few_early = by (list_all (λ line. not (moves A line && is_first 8 line)) script.lines) refl h.early
     where
       one_path : segments_on start.paths file_a ≡ segments path.mss (length file_a)
       one_path = ap (λ lines. segments_on (plans_from script 0 lines) file_a) h.mild.one
 
-      by : (b : Bool) → list_all (λ line. not (moves A line)) script.lines ≡ b → (b ≡ true) ⊎ FitsFirstWindow start A
+      by : (b : Bool) → list_all (λ line. not (moves A line && is_first 8 line)) script.lines ≡ b → (b ≡ true) ⊎ FitsFirstWindow start A
           → lost_early start turns ≤ (if b then 0 else segments path.mss (length file_a))
-      by true all early = let none = nothing_comes_early_by_text start plan turns one short (none_of_first script.lines all) brief.few living in omega (arith, none)
+      by true all early = let none = nothing_comes_early_by_text start plan turns one short all brief.few living in omega (arith, none)
       by false some (inl none) = cc (none)
       by false some (inr fits) = let few = lost_early_fits start turns fits in let same = one_path in omega (arith, few, same)
 

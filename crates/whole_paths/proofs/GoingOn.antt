@@ -149,11 +149,11 @@ module _ (start : Start) where
       let harms = harmed_append values 0 turns more (opened_world start) in
       omega (arith, up, harms)
 
-  sides_far : (turns more : List Turn) (s : Side) → IsSideAsFar s (books_in (at turns).books) (books_in (at (turns ++ more)).books)
+  pub sides_far : (turns more : List Turn) (s : Side) → IsSideAsFar s (books_in (at turns).books) (books_in (at (turns ++ more)).books)
   sides_far turns more s = subst (λ (w : WorldState Carried). IsSideAsFar s (books_in (at turns).books) (books_in w.books)) (sym (runs turns more)) ((goes_on_so values (at turns) more).sides s)
 
   -- with all of a stream that is there at last
-  there_counts : (turns more : List Turn) (s : Side) → (IsAllThere s (at turns) → ⊥) → IsAllThere s (at (turns ++ more)) → counted values start turns < counted values start (turns ++ more)
+  pub there_counts : (turns more : List Turn) (s : Side) → (IsAllThere s (at turns) → ⊥) → IsAllThere s (at (turns ++ more)) → counted values start turns < counted values start (turns ++ more)
   there_counts turns more s never later = by_closed (written_by s (at turns)).closed refl
     where
       own : IsSideAsFar s (books_in (at turns).books) (books_in (at (turns ++ more)).books)
@@ -231,7 +231,7 @@ path_at start plan one turns =
 
 -- ---- as a round ends
 
-same_books : (w : WorldState Carried) → (end_round w).books ≡ w.books
+pub same_books : (w : WorldState Carried) → (end_round w).books ≡ w.books
 same_books w = elim (all_over w.crew) as (λ b. (if b then record w { crew = map (begins (greatest 0 w.crew)) w.crew } else w).books ≡ w.books) [ true ↦ refl | false ↦ refl ]
 
 nil_so : (ds : List Duty) → is_nil ds ≡ true → ds ≡ []

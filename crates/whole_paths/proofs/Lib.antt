@@ -324,3 +324,7 @@ pub mod GrantReasons
 pub mod MissingBytes
 pub mod ReturnWaits
 pub mod CountedCourses
+pub mod Serving
+pub mod ManyWaits
+pub mod ManyGoingOn
+pub mod ManyCourses

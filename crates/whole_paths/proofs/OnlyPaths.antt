@@ -12,14 +12,15 @@ use Rattle.whole_paths.proofs.OverOctets.{ends_as_it_begins_in_octets}
 use Rattle.whole_paths.proofs.ShutWaits.{shut_windows_open_in_time}
 use Rattle.whole_paths.proofs.ThereInTime.{exchanges_bring_all, what_is_there_in_time_is_delivered, whole_paths_didnt_die}
 use Rattle.whole_paths.proofs.WholeCourses.{exchanges}
+use Rattle.whole_paths.specs.Halted.{IsHalted}
 
 -- of a start
 pub only_paths_end : EndsWithin (for_all_news news_within)
 only_paths_end = what_is_there_in_time_is_delivered (for_all_news news_within) (exchanges_bring_all news_within
-    (λ start most n x turns. IsAwaited start 60800 (λ n x turns. AwaitsAWindow start x turns) n x turns)
+    (λ start most n x turns. IsAwaited start 60800 (λ n x turns. AwaitsAWindow IsHalted start x turns) n x turns)
     (λ start plan most begins. (
     let least = begins.buffer in
-    exchanges start plan most 60800 (λ n x turns. AwaitsAWindow start x turns) begins.one begins.mild (omega (arith, least)) (omega arith)
+    exchanges start plan most 60800 (λ n x turns. AwaitsAWindow IsHalted start x turns) begins.one begins.mild (omega (arith, least)) (omega arith)
     (shut_windows_open_in_time start plan most begins.one begins.mild (omega (arith, least))))))
 
 pub paths_end : BriefPathsEnd values long_patience

@@ -292,7 +292,7 @@ module _ {C : Type 0} (First Bare : Flight C → Type 0) where
   arrivals_late (Fate.Late ticks) tick = (omega arith, tt)
   arrivals_late (Fate.Twice ticks) tick = (le_refl tick, (omega arith, tt))
 
-  -- it does so still as A sends one more, whatever becomes of that
+  -- still ahead as A sends one more, whatever becomes of that
   pub ahead_sent : (strip alter : Side → C → C) (carried : C) (size now : ℕ) (link : LinkState C) → FirstStay link.lines → AreInOrder link.under_way
       → StandsAhead (next_number A link) (now + link.delay) (going_to B link.under_way)
       → StandsAhead (next_number A link) (now + link.delay) (going_to B (after_send strip alter A carried size now link).under_way)

@@ -53,7 +53,7 @@ use Rattle.world_laws.proofs.Worlds.Turns.{turn_so}
 use Rattle.world_laws.proofs.Writes.Asks.{asks_no_more}
 use Rattle.whole_paths.specs.Mild.{IsNeverBroken, IsMildStart, is_harsh}
 use Rattle.whole_paths.specs.Came.{HasCome}
-use Rattle.whole_paths.specs.Received.{GrantedIsReceived, HoldsOfOnlyPaths, PassedIsPlaced, PassedIsReceived, WhatIsGrantedIsReceived, WhatIsPassedIsPlaced, WhatIsPassedIsReceived}
+use Rattle.whole_paths.specs.Received.{GrantedIsReceived, HoldsOfOnlyPaths, PassedIsPlaced, PassedIsReceived, WhatIsGrantedIsReceived, WhatIsPassedIsPlaced, WhatIsPassedIsReceived, GrantedIsPlaced, WhatIsGrantedIsPlaced}
 use Rattle.whole_paths.proofs.Acknowledged.{always_shown}
 use Rattle.whole_paths.proofs.Breaking.{never_breaks}
 use Rattle.whole_paths.proofs.Came.{what_is_acknowledged_came}
@@ -231,6 +231,31 @@ module _ (links : Links) (start : Start) (d : Duo) (w : WorldState Carried) (hel
     each = each_actor (λ actor c. OfPaths (PassedIsPlaced (world_of h.cast)) c.member) h.cast tt tt (λ number x there. path_placed number x.path (h.paths.each number number x (omega arith) there));
   })
 
+  left_placed : (p : PathState Carried) → PassedIsPlaced (world_of h.cast) p → EndsAreReached p → HasCome p
+      → ((s : Side) (i : ℕ) (piece : GrantedPiece) → slice_get (end_at s p).sending.granted i ≡ Some piece → piece.position + (piece.to - piece.from) ≤ (end_at s p).tcp.send.nxt)
+      → GrantedIsPlaced (world_of h.cast) p
+  left_placed p passed reached came sent s living none = record {
+    each = λ i piece there. passed s piece (record {
+      number = i;
+      there = there;
+      passed = (let within = sent s i piece there in let una = none_left (end_at s p).tcp (reached s) none in let low = came.una s living in omega (arith, within, una, low));
+    });
+  }
+
+  sent_so : (number : ℕ) (p : PathState Carried) → PathThere start h.lanes_ab h.lanes_ba number p
+      → (s : Side) (i : ℕ) (piece : GrantedPiece) → slice_get (end_at s p).sending.granted i ≡ Some piece → piece.position + (piece.to - piece.from) ≤ (end_at s p).tcp.send.nxt
+  sent_so number p path A i piece there = within_sent number _ path.ab (holds.ab.lanes.each number number path.ab (omega arith) path.ab_there) _ _ _ _ path.shows.a.sender.sent i piece there
+  sent_so number p path B i piece there = within_sent number _ path.ba (holds.ba.lanes.each number number path.ba (omega arith) path.ba_there) _ _ _ _ path.shows.b.sender.sent i piece there
+
+  pub shows_granted : ((actor : ℕ) (c : ActorCrew Carried) → slice_get w.crew actor ≡ Some c → OfPaths EndsAreReached c.member)
+      → ((actor : ℕ) (c : ActorCrew Carried) → slice_get w.crew actor ≡ Some c → OfPaths HasCome c.member) → WhatIsGrantedIsPlaced w
+  shows_granted reached came = subst WhatIsGrantedIsPlaced (sym h.is) (record {
+    each = each_actor (λ actor c. OfPaths (GrantedIsPlaced (world_of h.cast)) c.member) h.cast tt tt (λ number x there.
+        (let here = ap (λ (v : WorldState Carried). slice_get v.crew (suc (suc number))) h.is ∙ path_actor h.cast number x there in
+        let path = h.paths.each number number x (omega arith) there in
+        left_placed x.path (path_placed number x.path path) (reached (suc (suc number)) (walking x) here) (came (suc (suc number)) (walking x) here) (sent_so number x.path path)));
+  })
+
   module _ (none : (books_in w.books).control_b.fall.joined ≡ false) where
     alone : not (books_in h.cast.books).control_b.fall.joined ≡ true
     alone = ap not (subst (λ (v : WorldState Carried). (books_in v.books).control_b.fall.joined ≡ false) h.is none)
@@ -258,10 +283,7 @@ module _ (links : Links) (start : Start) (d : Duo) (w : WorldState Carried) (hel
     }
 
     path_left : (number : ℕ) (p : PathState Carried) → PathThere start h.lanes_ab h.lanes_ba number p → EndsAreReached p → HasCome p → GrantedIsReceived (world_of h.cast) p
-    path_left number p path reached came = left_received p (path_received number p path) reached came (elim [
-      | A ↦ λ i piece there. within_sent number _ path.ab (holds.ab.lanes.each number number path.ab (omega arith) path.ab_there) _ _ _ _ path.shows.a.sender.sent i piece there
-      | B ↦ λ i piece there. within_sent number _ path.ba (holds.ba.lanes.each number number path.ba (omega arith) path.ba_there) _ _ _ _ path.shows.b.sender.sent i piece there
-    ])
+    path_left number p path reached came = left_received p (path_received number p path) reached came (sent_so number p path)
 
     pub shows_left : ((actor : ℕ) (c : ActorCrew Carried) → slice_get w.crew actor ≡ Some c → OfPaths EndsAreReached c.member)
         → ((actor : ℕ) (c : ActorCrew Carried) → slice_get w.crew actor ≡ Some c → OfPaths HasCome c.member) → WhatIsGrantedIsReceived w
@@ -274,6 +296,12 @@ module _ (links : Links) (start : Start) (d : Duo) (w : WorldState Carried) (hel
 pub what_is_passed_is_placed : HoldsAnyway WhatIsPassedIsPlaced
 what_is_passed_is_placed start turns size =
     let shown = always_shown start turns size in shows_placed (anyhow start size).links start shown.0 (world_run values turns (opened_world start)) shown.1.1 shown.1.0
+
+-- over any number of paths
+pub what_is_granted_is_placed : HoldsAnyway WhatIsGrantedIsPlaced
+what_is_granted_is_placed start turns size =
+    let shown = always_shown start turns size in
+    shows_granted (anyhow start size).links start shown.0 (world_run values turns (opened_world start)) shown.1.1 shown.1.0 (each_is_reached values start turns).each (what_is_acknowledged_came start turns).each
 
 pub only_paths_receive : HoldsOfOnlyPaths values WhatIsPassedIsReceived
 only_paths_receive start turns plan one mild =

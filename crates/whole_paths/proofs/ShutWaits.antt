@@ -29,7 +29,7 @@ use Rattle.whole_paths.proofs.Standing.{MemberServes, Serves, opened_serves, run
 use Rattle.whole_paths.proofs.WindowWaits.{windows_are_awaited_always}
 
 module _ (start : Start) (plan : PathPlan) (most : ℕ) (one : start.paths ≡ plan ∷ []) (mild : IsMildStart start) (size : 32 ≤ start.buffer) where
-  windows : WindowsAreAwaited start most
+  windows : WindowsAreAwaited IsHalted start (λ turns. Unit {0}) most
   windows = windows_are_awaited_always start plan most one mild
 
   module _ (since : List Turn) (order : List ℕ) (u : List Turn) (begin : BeginsRound values start (reached values start since)) (step : Opens start most (since ++ steps_of order) u)
@@ -62,10 +62,10 @@ module _ (start : Start) (plan : PathPlan) (most : ℕ) (one : start.paths ≡ p
     halted : HasRoomForMore out → IsHalted (books_in w.books) s p
     halted room = record { shut = h.shut; left = room.left; untried = untried }
 
-    waits : (counted values start since < counted values start u) ⊎ AwaitsAWindow start (round_end values start v + 60800) u
+    waits : (counted values start since < counted values start u) ⊎ AwaitsAWindow IsHalted start (round_end values start v + 60800) u
     waits = ⊎_elim
         (λ rises. inl (let same = ap (counted values start) step.is in let still = no_round_counts start v step.over in omega (arith, rises, same, still)))
-        (λ room. inr (windows.begins v u step (record {
+        (λ room. inr (windows.begins v u step tt (record {
           path = p;
           here = h.sender.here;
           side = s;
@@ -78,9 +78,9 @@ module _ (start : Start) (plan : PathPlan) (most : ℕ) (one : start.paths ≡ p
 
 pub shut_windows_open_in_time : ShutWindowsOpenInTime
 shut_windows_open_in_time start plan most one mild size = record {
-  begins = λ since order v u is begin. subst (λ v. Opens start most v u → HasAShutEnd start v → (counted values start since < counted values start u) ⊎ AwaitsAWindow start (round_end values start v + 60800) u)
+  begins = λ since order v u is begin. subst (λ v. Opens start most v u → HasAShutEnd start v → (counted values start since < counted values start u) ⊎ AwaitsAWindow IsHalted start (round_end values start v + 60800) u)
       (sym is) (λ step h. waits start plan most one mild size since order u begin step h);
-  on = λ n x v u step low h. ⊎_elim (λ rises. inl (omega (arith, low, rises))) (λ still. inr still) ((windows start plan most one mild size).on x v u step h);
-  next = λ n x v u step low h. ⊎_elim (λ rises. inl (omega (arith, low, rises))) (λ still. inr still) ((windows start plan most one mild size).next x v u step h);
+  on = λ n x v u step low h. ⊎_elim (λ rises. inl (omega (arith, low, rises))) (λ still. inr still) ((windows start plan most one mild size).on x v u step tt h);
+  next = λ n x v u step low h. ⊎_elim (λ rises. inl (omega (arith, low, rises))) (λ still. inr still) ((windows start plan most one mild size).next x v u step tt h);
   due = λ n x v u step low h late. absurd ((windows start plan most one mild size).due x v u step h late);
 }

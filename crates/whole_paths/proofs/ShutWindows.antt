@@ -42,7 +42,7 @@ use Rattle.whole_paths.proofs.Standing.{never_on_standby}
 use Rattle.whole_paths.proofs.Unstopped.{mild_paths_are_never_stopped}
 
 -- an actor whose turn is over doesn't go
-not_going : (actor : ℕ) (w : WorldState Carried) → all_over w.crew ≡ true → is_going actor w ≡ false
+pub not_going : (actor : ℕ) (w : WorldState Carried) → all_over w.crew ≡ true → is_going actor w ≡ false
 not_going actor w over = by (slice_get w.crew actor) refl
   where
     by : (o : Option (ActorCrew Carried)) → slice_get w.crew actor ≡ o → goes o ≡ false

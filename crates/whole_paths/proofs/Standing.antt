@@ -170,7 +170,7 @@ app_first : (d : AppDuty) (a : AppState) → IsOfFirst (app_ask d a)
 app_first apps.FastClose a = tt
 app_first _ a = tt
 
-app_serves : (d : AppDuty) (a : AppState) → is_standby (app_ask d a) ≡ false
+pub app_serves : (d : AppDuty) (a : AppState) → is_standby (app_ask d a) ≡ false
 app_serves apps.Write a = refl
 app_serves _ a = refl
 
@@ -207,7 +207,7 @@ module _ {C : Type 0} (k : Codec C) where
   MemberServes (App a) = Unit {0}
   MemberServes (Path p) = Serves p
 
-  abbrev noted_on_standby : Note → Bool
+  abbrev pub noted_on_standby : Note → Bool
   noted_on_standby n = is_standby n.ask
 
   pub record ServesAlone (w : WorldState C) : Type 0 where
@@ -239,7 +239,7 @@ module _ {C : Type 0} (k : Codec C) where
     none = elim [ A ↦ (next_kept p).a ∙ h.none A | B ↦ (next_kept p).b ∙ h.none B ];
   }
 
-  more_none : (xs : List Note) (y : Note) → list_any noted_on_standby xs ≡ false → noted_on_standby y ≡ false → list_any noted_on_standby (xs ++ y ∷ []) ≡ false
+  pub more_none : (xs : List Note) (y : Note) → list_any noted_on_standby xs ≡ false → noted_on_standby y ≡ false → list_any noted_on_standby (xs ++ y ∷ []) ≡ false
   more_none [] y none last = or_from (noted_on_standby y) false last refl
   more_none (x ∷ xs) y none last = let parts = or_parts (noted_on_standby x) (list_any noted_on_standby xs) none in or_from (noted_on_standby x) (list_any noted_on_standby (xs ++ y ∷ [])) parts.0 (more_none xs y parts.1 last)
 
@@ -283,12 +283,12 @@ module _ {C : Type 0} (k : Codec C) where
 
   -- ---- the steps of a round
 
-  drop_none : (n : ℕ) (xs : List Note) → list_any noted_on_standby xs ≡ false → list_any noted_on_standby (drop n xs) ≡ false
+  pub drop_none : (n : ℕ) (xs : List Note) → list_any noted_on_standby xs ≡ false → list_any noted_on_standby (drop n xs) ≡ false
   drop_none zero xs none = none
   drop_none (suc n) [] none = refl
   drop_none (suc n) (x ∷ xs) none = drop_none n xs (or_parts (noted_on_standby x) (list_any noted_on_standby xs) none).1
 
-  last_none : (s : Side) (xs : List Note) → list_any noted_on_standby xs ≡ false → last_on_standby s false xs ≡ false
+  pub last_none : (s : Side) (xs : List Note) → list_any noted_on_standby xs ≡ false → last_on_standby s false xs ≡ false
   last_none s [] none = refl
   last_none s (x ∷ xs) none =
       let parts = or_parts (noted_on_standby x) (list_any noted_on_standby xs) none in

@@ -7,7 +7,7 @@ use Rattle.sides.specs.Side.{peer}
 use Rattle.subflow_send.specs.Records.{Record}
 use Rattle.subflow_tcp.specs.States.{is_closed_to_segments, is_dead}
 use Rattle.actor_desk.specs.Books.{books_in}
-use Rattle.actor_desk.specs.Desk.{send_of}
+use Rattle.actor_desk.specs.Desk.{send_of, SixBooks}
 use Rattle.actor_desk.specs.declared.ask.Note.{Note}
 use Rattle.path_core.specs.State.{PathState, end_at}
 use Rattle.path_core.specs.Values.{Carried, values}
@@ -38,7 +38,7 @@ use Rattle.whole_paths.specs.Reasons.{IsOutstanding as outstanding}
 use Rattle.whole_paths.specs.RecordWaits.{Opens, Steps}
 use Rattle.whole_paths.specs.Timers.{TimersAreNear}
 use Rattle.whole_paths.specs.WindowsHeard.{IsOpenTo}
-use Rattle.whole_paths.specs.WindowWaits.{AwaitsAWindow, HasAShutWindow, IsWindowAwaited, WindowsAreAwaitedAlways}
+use Rattle.whole_paths.specs.WindowWaits.{AwaitsAWindow, HasAShutWindow, IsWindowAwaited, WindowsAreAwaitedAlways, ShutEndsAreAwaited, WindowsAreAwaited, DoesNotStandBy}
 use Rattle.whole_paths.proofs.Awaited.{each_window_comes}
 use Rattle.whole_paths.proofs.Counted.{by_news, what_holds_up_counts}
 use Rattle.whole_paths.proofs.Exchanges.{OfPaths, Shown, each_shown, lets_through}
@@ -52,8 +52,23 @@ use Rattle.whole_paths.proofs.Reached.{EndsAreReached, each_is_reached}
 use Rattle.whole_paths.proofs.RecordWaits.{counts_so, edge_up, here, living_open, path_is, una_up, with_both}
 use Rattle.whole_paths.proofs.RoundBegins.{no_round_counts}
 use Rattle.whole_paths.proofs.Timing.{timers_run_out}
+use Rattle.whole_paths.specs.EdgeStands.{IsShutOutAt, StaysShutOut}
+use Rattle.whole_paths.proofs.EdgeStands.{shut_ends_stay_shut}
 
-module _ (start : Start) (plan : PathPlan) (one : start.paths ≡ plan ∷ []) (mild : IsMildStart start) (turns : List Turn) (turn : Turn) where
+abbrev Halt : Type 1
+Halt = SixBooks → Side → PathState Carried → Type 0
+
+-- the end of a side that halts knows that the window is shut
+abbrev IsOfShutEnds : Halt → Type 0
+IsOfShutEnds Halts = (six : SixBooks) (s : Side) (p : PathState Carried) → Halts six s p → (end_at s p).sending.shut ≡ true
+
+-- by a turn between open ends a side that halts does so, or something is counted
+abbrev GoesOnHalting : (start : Start) → Halt → (List Turn → Type 0) → Type 0
+GoesOnHalting start Halts Goes = (turns : List Turn) (turn : Turn) → let w = reached values start turns in let v = after_turn values turn w in
+    (before : IsOpenNow w) (after : IsOpenNow v) → Goes turns → (s : Side) → Halts (books_in w.books) s before.path
+    → (counted values start turns < counted values start (turns ++ turn ∷ [])) ⊎ Halts (books_in v.books) s after.path
+
+module _ (start : Start) (Halts : Halt) (Goes : List Turn → Type 0) (of_shut : IsOfShutEnds Halts) (halts_on : GoesOnHalting start Halts Goes) (mild : IsMildStart start) (turns : List Turn) (turn : Turn) where
   abbrev w : WorldState Carried
   w = reached values start turns
 
@@ -87,12 +102,12 @@ module _ (start : Start) (plan : PathPlan) (one : start.paths ≡ plan ∷ []) (
         (at_p EndsAreReached (each_is_reached values start turns).each s) (at_q EndsAreReached (each_is_reached values start (turns ++ turn ∷ [])).each s)
         (at_q Shown (each_shown start (turns ++ turn ∷ []) mild.plain.size mild.fit)) (una_up start mild turns turn before after s) none r first))
 
-    module _ (x : ℕ) (h : IsWindowAwaited (books_in w.books) x p) where
+    module _ (x : ℕ) (h : IsWindowAwaited Halts (books_in w.books) x p) where
       abbrev s : Side
       s = h.side
 
       abbrev Next : Type 0
-      Next = Rises ⊎ IsWindowAwaited (books_in v.books) x q
+      Next = Rises ⊎ IsWindowAwaited Halts (books_in v.books) x q
 
       -- the peer sends no more, or that counts
       if_room : ((end_at (peer s) q).tcp.send.nxt ≤ (end_at s q).tcp.recv.edge + 1048576 → Next) → Next
@@ -103,48 +118,42 @@ module _ (start : Start) (plan : PathPlan) (one : start.paths ≡ plan ∷ []) (
       strays : IsHardlyAwry s p q → Next
       strays (hardly.past_window past) = absurd (let room = h.room in omega (arith, past, room))
 
-      by_turn : IsHalted (books_in v.books) s q → (steps : List Note) → HardlyGoesAwry steps (Path p) (Path q)
+      by_turn : Halts (books_in v.books) s q → (steps : List Note) → HardlyGoesAwry steps (Path p) (Path q)
           → AskTurns (IsAwaited (books_in v.books) s h.place x q ⊎ ((send_of s (books_in w.books)).edge < (send_of s (books_in v.books)).edge)) s x steps p q → Next
       by_turn halted steps awry (goes.on (inl awaited)) = if_room (λ room. inr (record { side = s; place = h.place; room = room; halted = halted; awaited = awaited }))
       by_turn halted steps awry (goes.on (inr rose)) = inl (by_news start turns turn (each_gain_counts values start turns (turn ∷ []) s (gains.opens rose)))
       by_turn halted steps awry (goes.record_waits r arrival low none first way) = inl (sends_counts s r none first)
-      by_turn halted steps awry (goes.done none) = absurd (none (outstanding.shut halted.shut))
+      by_turn halted steps awry (goes.done none) = absurd (none (outstanding.shut (of_shut (books_in v.books) s q halted)))
       by_turn halted steps awry (goes.held_up held) = inl (here start mild turns turn before after (λ m n. HoldUpsCount Rises m n)
           (what_holds_up_counts start turns turn before.here.crew after.here.crew before.here.there after.here.there) before.is_open.living after.is_open.living before.few s held)
       by_turn halted steps awry (goes.awry is) = strays (awry before.is_open after.is_open s is)
 
       -- the side halts still, or that counts
-      by_halt : (IsHalted (books_in v.books) s q → Next) → Next
-      by_halt still = by ((with_both start mild turns turn before after (λ m n. HaltsGoOn (books_in w.books) (books_in v.books) m n)
-          (who_halts_goes_on_halting start plan turns turn one mild before.here.crew before.here.there)) s h.halted)
-        where
-          by : HaltGoesOn (books_in v.books) s p q → Next
-          by (halts.on halted) = still halted
-          by (halts.sends more) = inl (counts_so start mild turns turn before after (counts.sent_more s more))
-          by (halts.news is) = inl (counts_so start mild turns turn before after (counts.at_end s is))
+      by_halt : Goes turns → (Halts (books_in v.books) s q → Next) → Next
+      by_halt goes_so still = ⊎_elim (λ rises. inl rises) still (halts_on turns turn before after goes_so s h.halted)
 
-      goes_on : Next
-      goes_on =
+      goes_on : Goes turns → Next
+      goes_on goes_so =
           let found = each_window_comes.goes_on start turns mild.plain.size mild.fit turn 2 before.here.crew before.here.there in
           let both = with_both start mild turns turn before after (λ m n. (steps : List Note) × PathsBetween AwaitedGoesOn w.books v.books steps m n × HardlyGoesAwry steps m n)
           (found.0, found.1, (found.0.list, found.2, open_ends_hardly_go_awry start turns turn mild 2 before.here.crew found.0 before.here.there found.1)) in
-          by_halt (λ halted. by_turn halted both.0 both.2 (both.1 (lets_through before.path before.faithful) s h.place x before.few h.awaited))
+          by_halt goes_so (λ halted. by_turn halted both.0 both.2 (both.1 (lets_through before.path before.faithful) s h.place x before.few h.awaited))
 
 -- ---- waits
 
-module _ (start : Start) (plan : PathPlan) (most : ℕ) (one : start.paths ≡ plan ∷ []) (mild : IsMildStart start) where
+module _ (start : Start) (Halts : Halt) (Goes : List Turn → Type 0) (of_shut : IsOfShutEnds Halts) (halts_on : GoesOnHalting start Halts Goes) (most : ℕ) (mild : IsMildStart start) where
   -- at the same path
-  awaited_at : (x : ℕ) (u : WorldState Carried) (a b : PathState Carried) → IsPathAt 0 u a → IsPathAt 0 u b → IsWindowAwaited (books_in u.books) x a → IsWindowAwaited (books_in u.books) x b
-  awaited_at x u a b at there h = subst (IsWindowAwaited (books_in u.books) x) (path_is u a b at there) h
+  awaited_at : (x : ℕ) (u : WorldState Carried) (a b : PathState Carried) → IsPathAt 0 u a → IsPathAt 0 u b → IsWindowAwaited Halts (books_in u.books) x a → IsWindowAwaited Halts (books_in u.books) x b
+  awaited_at x u a b at there h = subst (IsWindowAwaited Halts (books_in u.books) x) (path_is u a b at there) h
 
-  abbrev Goes : ℕ → List Turn → List Turn → Type 0
-  Goes x v u = (counted values start v < counted values start u) ⊎ AwaitsAWindow start x u
+  abbrev Later : ℕ → List Turn → List Turn → Type 0
+  Later x v u = (counted values start v < counted values start u) ⊎ AwaitsAWindow Halts start x u
 
-  turn_on : (x : ℕ) (v : List Turn) (turn : Turn) → IsOpenAfter start v → IsOpenAfter start (v ++ turn ∷ []) → AwaitsAWindow start x v → Goes x v (v ++ turn ∷ [])
-  turn_on x v turn before after h = ⊎_elim
+  turn_on : (x : ℕ) (v : List Turn) (turn : Turn) → IsOpenAfter start v → IsOpenAfter start (v ++ turn ∷ []) → Goes v → AwaitsAWindow Halts start x v → Later x v (v ++ turn ∷ [])
+  turn_on x v turn before after goes_so h = ⊎_elim
       (λ rises. inl rises)
-      (λ waits. inr (record { path = then_open.path; here = there; waits = subst (λ (y : WorldState Carried). IsWindowAwaited (books_in y.books) x then_open.path) (sym is) waits }))
-      (goes_on start plan one mild v turn before then_open x now)
+      (λ waits. inr (record { path = then_open.path; here = there; waits = subst (λ (y : WorldState Carried). IsWindowAwaited Halts (books_in y.books) x then_open.path) (sym is) waits }))
+      (goes_on start Halts Goes of_shut halts_on mild v turn before then_open x now goes_so)
     where
       is : reached values start (v ++ turn ∷ []) ≡ after_turn values turn (reached values start v)
       is = run_append values v (turn ∷ []) (opened_world start)
@@ -155,14 +164,14 @@ module _ (start : Start) (plan : PathPlan) (most : ℕ) (one : start.paths ≡ p
       there : IsPathAt 0 (reached values start (v ++ turn ∷ [])) then_open.path
       there = subst (λ (y : WorldState Carried). IsPathAt 0 y then_open.path) (sym is) then_open.here
 
-      now : IsWindowAwaited (books_in (reached values start v).books) x before.path
+      now : IsWindowAwaited Halts (books_in (reached values start v).books) x before.path
       now = awaited_at x (reached values start v) h.path before.path h.here before.here h.waits
 
-  steps_on : (x : ℕ) (v u : List Turn) → Steps start most v u → AwaitsAWindow start x v → Goes x v u
-  steps_on x v u step h = subst (λ t. Goes x v t) (sym step.is) (turn_on x v (Turn.Step step.actor) step.before (subst (IsOpenAfter start) step.is step.after) h)
+  steps_on : (x : ℕ) (v u : List Turn) → Steps start most v u → Goes v → AwaitsAWindow Halts start x v → Later x v u
+  steps_on x v u step goes_so h = subst (λ t. Later x v t) (sym step.is) (turn_on x v (Turn.Step step.actor) step.before (subst (IsOpenAfter start) step.is step.after) goes_so h)
 
-  opens_on : (x : ℕ) (v u : List Turn) → Opens start most v u → AwaitsAWindow start x v → Goes x v u
-  opens_on x v u step h = subst (λ t. Goes x v t) (sym step.is) (turn_on x v Turn.Round step.before (subst (IsOpenAfter start) step.is step.after) h)
+  opens_on : (x : ℕ) (v u : List Turn) → Opens start most v u → Goes v → AwaitsAWindow Halts start x v → Later x v u
+  opens_on x v u step goes_so h = subst (λ t. Later x v t) (sym step.is) (turn_on x v Turn.Round step.before (subst (IsOpenAfter start) step.is step.after) goes_so h)
 
   -- ---- as a round begins
 
@@ -188,17 +197,17 @@ module _ (start : Start) (plan : PathPlan) (most : ℕ) (one : start.paths ≡ p
       unclosed = subst (λ (x : PathState Carried). (s : Side) → is_closed_to_segments (end_at s x).tcp.state ≡ false) same
           (λ s. living_open (end_at s step.before.path).tcp.state (step.before.is_open.past s) (step.before.is_open.living s))
 
-    none_late : (x : ℕ) → AwaitsAWindow start x v → x < round_end values start v → ⊥
+    none_late : (x : ℕ) → AwaitsAWindow Halts start x v → x < round_end values start v → ⊥
     none_late x h late =
         let due : AwaitingIsDue (books_in ended.books) h.path = subst (OfPaths (AwaitingIsDue (books_in ended.books))) h.here.is ((each_window_comes.in_time start v).due 2 h.here.crew h.here.there) in
         let ends = until h.path h.here in
         due (silent h.path h.here) h.waits.side (living h.path h.here (peer h.waits.side)) h.waits.place x (omega (arith, late, ends)) h.waits.awaited
 
-    wait_begins : HasAShutWindow start v → AwaitsAWindow start (round_end values start v + 60800) u
-    wait_begins h = ⊎_elim
+    wait_begins : Goes v → HasAShutWindow Halts start v → AwaitsAWindow Halts start (round_end values start v + 60800) u
+    wait_begins goes_so h = ⊎_elim
         (λ rises. absurd (let still = ap (counted values start) step.is ∙ no_round_counts start v step.over in omega (arith, rises, still)))
         (λ waits. waits)
-        (opens_on (round_end values start v + 60800) v u step (record { path = h.path; here = h.here; waits = record { side = h.side; place = place; room = h.room; halted = h.halted; awaited = awaited } }))
+        (opens_on (round_end values start v + 60800) v u step goes_so (record { path = h.path; here = h.here; waits = record { side = h.side; place = place; room = h.room; halted = h.halted; awaited = awaited } }))
       where
         place : ℕ
         place = (send_of h.side (books_in ended.books)).edge + 1
@@ -213,7 +222,7 @@ module _ (start : Start) (plan : PathPlan) (most : ℕ) (one : start.paths ≡ p
         begun = subst (OfPaths (AwaitingBegins (books_in ended.books))) h.here.is ((each_window_comes.in_time start v).begin 2 h.here.crew h.here.there)
 
         at_first : IsAwaited (books_in ended.books) h.side place first h.path
-        at_first = begun (silent h.path h.here) h.side (unclosed h.path h.here h.side) h.no_record (outstanding.shut h.halted.shut) place (omega arith) (let takes = h.takes in omega (arith, takes))
+        at_first = begun (silent h.path h.here) h.side (unclosed h.path h.here h.side) h.no_record (outstanding.shut (of_shut (books_in ended.books) h.side h.path h.halted)) place (omega arith) (let takes = h.takes in omega (arith, takes))
 
         awaited : IsAwaited (books_in ended.books) h.side place (round_end values start v + 60800) h.path
         awaited = record {
@@ -223,10 +232,50 @@ module _ (start : Start) (plan : PathPlan) (most : ℕ) (one : start.paths ≡ p
           offered = at_first.offered;
         }
 
+  pub windows_are_awaited : WindowsAreAwaited Halts start Goes most
+  windows_are_awaited = record {
+    begins = λ v u step goes_so h. wait_begins v u step goes_so h;
+    on = λ x v u step goes_so h. steps_on x v u step goes_so h;
+    next = λ x v u step goes_so h. opens_on x v u step goes_so h;
+    due = λ x v u step h late. none_late v u step x h late;
+  }
+
+-- ---- over one path
+
+module _ (start : Start) (plan : PathPlan) (one : start.paths ≡ plan ∷ []) (mild : IsMildStart start) where
+  halts_still : GoesOnHalting start IsHalted (λ turns. Unit {0})
+  halts_still turns turn before after nothing s h = by ((with_both start mild turns turn before after (λ m n. HaltsGoOn (books_in w.books) (books_in v.books) m n)
+      (who_halts_goes_on_halting start plan turns turn one mild before.here.crew before.here.there)) s h)
+    where
+      w : WorldState Carried
+      w = reached values start turns
+
+      v : WorldState Carried
+      v = after_turn values turn w
+
+      by : HaltGoesOn (books_in v.books) s before.path after.path → (counted values start turns < counted values start (turns ++ turn ∷ [])) ⊎ IsHalted (books_in v.books) s after.path
+      by (halts.on halted) = inr halted
+      by (halts.sends more) = inl (counts_so start mild turns turn before after (counts.sent_more s more))
+      by (halts.news is) = inl (counts_so start mild turns turn before after (counts.at_end s is))
+
 pub windows_are_awaited_always : WindowsAreAwaitedAlways
-windows_are_awaited_always start plan most one mild = record {
-  begins = λ v u step h. wait_begins start plan most one mild v u step h;
-  on = λ x v u step h. steps_on start plan most one mild x v u step h;
-  next = λ x v u step h. opens_on start plan most one mild x v u step h;
-  due = λ x v u step h late. none_late start plan most one mild v u step x h late;
-}
+windows_are_awaited_always start plan most one mild = windows_are_awaited start IsHalted (λ turns. Unit {0}) (λ six s p h. h.shut) (halts_still start plan one mild) most mild
+
+-- ---- over any number of paths
+
+module _ (start : Start) (mild : IsMildStart start) where
+  stays_shut_out : GoesOnHalting start IsShutOutAt (DoesNotStandBy start)
+  stays_shut_out turns turn before after serves s h = ⊎_elim
+      (λ out. inr out)
+      (λ rose. inl (by_news start turns turn (each_gain_counts values start turns (turn ∷ []) s (gains.opens rose))))
+      ((with_both start mild turns turn before after (λ m n. StaysShutOut (books_in w.books) (books_in v.books) m n)
+      (shut_ends_stay_shut start turns turn mild 2 before.here.crew before.here.there)) (serves before.path before.here) s h)
+    where
+      w : WorldState Carried
+      w = reached values start turns
+
+      v : WorldState Carried
+      v = after_turn values turn w
+
+pub shut_ends_are_awaited : ShutEndsAreAwaited
+shut_ends_are_awaited start most mild = windows_are_awaited start IsShutOutAt (DoesNotStandBy start) (λ six s p h. h.shut) (stays_shut_out start mild) most mild

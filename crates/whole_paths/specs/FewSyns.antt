@@ -1,5 +1,5 @@
--- How many segments A's end sends while it opens: its SYN, and that again for each expiry, of which the sixth in a row would end it (RFC 9293, section
--- 3.8.3; RFC 6298, section 5).
+-- How many segments A's end sends while it opens: its SYN, and that again for each expiry, of which the sixth in a row would end it (RFC 9293,
+-- section 3.8.3; RFC 6298, section 5).
 use Rattle.std.specs.Prelude.{◌≤◌, List}
 use Rattle.sides.specs.declared.side.Side.TheVariants.{A}
 use Rattle.link_model.specs.Steps.{segments_sent}

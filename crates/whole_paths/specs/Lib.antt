@@ -195,3 +195,7 @@ pub mod FirstMissing
 pub mod MissingBytes
 pub mod ReturnWaits
 pub mod CountedCourses
+pub mod Serving
+pub mod ManyWaits
+pub mod ManyGoingOn
+pub mod ManyCourses

@@ -51,6 +51,15 @@ module _ {C : Type 0} where
   pub record WhatIsGrantedIsReceived (w : WorldState C) : Type 0 where
     pub each : (actor : ℕ) (c : ActorCrew C) → slice_get w.crew actor ≡ Some c → HoldsOfKind (λ app. Unit {0}) (GrantedIsReceived w) c.member
 
+  -- an end that lives and has no record left waits for no Data ACK but of what stands there
+  abbrev pub GrantedIsPlaced : WorldState C → PathState C → Type 0
+  GrantedIsPlaced w p = (s : Side) → is_dead (end_at s p).tcp.state ≡ false → (end_at s p).tcp.send.records ≡ []
+      → Every (λ piece. IsPlacedWhole (arrived_at (peer s) w) piece) (end_at s p).sending.granted
+
+  -- on each path
+  pub record WhatIsGrantedIsPlaced (w : WorldState C) : Type 0 where
+    pub each : (actor : ℕ) (c : ActorCrew C) → slice_get w.crew actor ≡ Some c → HoldsOfKind (λ app. Unit {0}) (GrantedIsPlaced w) c.member
+
   -- in a mild connection of one path, always
   abbrev pub HoldsOfOnlyPaths : Codec C → (WorldState C → Type 0) → Type 0
   HoldsOfOnlyPaths k P = (start : Start) (turns : List Turn) (plan : PathPlan) → start.paths ≡ plan ∷ [] → IsMildStart start

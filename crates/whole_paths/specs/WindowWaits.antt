@@ -1,5 +1,5 @@
 -- A wait for a window: until its exchange is over by this tick (RFC 9293, section 3.8.6.1).
-use Rattle.std.specs.Prelude.{ℕ, ◌+◌, ◌≡◌, ◌<◌, ◌≤◌, ◌⊎◌, List, [], ◌∷◌}
+use Rattle.std.specs.Prelude.{ℕ, ◌+◌, ◌≡◌, ◌<◌, ◌≤◌, ◌⊎◌, false, List, [], ◌∷◌}
 use Rattle.sides.specs.declared.side.Side.{Side}
 use Rattle.sides.specs.Side.{peer}
 use Rattle.reassembly_book.specs.Steps as arriving
@@ -13,47 +13,65 @@ use Rattle.world_laws.specs.RoundDone.{reached}
 use Rattle.world_laws.specs.Worlds.{Turn}
 use Rattle.whole_paths.specs.Awaited.{IsAwaited}
 use Rattle.whole_paths.specs.Courses.{counted, round_end}
+use Rattle.whole_paths.specs.EdgeStands.{IsShutOutAt}
 use Rattle.whole_paths.specs.Finish.{IsPathAt}
 use Rattle.whole_paths.specs.Halted.{IsHalted}
 use Rattle.whole_paths.specs.Mild.{IsMildStart}
 use Rattle.whole_paths.specs.RecordWaits.{Opens, Steps}
 
--- On a path, a side that halts, a place that it may not send up to yet, and whose window its end waits for; and the peer sent no more than the end's
--- own window has room for.
-pub record IsWindowAwaited (six : SixBooks) (x : ℕ) (p : PathState Carried) : Type 0 where
-  pub side : Side
-  pub place : ℕ
-  pub room : (end_at (peer side) p).tcp.send.nxt ≤ (end_at side p).tcp.recv.edge + 1048576
-  pub halted : IsHalted six side p
-  pub awaited : IsAwaited six side place x p
+-- What is known of a side that halts, by the books and at its end of a path.
+module _ (Halts : SixBooks → Side → PathState Carried → Type 0) where
+  -- On a path, a side that halts, a place that it may not send up to yet, and whose window its end waits for; and the peer sent no more than the end's
+  -- own window has room for.
+  pub record IsWindowAwaited (six : SixBooks) (x : ℕ) (p : PathState Carried) : Type 0 where
+    pub side : Side
+    pub place : ℕ
+    pub room : (end_at (peer side) p).tcp.send.nxt ≤ (end_at side p).tcp.recv.edge + 1048576
+    pub halted : Halts six side p
+    pub awaited : IsAwaited six side place x p
 
--- after these turns, on path 0
-pub record AwaitsAWindow (start : Start) (x : ℕ) (turns : List Turn) : Type 0 where
-  pub path : PathState Carried
-  pub here : IsPathAt 0 (reached values start turns) path
-  pub waits : IsWindowAwaited (books_in (reached values start turns).books) x path
+  -- after these turns, on path 0
+  pub record AwaitsAWindow (start : Start) (x : ℕ) (turns : List Turn) : Type 0 where
+    pub path : PathState Carried
+    pub here : IsPathAt 0 (reached values start turns) path
+    pub waits : IsWindowAwaited (books_in (reached values start turns).books) x path
 
--- A side halts whose end of path 0 has no record; the peer's book takes 32 bytes past the edge of its side's. A segment goes for so long at most,
--- there and back.
-pub record HasAShutWindow (start : Start) (turns : List Turn) : Type 0 where
-  pub path : PathState Carried
-  pub here : IsPathAt 0 (reached values start turns) path
-  pub side : Side
-  pub no_record : (end_at side path).tcp.send.records ≡ []
-  pub halted : IsHalted (books_in (reached values start turns).books) side path
-  pub takes : (written_by side (reached values start turns)).edge + 32 ≤ arriving.edge (arrived_at (peer side) (reached values start turns))
-  pub room : (end_at (peer side) path).tcp.send.nxt ≤ (end_at side path).tcp.recv.edge + 1048576
+  -- A side halts whose end of path 0 has no record; the peer's book takes 32 bytes past the edge of its side's. A segment goes for so long at most,
+  -- there and back.
+  pub record HasAShutWindow (start : Start) (turns : List Turn) : Type 0 where
+    pub path : PathState Carried
+    pub here : IsPathAt 0 (reached values start turns) path
+    pub side : Side
+    pub no_record : (end_at side path).tcp.send.records ≡ []
+    pub halted : Halts (books_in (reached values start turns).books) side path
+    pub takes : (written_by side (reached values start turns)).edge + 32 ≤ arriving.edge (arrived_at (peer side) (reached values start turns))
+    pub room : (end_at (peer side) path).tcp.send.nxt ≤ (end_at side path).tcp.recv.edge + 1048576
 
-module _ (start : Start) (most : ℕ) where
-  -- As a round begins a wait begins, for a minute and 400 ticks there and back; it goes on by each step, and as the next
-  -- round begins, or something is counted; and no round begins past it.
-  pub record WindowsAreAwaited : Type 0 where
-    pub begins : (v u : List Turn) → Opens start most v u → HasAShutWindow start v → AwaitsAWindow start (round_end values start v + 60800) u
-    pub on : (x : ℕ) (v u : List Turn) → Steps start most v u → AwaitsAWindow start x v → (counted values start v < counted values start u) ⊎ AwaitsAWindow start x u
-    pub next : (x : ℕ) (v u : List Turn) → Opens start most v u → AwaitsAWindow start x v → (counted values start v < counted values start u)
-        ⊎ AwaitsAWindow start x u
-    pub due : (x : ℕ) (v u : List Turn) → Opens start most v u → AwaitsAWindow start x v → x < round_end values start v → ⊥
+  -- Goes is what is to be so before a turn for the side to halt on.
+  module _ (start : Start) (Goes : List Turn → Type 0) (most : ℕ) where
+    abbrev Waits : ℕ → List Turn → Type 0
+    Waits x turns = AwaitsAWindow start x turns
 
--- in each mild connection over one path
+    abbrev Rises : List Turn → List Turn → Type 0
+    Rises v u = counted values start v < counted values start u
+
+    -- As a round begins a wait begins, for a minute and 400 ticks there and back; it goes on by each step, and as the next
+    -- round begins, or something is counted; and no round begins past it.
+    pub record WindowsAreAwaited : Type 0 where
+      pub begins : (v u : List Turn) → Opens start most v u → Goes v → HasAShutWindow start v → Waits (round_end values start v + 60800) u
+      pub on : (x : ℕ) (v u : List Turn) → Steps start most v u → Goes v → Waits x v → Rises v u ⊎ Waits x u
+      pub next : (x : ℕ) (v u : List Turn) → Opens start most v u → Goes v → Waits x v → Rises v u ⊎ Waits x u
+      pub due : (x : ℕ) (v u : List Turn) → Opens start most v u → Waits x v → x < round_end values start v → ⊥
+
+-- in each mild connection over one path, whose side halts
 abbrev pub WindowsAreAwaitedAlways : Type 0
-WindowsAreAwaitedAlways = (start : Start) (plan : PathPlan) (most : ℕ) → start.paths ≡ plan ∷ [] → IsMildStart start → WindowsAreAwaited start most
+WindowsAreAwaitedAlways = (start : Start) (plan : PathPlan) (most : ℕ) → start.paths ≡ plan ∷ [] → IsMildStart start
+    → WindowsAreAwaited IsHalted start (λ turns. Unit {0}) most
+
+-- path 0 doesn't stand by at either end, after these turns
+abbrev pub DoesNotStandBy : Start → List Turn → Type 0
+DoesNotStandBy start turns = (p : PathState Carried) → IsPathAt 0 (reached values start turns) p → (s : Side) → (end_at s p).modes.standby ≡ false
+
+-- In each mild connection over any number of paths, where all before the edge is acknowledged, and more is written: as long as path 0 doesn't stand by.
+abbrev pub ShutEndsAreAwaited : Type 0
+ShutEndsAreAwaited = (start : Start) (most : ℕ) → IsMildStart start → WindowsAreAwaited IsShutOutAt start (DoesNotStandBy start) most

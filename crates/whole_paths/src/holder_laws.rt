@@ -9,9 +9,11 @@ ghost use Rattle.whole_paths.specs.FirstMissing.{EachMissingByteIsHeld};
 ghost use Rattle.whole_paths.specs.GivenBack.{EachReturnCounts, GivenBackIsBounded, GivenBackNeverFalls};
 ghost use Rattle.whole_paths.specs.HolderWaits.{HoldersLetGo};
 ghost use Rattle.whole_paths.specs.Holders.{HoldersLive, WhatIsTriedIsAwaited};
+ghost use Rattle.whole_paths.specs.ManyGoingOn.{PathsGoOn};
 ghost use Rattle.whole_paths.specs.MissingBytes.{WhatIsMissingIsAwaited};
 ghost use Rattle.whole_paths.specs.Refusals.{WhoAsksIsRefused};
 ghost use Rattle.whole_paths.specs.ReturnWaits.{AllNewsIsBounded, ReturnsAreAwaitedAlways};
+ghost use Rattle.whole_paths.specs.Serving.{WhoServesAsksSo};
 
 /// A law: a byte that a path tried and that isn't acknowledged stands in a piece that the path's end waits for, whatever the links do, over any number of
 /// paths (RFC 8684, section 3.3.6).
@@ -111,4 +113,22 @@ pub fn returns_are_awaited_always()
 /// enough for all that can be counted.
 pub fn paths_are_counted()
     ensures { PathsAreCounted }
+{}
+
+/// A law: a mild connection over any number of paths goes on where all bytes are acknowledged that a side had written: within two rounds it writes, closes,
+/// or its stream is all there; or an end waits for the Data ACK of its DATA_FIN (RFC 8684, section 3.3.3).
+///
+/// As a round begins, all of both streams is there, or not all of one side's is. As that round is over, more is counted where an end of the path sent its
+/// FIN, or where the side's end has no record left and all is acknowledged that was written as the round began; or its DATA_FIN is outstanding; or the
+/// application writes or closes in the next round.
+pub fn paths_go_on()
+    ensures { PathsGoOn }
+{}
+
+/// A law: a path whose ends stand by at no moment never asks for bytes on standby, over any number of paths (RFC 8684, section 3.3.8).
+///
+/// So it isn't refused as a backup. `many_paths_bring_all` asks for no more of path 0.
+pub fn who_serves_asks_so()
+    ensures values { WhoServesAsksSo values }
+    ensures octets { WhoServesAsksSo octets }
 {}

@@ -59,7 +59,7 @@ ghost use Rattle.whole_paths.specs.Passed.{WhatIsInOrderIsPassed};
 ghost use Rattle.whole_paths.specs.Probes.{EachProbeIsAnswered};
 ghost use Rattle.whole_paths.specs.Reasons.{WhoWaitsHasATimer};
 ghost use Rattle.whole_paths.specs.RecordsGo.{EachRecordGoesAlone};
-ghost use Rattle.whole_paths.specs.Received.{HoldsOfOnlyPaths, WhatIsGrantedIsReceived, WhatIsPassedIsPlaced, WhatIsPassedIsReceived};
+ghost use Rattle.whole_paths.specs.Received.{HoldsOfOnlyPaths, WhatIsGrantedIsPlaced, WhatIsGrantedIsReceived, WhatIsPassedIsPlaced, WhatIsPassedIsReceived};
 ghost use Rattle.whole_paths.specs.Room.{WhoIsDoneMayAsk};
 ghost use Rattle.whole_paths.specs.Rising.{EndsOpenByCopies};
 ghost use Rattle.whole_paths.specs.Running.{TimersRunOn};
@@ -461,9 +461,11 @@ pub fn what_came_was_sent()
 /// or was read there (RFC 8684, section 3.3.2), whatever is lost, late, repeated or altered (`placed`).
 ///
 /// On the only path of a connection by whose script no option is taken away, no payload is altered, and no side closes at once, no byte before
-/// it is missing there (`received`). So a living end that has no record left waits for no Data ACK but of bytes that are received (`left`).
+/// it is missing there (`received`). So a living end that has no record left waits for no Data ACK but of bytes that are received (`left`); over several
+/// paths, of bytes that stand there (`granted`).
 pub fn what_is_passed_is_received()
     ensures placed { HoldsAnyway WhatIsPassedIsPlaced }
+    ensures granted { HoldsAnyway WhatIsGrantedIsPlaced }
     ensures received { HoldsOfOnlyPaths values WhatIsPassedIsReceived }
     ensures left { HoldsOfOnlyPaths values WhatIsGrantedIsReceived }
 {}

@@ -2,7 +2,10 @@
 ghost use Rattle.path_core.specs.Octets.{octets};
 ghost use Rattle.path_core.specs.Values.{values};
 ghost use Rattle.whole_paths.specs.EdgeStands.{NothingIsTriedPastTheEdge, ShutEndsStayShut};
+ghost use Rattle.whole_paths.specs.ManyCourses.{ManyPathsBringAll, ManyPathsDeliver};
+ghost use Rattle.whole_paths.specs.ManyWaits.{EachMissingByteIsWaitedFor};
 ghost use Rattle.whole_paths.specs.Wanted.{WhatIsWantedIsTold};
+ghost use Rattle.whole_paths.specs.WindowWaits.{ShutEndsAreAwaited};
 
 /// A law: what a side's reassembly book wants next, each of its ends tells from its path's next turn on (RFC 8684, section 3.3.2).
 ///
@@ -21,4 +24,32 @@ pub fn what_is_wanted_is_told()
 pub fn shut_ends_stay_shut()
     ensures stays { ShutEndsStayShut }
     ensures untried { NothingIsTriedPastTheEdge }
+{}
+
+/// A law: a wait for the window of an end that is shut out there goes on by each turn until something is counted, and it is never late, over any number of
+/// paths (RFC 9293, section 3.8.6.1).
+///
+/// As a round begins, such a wait begins at an end of path 0 without a record, for a minute and 800 ticks, where the peer's book takes 32 bytes past the
+/// edge: probes ask for the window meanwhile. Path 0 is open, and it doesn't stand by.
+pub fn shut_ends_are_awaited()
+    ensures { ShutEndsAreAwaited }
+{}
+
+/// A law: where not all bytes are acknowledged as a round is over that a side had written as it began, its end of path 0 waits for a record, an answer, a
+/// window, or for a byte that another path holds, or something was counted in the round (RFC 8684, section 3.3.2).
+///
+/// So it is in a mild connection over any number of paths, with buffers of 32 bytes at least, where path 0 is open, the end may still send its FIN, and
+/// the path doesn't stand by. The wait is for a minute and 800 ticks. What is counted is what is over one path, and what became of the bytes of each stream.
+pub fn each_missing_byte_is_waited_for()
+    ensures { EachMissingByteIsWaitedFor }
+{}
+
+/// A law: from where path 0 of a mild connection is whole to where it still is, all of both streams is there, with rounds enough, whatever becomes of any
+/// number of other paths (RFC 8684, section 3.3.2).
+///
+/// Path 0 is never on standby, and buffers have 32 bytes at least. There are rounds enough for all that can be counted: what is over one path, each byte of
+/// a file once more, and twice for each path; and for each segment of path 0 that is harmed. With three rounds more both files are delivered (`delivers`).
+pub fn many_paths_bring_all()
+    ensures brings { ManyPathsBringAll }
+    ensures delivers { ManyPathsDeliver }
 {}

@@ -8,7 +8,7 @@ ghost use Rattle.world_laws.specs.Outcomes.{notes_at, read_by};
 use crate::weaving::notes_from;
 use crate::world::World;
 use actor_desk::{Note, Reply};
-use octet_text::Text;
+use octet_text::{JoinedText, Text};
 use reassembly_book::ReassemblyReply;
 use std::alloc::{AllocError, Global};
 
@@ -23,15 +23,16 @@ fn read_by(alloc: Global, notes: &[Note]) -> Result<Text, AllocError>
     Ok(text)
 }
 
-/// Puts octets at the end of a text, which shares them where they are its first ones.
-fn put_octets(text: &mut Text, octets: &Text) -> Result<(), AllocError>
+/// Puts octets at the end of a text.
+fn put_octets(text: &mut Text, octets: &JoinedText) -> Result<(), AllocError>
     ensures { OnOk result (text.new ≡ text.old ++ octets.now) }
 {
+    let copied = octets.to_text()?;
     if text.is_empty() {
-        *text = octets.copy()?;
+        *text = copied;
         Ok(())
     } else {
-        text.append(octets.as_bytes())
+        text.append(copied.as_bytes())
     }
 }
 

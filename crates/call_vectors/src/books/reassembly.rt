@@ -1,5 +1,6 @@
-//! Calls of the reassembly book. `front` shows what is lent of the bytes that can be read. `reversed AT N SIZE` places N made octets in
-//! pieces of SIZE, the last piece first, and tells how many were placed; `reads MAX` reads until nothing is left.
+//! Calls of the reassembly book. `front` shows the bytes that can be read, where what is lent begins them. `reversed AT N SIZE`
+//! places N made octets in pieces of SIZE, the last piece first, and tells how many were placed; `reads MAX` reads until nothing
+//! is left.
 
 ghost use Rattle.std.specs.Prelude.{IsTrue, ◌≤◌, ◌^◌};
 ghost use Rattle.reassembly_book.specs.Steps.{CanAsk};
@@ -9,7 +10,7 @@ use crate::books::put_reply;
 use crate::calls::reassembly_call;
 use actor_desk::{Ask, Reply};
 use case_fields::Case;
-use octet_text::Text;
+use octet_text::{JoinedText, Text};
 use reassembly_book::{ReassemblyBook, ReassemblyCall, ReassemblyReply};
 use sides::Side;
 use stamped_book::Book;
@@ -33,7 +34,10 @@ fn may_ask(call: &ReassemblyCall) -> bool
 fn put_answer(case: &mut Case, read: &mut u64, reply: ReassemblyReply) {
     if let ReassemblyReply::Bytes(bytes) = &reply {
         case.put("bytes ");
-        put_octets(case, *read, bytes.as_bytes());
+        match bytes.to_text() {
+            Ok(text) => put_octets(case, *read, text.as_bytes()),
+            Err(_) => case.fail(),
+        }
         *read = read.saturating_add(bytes.len() as u64);
         return;
     }
@@ -97,6 +101,17 @@ fn reversed(case: &mut Case, book: &mut ReassemblyBook) {
     case.say(&all);
 }
 
+/// Puts bytes that were read at the end of others.
+fn append(case: &mut Case, all: &mut Text, bytes: &JoinedText) {
+    let done = match bytes.to_text() {
+        Ok(text) => all.append(text.as_bytes()),
+        Err(error) => Err(error),
+    };
+    if done.is_err() {
+        case.fail();
+    }
+}
+
 /// Reads until no bytes are left: the last reply.
 fn read_all(
     case: &mut Case,
@@ -108,11 +123,7 @@ fn read_all(
 {
     for _ in 0..10_000 {
         match book.apply(call) {
-            Ok(ReassemblyReply::Bytes(bytes)) => {
-                if all.append(bytes.as_bytes()).is_err() {
-                    case.fail();
-                }
-            }
+            Ok(ReassemblyReply::Bytes(bytes)) => append(case, all, &bytes),
             Ok(reply) => return reply,
             Err(_) => case.fail(),
         }
@@ -135,10 +146,28 @@ fn reads(case: &mut Case, book: &mut ReassemblyBook, read: &mut u64) {
     put_answer(case, read, last);
 }
 
+/// Puts these bytes where those that are lent begin them, and else `other`.
+fn put_begun(case: &mut Case, read: u64, lent: &[u8], bytes: &JoinedText) {
+    match bytes.to_text() {
+        Ok(text) if text.as_bytes().starts_with(lent) => put_octets(case, read, text.as_bytes()),
+        Ok(_) => case.put("other"),
+        Err(_) => case.fail(),
+    }
+}
+
+/// `front`.
+fn front(case: &mut Case, book: &ReassemblyBook, read: u64) {
+    match book.answer(&ReassemblyCall::Read { max: u32::MAX }) {
+        Ok(ReassemblyReply::Bytes(bytes)) => put_begun(case, read, book.front(), &bytes),
+        Ok(_) => put_octets(case, read, book.front()),
+        Err(_) => case.fail(),
+    }
+}
+
 /// Puts the book's reply to a call, from which so many octets were read.
 pub fn ask(case: &mut Case, book: &mut ReassemblyBook, read: &mut u64, name: &str) {
     match name {
-        "front" => put_octets(case, *read, book.front()),
+        "front" => front(case, book, *read),
         "reversed" => reversed(case, book),
         "reads" => reads(case, book, read),
         _ => ask_once(case, book, read, name),

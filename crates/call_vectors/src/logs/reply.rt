@@ -6,7 +6,7 @@ use case_fields::Case;
 use control_book::{ControlReply, Notice};
 use fallback_state::{Mode, Verdict};
 use linked_increase::{Row, Rows};
-use octet_text::Text;
+use octet_text::{JoinedText, Text};
 use reassembly_book::ReassemblyReply;
 use send_book::{SendReply, Span, Why};
 
@@ -20,6 +20,20 @@ pub fn octets_of(case: &mut Case) -> Text {
             Text::new(case.alloc)
         }
     }
+}
+
+/// The same in one part.
+fn joined_of(case: &mut Case) -> JoinedText {
+    let octets = octets_of(case);
+    let mut joined = JoinedText::new(case.alloc);
+    let done = match octets.to_shared() {
+        Ok(part) => joined.push(part),
+        Err(error) => Err(error),
+    };
+    if done.is_err() {
+        case.fail();
+    }
+    joined
 }
 
 /// Why nothing is granted, by its name.
@@ -77,7 +91,7 @@ pub fn reassembly_reply(case: &mut Case) -> ReassemblyReply {
             fin: case.number(),
             at: case.number(),
         },
-        "bytes" => ReassemblyReply::Bytes(octets_of(case)),
+        "bytes" => ReassemblyReply::Bytes(joined_of(case)),
         "end" => ReassemblyReply::End,
         "noneyet" => ReassemblyReply::NoneYet,
         "aborted" => ReassemblyReply::Aborted {

@@ -101,7 +101,7 @@ fn push(case: &mut Case, end: &mut Subflow, place: u32, length: u32) -> bool {
     if piece.len() != length as usize {
         return false;
     }
-    if end.push(piece.as_bytes(), &NO_MAPPING).is_err() {
+    if end.push(&piece, &NO_MAPPING).is_err() {
         case.fail();
     }
     true

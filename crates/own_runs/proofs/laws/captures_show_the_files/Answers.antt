@@ -1,18 +1,19 @@
-use Rattle.own_runs.proofs.AckRuns.{ends_are, files_are, reads_are, seen_are, streams_are, tried_are, whole_are}
+use Rattle.own_runs.proofs.AckRuns.{files_are, reads_are, tried_are}
+use Rattle.own_runs.proofs.SeenFiles.{ends_are, seen_are, streams_are, whole_are}
 use Rattle.own_runs.proofs.TimeRuns.{timed}
 use Rattle.own_runs.proofs.laws.captures_show_the_files.Goals as goal
 
 pub returns-clause-begins : goal.returns-clause-begins
-returns-clause-begins c = streams_are timed
+returns-clause-begins c = streams_are
 
 pub returns-clause-seen : goal.returns-clause-seen
-returns-clause-seen c = seen_are timed
+returns-clause-seen c = seen_are
 
 pub returns-clause-ends : goal.returns-clause-ends
-returns-clause-ends c = ends_are timed
+returns-clause-ends c = ends_are
 
 pub returns-clause-whole : goal.returns-clause-whole
-returns-clause-whole c = whole_are timed
+returns-clause-whole c = whole_are
 
 pub returns-clause-delivered : goal.returns-clause-delivered
 returns-clause-delivered c = files_are timed

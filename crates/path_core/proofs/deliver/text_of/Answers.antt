@@ -7,7 +7,7 @@ loop-part-preserved c =
     let text = c.loop-part.text in
     let left = c.loop-part.left in
     let taken = c.min-taken.result in
-    rw c.in_ok-append.ensures.ok
+    rw c.in_ok-put_part.ensures
     (part-taken text left taken (left - taken) c.in-Some.part.now (concat c.next.new.self) (omega (arith, c.min-taken.ensures)) refl
     ∙ ap (λ (parts : List (List ℕ)). text ++ take left (concat parts)) (sym c.in-Some.ensures.steps)
     ∙ c.loop-part.invariant)

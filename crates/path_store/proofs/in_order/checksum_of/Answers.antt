@@ -1,4 +1,4 @@
-use Rattle.std.proofs.Common.{◌≡◌, ◌∙◌, sym, refl, ap, ◌-◌, ◌++◌, List, ℕ, length-append, take, [], arith}
+use Rattle.std.proofs.Common.{◌≡◌, ◌∙◌, sym, refl, ap, ◌-◌, ◌++◌, List, ℕ, length, length-append, take, [], arith}
 use Rattle.std.specs.List.{concat}
 use Rattle.std.proofs.lemmas.List.{length-take}
 use Rattle.dss_checksum.specs.Checksum.{dss_checksum}
@@ -19,20 +19,22 @@ loop-part-init c = record {
 pub add-requires : goal.add-requires
 add-requires c =
     let so = c.loop-part.invariant in
-    omega (arith, ap (λ (sum : MappingSum). sum.count) so.is, so.few, length-take c.min-taken.result c.in-Some.part.now, c.min-taken.ensures, c.ranges.count.fits)
+    omega (arith, ap (λ (sum : MappingSum). sum.count) so.is, so.few, length-take c.min-taken.result c.as_slice.result.now, c.min-taken.ensures, c.ranges.count.fits)
 
 pub loop-part-preserved : goal.loop-part-preserved
 loop-part-preserved c =
     let so = c.loop-part.invariant in
     let left = c.loop-part.left in
     let taken = c.min-taken.result in
-    let part = c.in-Some.part.now in
+    let part = c.as_slice.result.now in
+    let same : length c.as_slice.result.now ≡ length c.in-Some.part.now = ap (λ (part : List ℕ). length part) c.as_slice.ensures in
     record {
       added = so.added ++ take taken part;
       is = c.add.ensures c.args.mapping.now so.added so.is;
       few = omega (arith, so.few, length-append so.added (take taken part), length-take taken part, c.min-taken.ensures);
       whole =
-          part-taken so.added left taken (left - taken) part (concat c.next.new.self) (omega (arith, c.min-taken.ensures)) refl
+          part-taken so.added left taken (left - taken) part (concat c.next.new.self) (omega (arith, c.min-taken.ensures, c.len.ensures.value, same)) refl
+          ∙ ap (λ (part : List ℕ). so.added ++ take left (part ++ concat c.next.new.self)) c.as_slice.ensures
           ∙ ap (λ (parts : List (List ℕ)). so.added ++ take left (concat parts)) (sym c.in-Some.ensures.steps)
           ∙ so.whole;
     }

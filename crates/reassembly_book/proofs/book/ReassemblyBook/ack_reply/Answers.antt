@@ -5,5 +5,5 @@ use Rattle.reassembly_book.proofs.book.ReassemblyBook.ack_reply.Goals as goal
 
 pub overflow_sub-result : goal.overflow_sub-result
 overflow_sub-result c =
-    let sound : IsSound c.args.self.now = subst IsSound c.self.view_is c.self.invariant.sound in
+    let sound : IsSound c.args.self.now = subst IsSound c.self.view_is c.self.invariant.0 in
     omega (arith, sound.fits, filled-le c.args.self.now.places, c.received-received.ensures.value, c.edge.ensures)
