@@ -323,5 +323,6 @@ pub mod MissingBytes
 pub mod ReturnWaits
 pub mod CountedCourses
 pub mod Serving
+pub mod Backups
 pub mod ManyWaits
 pub mod ManyGoingOn
