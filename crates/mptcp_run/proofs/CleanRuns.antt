@@ -16,7 +16,7 @@ use Rattle.whole_paths.specs.FewTexts.{LosesFew, early_by_text}
 use Rattle.whole_paths.specs.FilesFit.{FitsFirstWindow}
 use Rattle.whole_paths.specs.Finish.{harms_to, is_harmless_to_ends, is_mild, is_on_direction, patience, patient_rounds}
 use Rattle.whole_paths.specs.Finish.{rounds_in as whole_rounds}
-use Rattle.whole_paths.specs.QuietTexts.{MovesNoneOfA}
+use Rattle.whole_paths.specs.QuietTexts.{MovesNoneOfFirst}
 use Rattle.whole_paths.proofs.BriefRuns.{few_steps_are_brief}
 use Rattle.whole_paths.proofs.FewTexts.{few_texts_finish, few_texts_go_on}
 use Rattle.clean_finish.specs.Bound.{enough}
@@ -36,8 +36,8 @@ use Rattle.world_laws.specs.Outcomes.{outcome_of}
 use Rattle.world_laws.specs.Serial.{goes_on, OneOf}
 use Rattle.world_laws.specs.Worlds.{AreLawful, Turn, world_step, end_round, world_run}
 use Rattle.mptcp_run.specs.Answers.{IsAnswer, EndRow, HasRun}
-use Rattle.mptcp_run.specs.Clean.{AsksRounds, Bound, CleanRunsDeliver, DeliversBy, DeliversIfClean, DeliversIfFew, FewRunsDeliver, HasRoundsBy}
-use Rattle.mptcp_run.specs.Enough.{few_enough, few_on, fits_first, harms_allowed, is_gentle, loses_few, moves_none_of_a}
+use Rattle.mptcp_run.specs.Clean.{AsksRounds, Bound, CleanRunsDeliver, DeliversBy, DeliversIfClean, DeliversIfFew, EnoughRunsDeliver, FewRunsDeliver, HasRoundsBy}
+use Rattle.mptcp_run.specs.Enough.{few_enough, or_else, rounds_enough, few_on, fits_first, harms_allowed, is_gentle, loses_few, moves_none_of_a}
 use Rattle.mptcp_run.specs.Ends.{HasEnded}
 use Rattle.mptcp_run.specs.Putting.{status_of, world_after}
 use Rattle.mptcp_run.specs.Task.{Connection, Task, Course, rounds, threads, told, first_world, course_of, task_of, AreTurnsOf}
@@ -230,10 +230,10 @@ fits_so script file_a file_b is =
     record { buffer = leb-true (length file_a + 3) script.buffer parts.0; syn = leb-true (length file_a + 1) 65535 parts.1 }
 
 early_so : (script : Script) (file_a file_b : List ℕ) → moves_none_of_a script.lines || fits_first script.buffer (length file_a) ≡ true
-    → MovesNoneOfA script.lines ⊎ FitsFirstWindow (start_of script file_a file_b) A
+    → MovesNoneOfFirst 8 script.lines ⊎ FitsFirstWindow (start_of script file_a file_b) A
 early_so script file_a file_b is = by (moves_none_of_a script.lines) refl is
   where
-    by : (b : Bool) → moves_none_of_a script.lines ≡ b → b || fits_first script.buffer (length file_a) ≡ true → MovesNoneOfA script.lines ⊎ FitsFirstWindow (start_of script file_a file_b) A
+    by : (b : Bool) → moves_none_of_a script.lines ≡ b → b || fits_first script.buffer (length file_a) ≡ true → MovesNoneOfFirst 8 script.lines ⊎ FitsFirstWindow (start_of script file_a file_b) A
     by true none either = inl none
     by false some fits = inr (fits_so script file_a file_b fits)
 
@@ -289,6 +289,27 @@ few_promise = record {
 
 pub few_runs_deliver : FewRunsDeliver
 few_runs_deliver = known_runs_deliver few_enough few_promise
+
+-- ---- either
+
+either_so : (o p : Option ℕ) (least : ℕ) → or_else o p ≡ Some least → (o ≡ Some least) ⊎ (p ≡ Some least)
+either_so None p least is = inr is
+either_so (Some least_of) p least is = inl is
+
+enough_promise : IsPromise rounds_enough
+enough_promise = record {
+  finish = λ script file_a file_b least turns ranges is small_a small_b lawful few many. ⊎_elim
+      (λ clean. clean_promise.finish script file_a file_b least turns ranges clean small_a small_b lawful few many)
+      (λ some. few_promise.finish script file_a file_b least turns ranges some small_a small_b lawful few many)
+      (either_so (enough script (length file_a) (length file_b)) (few_enough script (length file_a) (length file_b)) least is);
+  go_on = λ script file_a file_b least turns ranges is small_a small_b lawful few. ⊎_elim
+      (λ clean. clean_promise.go_on script file_a file_b least turns ranges clean small_a small_b lawful few)
+      (λ some. few_promise.go_on script file_a file_b least turns ranges some small_a small_b lawful few)
+      (either_so (enough script (length file_a) (length file_b)) (few_enough script (length file_a) (length file_b)) least is);
+}
+
+pub enough_runs_deliver : EnoughRunsDeliver
+enough_runs_deliver = known_runs_deliver rounds_enough enough_promise
 
 -- ---- where the words ask for a run
 

@@ -10,7 +10,7 @@ use Rattle.run_outside.specs.declared.status.Status.{Status}
 use Rattle.run_outside.specs.declared.status.Status.TheVariants.{Delivered, Memory}
 use Rattle.run_outside.specs.Inputs.{IsValid}
 use Rattle.mptcp_run.specs.Answers.{IsAnswer}
-use Rattle.mptcp_run.specs.Enough.{few_enough}
+use Rattle.mptcp_run.specs.Enough.{few_enough, rounds_enough}
 use Rattle.mptcp_run.specs.Task.{Task, Course, rounds, threads, told, task_of}
 
 -- a course isn't told by a log, and may have this many rounds
@@ -50,3 +50,7 @@ CleanRunsDeliver = (line : Line) (old new : Told) (status : Status) → IsAnswer
 -- and where few segments are lost
 abbrev pub FewRunsDeliver : Type 0
 FewRunsDeliver = (line : Line) (old new : Told) (status : Status) → IsAnswer line old new status → DeliversIfFew line old new status
+
+-- and where so many rounds are made as `tell_enough` tells
+abbrev pub EnoughRunsDeliver : Type 0
+EnoughRunsDeliver = (line : Line) (old new : Told) (status : Status) → IsAnswer line old new status → DeliversBy rounds_enough line old new status

@@ -7,6 +7,7 @@ use Rattle.link_script.specs.declared.script.Script.{Script}
 use Rattle.link_script.specs.declared.script.ScriptLine.{ScriptLine}
 use Rattle.link_model.specs.Laws.{moves}
 use Rattle.clean_finish.specs.Bound.{enough}
+use Rattle.whole_paths.specs.QuietTexts.{is_first}
 use Rattle.whole_paths.specs.Finish.{harms_to, is_harmless_to_ends, is_on_direction, patient_rounds, segments}
 
 -- By the line no option is taken away, no payload altered, no side closes at once, no path dies, and the address of path 0 isn't taken back. It speaks
@@ -18,17 +19,18 @@ is_gentle line = is_harmless_to_ends line && not (is_on_direction line)
 abbrev pub fits_first : ℕ → ℕ → Bool
 fits_first buffer length = nat_le (length + 3) buffer && nat_le (length + 1) 65535
 
--- by none of these lines a segment of A's is lost, late or repeated
+-- by none of these lines one of A's first eight segments is lost, late or repeated
 abbrev pub moves_none_of_a : List ScriptLine → Bool
-moves_none_of_a lines = list_all (λ line. not (moves A line)) lines
+moves_none_of_a lines = list_all (λ line. not (moves A line && is_first 8 line)) lines
 
--- each line is gentle, by four of them at most a segment is lost or late, and where one moves a segment of A's, A's file fits
+-- each line is gentle, by four of them at most a segment is lost or late, and where one moves one of A's first eight segments, A's
+-- file fits
 abbrev pub loses_few : Script → ℕ → Bool
 loses_few script length_a =
     list_all is_gentle script.lines && (nat_le (harms_to 0 script) 4 && (moves_none_of_a script.lines || fits_first script.buffer length_a))
 
--- how many lines by which a segment is lost or late are allowed for: those of the script, and where one moves a segment of A's, as many besides as A's
--- file has full segments
+-- how many lines by which a segment is lost or late are allowed for: those of the script, and where one moves one of A's first eight segments, as many
+-- besides as A's file has full segments
 abbrev pub harms_allowed : PathLine → Script → ℕ → ℕ
 harms_allowed path script length_a = harms_to 0 script + (if moves_none_of_a script.lines then 0 else segments path.mss length_a)
 

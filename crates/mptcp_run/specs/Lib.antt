@@ -4,6 +4,7 @@ pub mod Asked
 pub mod Clean
 pub mod Courses
 pub mod Ends
+pub mod Enough
 pub mod Logged
 pub mod Made
 pub mod Making
@@ -17,6 +18,6 @@ pub mod Rounds
 pub mod Schedules
 pub mod Taken
 pub mod Task
+pub mod Telling
 pub mod Threads
 pub mod WovenRounds
-pub mod Enough

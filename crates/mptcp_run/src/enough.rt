@@ -4,6 +4,7 @@ ghost use Rattle.std.specs.Prelude.{◌≡◌, ◌≤◌, ◌+◌, ◌*◌, ◌&
 ghost use Rattle.std.specs.List.{list_all};
 ghost use Rattle.sides.specs.declared.side.Side.TheVariants.{A};
 ghost use Rattle.link_model.specs.Laws.{moves};
+ghost use Rattle.whole_paths.specs.QuietTexts.{is_first};
 ghost use Rattle.whole_paths.specs.Finish.{harms, harms_to, patient_rounds, segments};
 ghost use Rattle.mptcp_run.specs.Enough as few;
 
@@ -27,16 +28,20 @@ fn is_gentle(line: &ScriptLine) -> bool
     }
 }
 
-/// Whether by a line a segment of A's is lost, late or repeated, or waits.
+/// Whether by a line one of A's first eight segments is lost, late or repeated, or waits.
 fn moves_a(line: &ScriptLine) -> bool
-    ensures { result ≡ moves A line.now }
+    ensures { result ≡ (moves A line.now && is_first 8 line.now) }
 {
     match *line {
         ScriptLine::OnSegment(
-            Segment { from: Side::A, .. },
+            Segment {
+                from: Side::A,
+                number,
+                ..
+            },
             Happens::Lost | Happens::Late(_) | Happens::Again(_),
-        )
-        | ScriptLine::OnDirection(Direction { from: Side::A, .. }, _) => true,
+        ) => number <= 8,
+        ScriptLine::OnDirection(Direction { from: Side::A, .. }, _) => true,
         _ => false,
     }
 }
@@ -78,7 +83,7 @@ fn are_gentle(script: &Script) -> bool
     script.lines.as_slice().iter().all(|line| is_gentle(line))
 }
 
-/// Whether none of the lines moves a segment of A's.
+/// Whether none of the lines moves one of A's first eight segments.
 fn moves_none_of_a(script: &Script) -> bool
     ensures { result ≡ few.moves_none_of_a script.now.lines }
 {

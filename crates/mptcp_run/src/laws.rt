@@ -1,7 +1,7 @@
 //! What holds of every run, as clauses of functions that do nothing.
 ghost use Rattle.mptcp_run.specs.Logged.{WholeRunsAgree, WholeRunsAreTold};
 ghost use Rattle.mptcp_run.specs.Answers.{ValidInputsAreRun};
-ghost use Rattle.mptcp_run.specs.Clean.{CleanRunsDeliver, FewRunsDeliver};
+ghost use Rattle.mptcp_run.specs.Clean.{CleanRunsDeliver, EnoughRunsDeliver, FewRunsDeliver};
 ghost use Rattle.mptcp_run.specs.Promised.{CheckedRunsAreRight, CutRunsGivePrefixes, DeliveredRunsGiveAsMany, DeliveredRunsGiveFiles, LinesCutGivePrefixes, LoadedTasksArePlain, LoadedTasksArePromised, ShortTasksAreKept, StoppedRunsGivePrefixes, WholeRunsGivePrefixes, WholeRunsHaveCause};
 
 /// A law: whatever the script alters, the connection after the turns that were made keeps its promises; at `Delivered` each reader
@@ -42,10 +42,16 @@ pub fn clean_runs_deliver()
 /// lost or late, its run delivers both files, or memory is wanting, as long as no count of faults rises.
 ///
 /// Few are lost by a script with one path, four of whose lines at most lose or delay a segment. No line takes anything away, alters, kills or stops
-/// anything, speaks of a whole direction, or takes back address 0. Where one loses, delays or repeats a segment of A's, A's file has three octets
-/// fewer than the script's buffer, and 65,534 at most, and each full segment of it counts as such a line besides.
+/// anything, speaks of a whole direction, or takes back address 0. Where one loses, delays or repeats one of A's first eight segments, A's file has
+/// three octets fewer than the script's buffer, and 65,534 at most, and each full segment of it counts as such a line besides.
 pub fn few_runs_deliver()
     ensures { FewRunsDeliver }
+{}
+
+/// A law: where `tell_enough` tells a number of rounds for the inputs of a command line in mode `run`, `serial` or `timed`, which are within their limits
+/// and valid, its run with as many rounds or more delivers both files, or memory is wanting, as long as no count of faults rises.
+pub fn enough_runs_deliver()
+    ensures { EnoughRunsDeliver }
 {}
 
 /// A law: where the inputs of a command line are within their limits, both files of its task are shorter than 2^31 - 2 octets, and the

@@ -55,6 +55,22 @@ fn put_help_of_words(
     }
 }
 
+/// Puts what helps where `enough` has ended so for a script of this name.
+fn put_help_of_script(
+    text: &mut String,
+    rt: &HostRuntime,
+    script: &str,
+    status: &Status,
+) -> Result<(), AllocError> {
+    match *status {
+        Status::Script { line, kind } => {
+            let mut outside = FileOutside::new(rt, false);
+            put_script_help(text, rt.alloc(), &mut outside, script, line, kind)
+        }
+        _ => Ok(()),
+    }
+}
+
 /// Puts what helps where a run has ended so: of a script or a log that is refused, where the line leaves its form and what stands there, what
 /// the kind means, or why the turn can't be made.
 pub fn put_help(
@@ -66,6 +82,9 @@ pub fn put_help(
     match words {
         [first, others @ ..] if first.as_str() == "messages" => {
             put_help_of_words(text, rt, others, true, status)
+        }
+        [first, script, ..] if first.as_str() == "enough" => {
+            put_help_of_script(text, rt, script.as_str(), status)
         }
         _ => put_help_of_words(text, rt, words, false, status),
     }

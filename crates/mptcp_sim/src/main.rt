@@ -1,6 +1,6 @@
 //! Sends two files, one each way, through a Multipath TCP connection over simulated links: `mptcp_sim --mode serial SCRIPT FILE_A
 //! FILE_B READ_BY_B READ_BY_A`. Behind a first word `messages` each line of a file goes as one message; behind `many` a list names up
-//! to 64 connections that share one listener.
+//! to 64 connections that share one listener; behind `enough` it is told how many rounds are enough.
 #![tactic(auto)]
 
 mod helping;
@@ -11,7 +11,7 @@ use connection_table::{Many, run_many};
 use file_outside::{FileOutside, SystemFault};
 use helping::put_help;
 use list_helping::put_help_of_many;
-use mptcp_run::{Status, fault_text, run, run_messages};
+use mptcp_run::{Status, fault_text, run, run_messages, tell_enough};
 use run_outside::command_words;
 use std::alloc::{AllocError, Global};
 use std::env::Env;
@@ -55,6 +55,16 @@ struct Ran {
     fault: Option<SystemFault>,
 }
 
+/// The line of a fault, where these are the words.
+fn line_of(alloc: Global, words: &[String], status: &Status) -> Result<String, AllocError> {
+    match words {
+        [first, ..] if first.as_str() == "enough" && matches!(status, Status::Usage) => {
+            String::from_str(alloc, "mptcp_sim: usage: enough SCRIPT FILE_A FILE_B")
+        }
+        _ => fault_text(alloc, status),
+    }
+}
+
 /// The end of a run of one connection.
 fn end_of(rt: &HostRuntime, words: &[String], ran: Ran) -> End {
     let (alloc, mut help) = (rt.alloc(), String::new(rt.alloc()));
@@ -66,7 +76,7 @@ fn end_of(rt: &HostRuntime, words: &[String], ran: Ran) -> End {
     };
     End {
         code: status.code(),
-        line: said(alloc, fault_text(alloc, &status)),
+        line: said(alloc, line_of(alloc, words, &status)),
         help: help_put(alloc, help, put),
         fault,
     }
@@ -100,6 +110,28 @@ fn end_of_many(rt: &HostRuntime, words: &[String]) -> End {
     end_of_listed(rt, words, &many, outside.into_fault())
 }
 
+/// An end of which nothing is told but its exit status.
+fn quiet_end(alloc: Global, code: u8) -> End {
+    End {
+        code,
+        line: String::new(alloc),
+        help: String::new(alloc),
+        fault: None,
+    }
+}
+
+/// Tells how many rounds are enough for what stands behind the first word.
+fn end_of_enough(rt: &HostRuntime, words: &[String], others: &[String]) -> End {
+    let mut outside = FileOutside::new(rt, has_output(rt));
+    let told = tell_enough(rt.alloc(), others, &mut outside);
+    let fault = outside.into_fault();
+    match told {
+        Ok(Some(_)) => quiet_end(rt.alloc(), 0),
+        Ok(None) => quiet_end(rt.alloc(), 1),
+        Err(status) => end_of(rt, words, Ran { status, fault }),
+    }
+}
+
 /// Whether standard output is open. Where it isn't, a file that is opened later may have its number.
 fn has_output(rt: &HostRuntime) -> bool {
     rt.stdout().as_fd().try_clone_to_owned().is_ok()
@@ -126,6 +158,7 @@ fn ran_by<R: Threads + Wait + Sync>(rt: &HostRuntime, threads: &R, words: &[Stri
 fn run_words<R: Threads + Wait + Sync>(rt: &HostRuntime, threads: &R, words: &[String]) -> End {
     match words {
         [first, others @ ..] if first.as_str() == "many" => end_of_many(rt, others),
+        [first, others @ ..] if first.as_str() == "enough" => end_of_enough(rt, words, others),
         _ => end_of(rt, words, ran_by(rt, threads, words)),
     }
 }

@@ -121,7 +121,7 @@ abbrev position_next : List Duty → PathState Carried → Option ℕ
 position_next (duties.Step step_duties.Events ∷ others) p = position_at (next_event p) p
 position_next _ p = None
 
--- it comes to B's end early, with octets, and stands at this position
+-- the next copy comes to B's end early, with octets, and stands at this position
 record ComesAt (position : ℕ) (p : PathState Carried) : Type 0 where
   early : comes_early p ≡ true
   here : position_next p.agenda p ≡ Some position
@@ -161,7 +161,7 @@ treats_none (duties.Ask (ask_duties.SynAnswered s) ∷ ds) p r is goes = goes
 treats_none (duties.Ask (ask_duties.PeerKey s) ∷ ds) p r is goes = goes
 treats_none _ p r is goes = true≢false (sym is)
 
--- so many came so far
+-- with so many that came
 record IsLosing (start : Start) (turns : List Turn) (n : ℕ) (p : PathState Carried) : Type 0 where
   lost : List ℕ
   on_way : AreOnTheWayBut lost p
@@ -316,7 +316,7 @@ module _ (start : Start) (plan : PathPlan) (one : BeginsWithOnePath start plan) 
   one_at_most [] = omega arith
   one_at_most (r ∷ rs) = omega arith
 
-  -- so many count then
+  -- how many count then
   abbrev counted : ℕ → ℕ
   counted n = if rises then min (n + one_if (comes_early p)) 1 else n + one_if (comes_early p)
 

@@ -46,7 +46,7 @@ use Rattle.whole_paths.proofs.Saying.{ToSend}
 
 -- ---- states
 
-connected_far : (x : State) → is_connected x ≡ true → 2 ≤ stage x
+pub connected_far : (x : State) → is_connected x ≡ true → 2 ≤ stage x
 connected_far phase.Waiting is = absurd (true≢false (sym is))
 connected_far phase.Listen is = absurd (true≢false (sym is))
 connected_far phase.SynSent is = absurd (true≢false (sym is))
@@ -54,7 +54,7 @@ connected_far phase.SynReceived is = absurd (true≢false (sym is))
 connected_far phase.Dead is = absurd (true≢false (sym is))
 connected_far _ is = omega arith
 
-finish_far : (x : State) → may_finish x ≡ true → 2 ≤ stage x
+pub finish_far : (x : State) → may_finish x ≡ true → 2 ≤ stage x
 finish_far phase.Established is = omega arith
 finish_far phase.CloseWait is = omega arith
 finish_far _ is = absurd (true≢false (sym is))

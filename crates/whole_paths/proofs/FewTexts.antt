@@ -35,6 +35,7 @@ use Rattle.whole_paths.proofs.OpeningEnds.{LaterPath, later_path}
 use Rattle.whole_paths.proofs.OverOctets.{as_far}
 use Rattle.whole_paths.proofs.PatientPaths.{few_losses_finish_patiently_in_octets}
 use Rattle.whole_paths.proofs.QuietOpenings.{lost_early_fits}
+use Rattle.whole_paths.specs.QuietTexts.{is_first}
 use Rattle.whole_paths.proofs.QuietTexts.{nothing_comes_early_by_text}
 
 -- a path lives
@@ -71,12 +72,12 @@ module _ (script : Script) (path : PathLine) (file_a file_b : List ℕ) (turns :
 
   -- no more count than come early by the text
   few_early : lost_early start turns ≤ early_by_text script path file_a
-  few_early = by (list_all (λ line. not (moves A line)) script.lines) refl h.early
+  few_early = by (list_all (λ line. not (moves A line && is_first 8 line)) script.lines) refl h.early
     where
       one_path : segments_on start.paths file_a ≡ segments path.mss (length file_a)
       one_path = ap (λ lines. segments_on (plans_from script 0 lines) file_a) h.mild.one
 
-      by : (b : Bool) → list_all (λ line. not (moves A line)) script.lines ≡ b → (b ≡ true) ⊎ FitsFirstWindow start A
+      by : (b : Bool) → list_all (λ line. not (moves A line && is_first 8 line)) script.lines ≡ b → (b ≡ true) ⊎ FitsFirstWindow start A
           → lost_early start turns ≤ (if b then 0 else segments path.mss (length file_a))
       by true all early = let none = nothing_comes_early_by_text start plan turns one short all brief.few living in omega (arith, none)
       by false some (inl none) = cc (none)

@@ -46,24 +46,22 @@ use Rattle.path_core.specs.Steps.{asks_first, asks_of, next_round, takes}
 use Rattle.path_core.specs.Timer.{with_timer_settled}
 use Rattle.path_core.specs.Treating.{item_of, item_passed}
 use Rattle.path_core.specs.Values.{Carried, values}
-use Rattle.world_laws.specs.Actors.{ActorCrew}
 use Rattle.world_laws.specs.Members.{HoldsOfKind}
-use Rattle.world_laws.specs.Openings.{PathPlan, Start, opened_world}
+use Rattle.world_laws.specs.Openings.{PathPlan, Start}
 use Rattle.world_laws.specs.Promises.{written_by}
 use Rattle.world_laws.specs.RoundDone.{reached}
 use Rattle.world_laws.specs.RoundNumbers.{taken_len}
-use Rattle.world_laws.specs.Worlds.{Turn, WorldState, after_turn}
+use Rattle.world_laws.specs.Worlds.{Turn, WorldState}
 use Rattle.world_laws.specs.Writes.{EndView, side_of, writes}
-use Rattle.world_laws.specs.declared.member.Member.TheVariants.{Path}
-use Rattle.world_laws.proofs.Weaving.WholeRounds.{run_append}
 use Rattle.world_laws.proofs.Writes.Paths.{passes_no_more}
 use Rattle.world_laws.proofs.Writes.Steps.{Lasts, begins_lasts, both_ends, settled_lasts, unwritten}
-use Rattle.whole_paths.specs.Between.{EachPathBetween, PathsBetween}
+use Rattle.whole_paths.specs.Between.{EachPathBetween}
 use Rattle.whole_paths.specs.Finish.{IsPathAt}
 use Rattle.whole_paths.specs.FullGrants.{EachGrantIsFull, HoldsAFullPiece}
 use Rattle.whole_paths.specs.Mild.{IsMildStart}
 use Rattle.whole_paths.specs.PositionCounts.{CountsBytes}
 use Rattle.whole_paths.proofs.KnownWindows.{HasNumber, each_numbered}
+use Rattle.whole_paths.proofs.PathTurns.{at_turn}
 use Rattle.whole_paths.proofs.PositionCounts.{positions_count_bytes}
 use Rattle.whole_paths.proofs.Pushing.{AllStay, answered_next, event_next, refused_next, unsent_next}
 use Rattle.whole_paths.proofs.Turns.{paths_between}
@@ -281,14 +279,7 @@ module _ (start : Start) (plan : PathPlan) (turns : List Turn) (turn : Turn) (on
   number = (subst (HoldsOfKind (λ app. Unit {0}) HasNumber) here.is ((each_numbered start turns mild.plain.size).each here.crew here.there)).path
 
   grants : Grants s (books_in old.books) p q
-  grants =
-      let found = paths_grant old turn 2 here.crew here.there in
-      let same : reached values start (turns ++ turn ∷ []) ≡ after_turn values turn old = run_append values turns (turn ∷ []) (opened_world start) in
-      let crew : found.0 ≡ there.crew = same_Some found.0 there.crew (sym found.1 ∙ subst (λ (w : WorldState Carried). slice_get w.crew 2 ≡ Some there.crew) same there.there) in
-      let far : PathsBetween EachGrants old.books (after_turn values turn old).books there.crew.list here.crew.member there.crew.member
-      = subst (λ (d : ActorCrew Carried). PathsBetween EachGrants old.books (after_turn values turn old).books d.list here.crew.member d.member) crew found.2 in
-      subst (λ m. PathsBetween EachGrants old.books (after_turn values turn old).books there.crew.list (Path p) m) there.is
-      (subst (λ m. PathsBetween EachGrants old.books (after_turn values turn old).books there.crew.list m there.crew.member) here.is far) s
+  grants = at_turn start turns turn p q here there EachGrants paths_grant s
 
   ends_at : (span : Span) (x : Record) → x.kind ≡ Data → x.pos ≡ (end_at s p).tcp.send.nxt → x.piece ≡ part_of span b.written → end_of x ≡ (end_at s p).tcp.send.nxt + length (part_of span b.written)
   ends_at span x kind pos piece = (let size : occupied x.kind x.piece ≡ length (part_of span b.written) = ap (λ k. occupied k x.piece) kind ∙ ap (λ (o : List ℕ). length o) piece in omega (arith, size, pos))

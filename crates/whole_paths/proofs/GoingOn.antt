@@ -153,7 +153,7 @@ module _ (start : Start) where
   sides_far turns more s = subst (λ (w : WorldState Carried). IsSideAsFar s (books_in (at turns).books) (books_in w.books)) (sym (runs turns more)) ((goes_on_so values (at turns) more).sides s)
 
   -- with all of a stream that is there at last
-  there_counts : (turns more : List Turn) (s : Side) → (IsAllThere s (at turns) → ⊥) → IsAllThere s (at (turns ++ more)) → counted values start turns < counted values start (turns ++ more)
+  pub there_counts : (turns more : List Turn) (s : Side) → (IsAllThere s (at turns) → ⊥) → IsAllThere s (at (turns ++ more)) → counted values start turns < counted values start (turns ++ more)
   there_counts turns more s never later = by_closed (written_by s (at turns)).closed refl
     where
       own : IsSideAsFar s (books_in (at turns).books) (books_in (at (turns ++ more)).books)

@@ -94,6 +94,7 @@ pub mod Opening
 pub mod OpeningConfirmed
 pub mod OpeningKeys
 pub mod OpeningSyns
+pub mod FewSyns
 pub mod NeverUnmapped
 pub mod News
 pub mod NewsBounds
@@ -326,3 +327,7 @@ pub mod Serving
 pub mod Backups
 pub mod ManyWaits
 pub mod ManyGoingOn
+pub mod ManyCourses
+pub mod ManyCourses
+pub mod ManyGoingOn
+pub mod ManyPaths

@@ -111,7 +111,7 @@ module _ (start : Start) where
   books_up : (turns more : List Turn) (s : Side) → book_news start s (reached values start turns) ≤ book_news start s (reached values start (turns ++ more))
   books_up turns more s = subst (λ (u : WorldState Carried). book_news start s (reached values start turns) ≤ book_news start s u) (sym (run_append values turns more (opened_world start))) (book_news_never_falls values start turns more s)
 
-  news_up : (turns more : List Turn) → all_news start (reached values start turns) < all_news start (reached values start (turns ++ more)) → count turns < count (turns ++ more)
+  pub news_up : (turns more : List Turn) → all_news start (reached values start turns) < all_news start (reached values start (turns ++ more)) → count turns < count (turns ++ more)
   news_up turns more up = let harms = harmed_append values 0 turns more (opened_world start) in omega (arith, up, harms)
 
   -- what counts over one path does over more

@@ -146,7 +146,7 @@ same_outcome w =
 
 -- ---- ends
 
-path_on : (number : ℕ) (w : WorldState Carried) (p : PathState Carried) → IsPathAt number w p → IsPathAt number (shown_world w) (shown_path p)
+pub path_on : (number : ℕ) (w : WorldState Carried) (p : PathState Carried) → IsPathAt number w p → IsPathAt number (shown_world w) (shown_path p)
 path_on number w p here = record {
   crew = shown_crew here.crew;
   there = slice_get-map shown_crew w.crew (2 + number) ∙ ap (option_map shown_crew) here.there;

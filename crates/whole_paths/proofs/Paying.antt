@@ -103,7 +103,7 @@ calm : (s : Side) (e f a b : PathEnd) → f.tcp.due ≡ e.tcp.due → Owed e (pi
 calm s e f a b is = here s e f a b (same_due e f is)
 
 -- what a duty is to send is its side's
-sends_own : (d : SendDuty) → (t : ToSend) × ((send_of d ≡ Some t) × (t.from ≡ side_of (duties.Send d)))
+pub sends_own : (d : SendDuty) → (t : ToSend) × ((send_of d ≡ Some t) × (t.from ≡ side_of (duties.Send d)))
 sends_own (send_duties.Update s) = (_, (refl, refl))
 sends_own d = (_, (refl, refl))
 

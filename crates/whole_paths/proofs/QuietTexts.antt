@@ -1,7 +1,7 @@
 -- Where no line moves a segment of A's the first one that acknowledges B's SYN comes to B before any with octets, and shows it both keys.
 use Rattle.std.proofs.Common.{◌≡◌, refl, sym, subst, ap, ◌∙◌, ◌⊎◌, inl, inr, ⊎_elim, ℕ, zero, suc, ◌+◌, ◌-◌, ◌^◌, ◌<◌, ◌≤◌, le_refl, arith, min, nat_lt, nat_le, ◌&&◌, ◌||◌, ◌==◌, Bool, true, false, true≢false, cond, if◌then◌else◌, Option, Some, None, IfSome, List, [], ◌∷◌, ◌++◌, length}
 use Rattle.std.specs.Prelude.{is_some, not, option_map}
-use Rattle.std.specs.List.{AllByRecursion, list_all, list_any, slice_get}
+use Rattle.std.specs.List.{list_all, list_any, slice_get}
 use Rattle.std.proofs.lemmas.Bool.{and_from, and_parts, both_ways, cases_lt, eq-eqb, le-leb, le-ltb, not-true}
 use Rattle.std.proofs.lemmas.List.{append_assoc, length-append}
 use Rattle.std.proofs.lemmas.Option.{same_Some}
@@ -19,10 +19,10 @@ use Rattle.link_script.specs.Places.{path_named, same_side}
 use Rattle.link_script.specs.declared.script.ScriptLine.{ScriptLine}
 use Rattle.link_model.specs.declared.flight.Due.{Due}
 use Rattle.link_model.specs.declared.flight.Flight.{Flight}
-use Rattle.link_model.specs.Laws.{going_to, moves, plain_flight}
+use Rattle.link_model.specs.Laws.{WereSentBefore, going_to, moves, plain_flight}
 use Rattle.link_model.specs.State.{LinkState}
-use Rattle.link_model.specs.Steps.{after_delivery, arriving, changed, due_of, is_path, lines_of, segments_sent}
-use Rattle.link_model.proofs.Plain.{sent_last}
+use Rattle.link_model.specs.Steps.{after_delivery, after_send, arriving, changed, due_of, is_path, lines_of, next_number, segments_sent}
+use Rattle.link_model.proofs.Plain.{counts_on}
 use Rattle.stream_lanes.specs.Words.{Every}
 use Rattle.subflow_tcp.specs.Judging.{is_acceptable, meaning_of}
 use Rattle.subflow_tcp.specs.States.{is_dead, is_half_open}
@@ -43,9 +43,13 @@ use Rattle.path_core.specs.Duties.{answered}
 use Rattle.path_core.specs.End.{PathEnd}
 use Rattle.path_core.specs.Events.{next_event}
 use Rattle.path_core.specs.Judged.{judged_of}
-use Rattle.path_core.specs.Looking.{first_sends, segment_sent}
+use Rattle.path_core.specs.Handover.{handed}
+use Rattle.path_core.specs.Looking.{Hands, HandsOrTellsNone, first_sends, segment_sent}
+use Rattle.path_core.specs.Profile.{Profile}
+use Rattle.path_core.proofs.SegmentsTold.{each_segment_is_told}
 use Rattle.path_core.specs.MpJoin.{is_joined}
 use Rattle.path_core.specs.OptionsIn.{items_of, options_heard}
+use Rattle.path_core.specs.Shown.{AltersNothing}
 use Rattle.path_core.specs.Start.{waiting_path}
 use Rattle.path_core.specs.State.{PathState, end_at, with_agenda}
 use Rattle.path_core.specs.Steps.{begins_turn, next_round, takes}
@@ -57,6 +61,7 @@ use Rattle.path_core.specs.declared.judged.Judged.TheVariants as judged
 use Rattle.world_laws.specs.declared.member.Member.TheVariants.{App, Path}
 use Rattle.world_laws.specs.Actors.{Actor, ActorCrew}
 use Rattle.world_laws.specs.Members.{of_kind}
+use Rattle.world_laws.specs.NeverFalls.{StripsNothing}
 use Rattle.world_laws.specs.Openings.{PathPlan, Start, opened_world, path_begins}
 use Rattle.world_laws.specs.RoundDone.{reached}
 use Rattle.world_laws.specs.Worlds.{Turn, WorldState, after_turn}
@@ -74,9 +79,10 @@ use Rattle.whole_paths.specs.Answered.{IsDone as done}
 use Rattle.whole_paths.specs.AsFar.{stage}
 use Rattle.whole_paths.specs.Brought.{Brings, Comes, IsTo}
 use Rattle.whole_paths.specs.ComingCopies.{CopiesCount, PathsHear}
-use Rattle.whole_paths.specs.Copies.{IsUnderWay}
+use Rattle.whole_paths.specs.Copies.{CopiesAreNumbered, IsUnderWay}
 use Rattle.whole_paths.specs.DataAcksHeard.{IsToHear}
 use Rattle.whole_paths.specs.Finish.{AnEndDied, IsPathAt, is_harmed}
+use Rattle.whole_paths.specs.Mending.{IsSentSoon}
 use Rattle.whole_paths.specs.Mild.{EndsGoByMappings, EndsHaveKeys, HasKeys, IsMildStart, IsNeverBroken, LinkIsMild, is_harsh, treats_answer}
 use Rattle.whole_paths.specs.News.{one_if}
 use Rattle.whole_paths.specs.OnePathScripts.{BeginsWithOnePath}
@@ -87,12 +93,12 @@ use Rattle.whole_paths.specs.OpeningConfirmed.Confirms.{keys}
 use Rattle.whole_paths.specs.OpeningStates.{GoByTheHandshake, IsOfA}
 use Rattle.whole_paths.specs.OpeningStates.{IsOfA as of_a}
 use Rattle.whole_paths.specs.OpeningWaits.{IsAlive}
-use Rattle.whole_paths.specs.Owed.{AnswerComesSo, AnswerGoesOn, Covers, IsAnswer, IsAnswered, IsAnsweredSo, IsToRefuse}
+use Rattle.whole_paths.specs.Owed.{AnswerComesSo, AnswerGoesOn, Covers, IsAnswered, IsAnsweredSo, IsToRefuse}
 use Rattle.whole_paths.specs.Owed.{AnswerGoesOn as answer}
 use Rattle.whole_paths.specs.Owed.{IsToRefuse as refuse}
 use Rattle.whole_paths.specs.Owed.IsAnswered.{owes, flies}
 use Rattle.whole_paths.specs.EarlyCopies.{brings_octets, came_from, comes_early, counted_by, early_at, expiries_at, has_octets, may_send_at, octets_next}
-use Rattle.whole_paths.specs.QuietTexts.{MovesNoneOfA, NothingComesEarlyByText}
+use Rattle.whole_paths.specs.QuietTexts.{MovesNoneOfA, MovesNoneOfFirst, NothingComesEarlyByText, is_first}
 use Rattle.whole_paths.specs.Rising.{OpensBy}
 use Rattle.whole_paths.specs.Rising.{OpensBy as opens_by}
 use Rattle.whole_paths.specs.SentByTurns.{SentAtMost}
@@ -114,17 +120,20 @@ use Rattle.whole_paths.proofs.Flying.{SameClock, clock_lasts}
 use Rattle.whole_paths.proofs.Handshaking.{AllFar, Given, PathMet, each_met, given, never_joins, never_waits}
 use Rattle.whole_paths.proofs.KeysCome.{becomes_far, confirmed_then, turned}
 use Rattle.whole_paths.proofs.Keyed.{keys_are_known}
+use Rattle.whole_paths.proofs.Came.{quiet_link}
 use Rattle.whole_paths.proofs.Mild.{links_are_mild, mapping_is_kept}
+use Rattle.whole_paths.proofs.MildDeaths.{living_path}
 use Rattle.whole_paths.proofs.OpenClears.{becomes_fewer}
 use Rattle.whole_paths.proofs.OpenCourses.{IsFirstPath, each_first}
 use Rattle.whole_paths.proofs.OpeningConfirmed.{signs_are_said}
 use Rattle.whole_paths.proofs.OpeningEnds.{died_stays}
 use Rattle.whole_paths.proofs.OpeningKeys.{ack_options_are}
 use Rattle.whole_paths.proofs.OpeningStates.{ends_go_by_the_handshake}
+use Rattle.whole_paths.proofs.FewSyns.{syns_are_few}
 use Rattle.whole_paths.proofs.Owing.{Ahead, Ready, Sends, Stands, StandingMember, copies_are_answered, each_stands}
 use Rattle.whole_paths.proofs.Owing.{Ready as ready}
 use Rattle.whole_paths.proofs.Paying.{AnswersComeSo, GoesSo, answers_come_so}
-use Rattle.whole_paths.proofs.PlainQueues.{IsFirstOf, IsQueued, comes_first, first_found, first_leaves, queued_later, sent_by_b, step_queued}
+use Rattle.whole_paths.proofs.PlainQueues.{FirstStay, IsFirstOf, IsQueued, StandsAhead, ahead_later, ahead_of_all, ahead_sent, comes_first, first_found, first_leaves, goes_last_first, queued_later, sent_by_b, step_queued}
 use Rattle.whole_paths.proofs.Pushing.{adds_more, answered_next}
 use Rattle.whole_paths.proofs.Pieces.{is_event}
 use Rattle.whole_paths.proofs.Rising.{begins_dead, next_dead, takes_open}
@@ -181,6 +190,16 @@ located (g ∷ fs) bare (suc i) f there to third = by (same_side g.to B) refl (l
     by true is rest = inr (bare.each 0 g refl (one_side g.to B is), rest)
     by false is rest = rest
 
+-- and all up to it come no later than a segment of A's that goes now
+abbrev KeysAt : ℕ → LinkState Carried → Type 0
+KeysAt now link = StandsAhead IsThirdCopy IsBare (next_number A link) (now + link.delay) (going_to B link.under_way)
+
+keys_later : (now more : ℕ) (link : LinkState Carried) → now ≤ more → KeysAt now link → KeysAt more link
+keys_later now more link up h = ahead_later IsThirdCopy IsBare (next_number A link) (next_number A link) (now + link.delay) (more + link.delay) (going_to B link.under_way) (le_refl (next_number A link)) (omega (arith, up)) h
+
+keys_of_all : (now : ℕ) (link : LinkState Carried) → WereSentBefore (next_number A link) (now + link.delay) (going_to B link.under_way) → KeysAhead (going_to B link.under_way) → KeysAt now link
+keys_of_all now link sent h = ahead_of_all IsThirdCopy IsBare (next_number A link) (now + link.delay) (going_to B link.under_way) KeysAhead (λ none. none) (λ f fs held. held) sent h
+
 any_last : {X : Type 0} (test : X → Bool) (xs : List X) (x : X) → test x ≡ true → list_any test (xs ++ x ∷ []) ≡ true
 any_last test [] x is = ap (λ b. b || false) is
 any_last test (y ∷ xs) x is = elim (test y) as (λ b. b || list_any test (xs ++ x ∷ []) ≡ true) [ true ↦ refl | false ↦ any_last test xs x is ]
@@ -199,55 +218,62 @@ any_going test (f ∷ fs) is = by (same_side f.to B) (test f) refl (λ some. any
 
 -- what becomes of them
 data AheadStep (p q : PathState Carried) : Type 0 where
-  on : KeysAhead (going_to B q.link.under_way) → AheadStep p q
+  on : KeysAt q.clock q.link → AheadStep p q
   comes : (others : List Duty) → p.agenda ≡ duties.Step step_duties.Events ∷ others → (f : Flight Carried) (fs : List (Flight Carried)) → p.link.under_way ≡ f ∷ fs → f.to ≡ B → IsThirdCopy f
       → next_event p ≡ Some (happenings.Arrives (due_of f)) → AheadStep p q
   dies : is_dead q.a.tcp.state ≡ true → AheadStep p q
 
-further : (p q r : PathState Carried) → r.link ≡ q.link → DeadStays q r → AheadStep p q → AheadStep p r
-further p q r same still (on h) = on (subst (λ (l : LinkState Carried). KeysAhead (going_to B l.under_way)) (sym same) h)
-further p q r same still (comes others first f fs is to third next) = comes others first f fs is to third next
-further p q r same still (dies dead) = dies (still A dead)
+further : (p q r : PathState Carried) → r.link ≡ q.link → r.clock ≡ q.clock → DeadStays q r → AheadStep p q → AheadStep p r
+further p q r same clock still (on h) = on (subst (λ n. KeysAt n r.link) (sym clock) (subst (KeysAt q.clock) (sym same) h))
+further p q r same clock still (comes others first f fs is to third next) = comes others first f fs is to third next
+further p q r same clock still (dies dead) = dies (still A dead)
 
-module _ (d : Duty) (others : List Duty) (p q : PathState Carried) (agenda : p.agenda ≡ d ∷ others) (queued : IsQueued p.clock p.link) (h : KeysAhead (going_to B p.link.under_way)) where
-  abbrev Left : LinkState Carried → Type 0
-  Left l = KeysAhead (going_to B l.under_way)
+module _ (d : Duty) (others : List Duty) (p q : PathState Carried) (agenda : p.agenda ≡ d ∷ others) (queued : IsQueued p.clock p.link) (up : p.clock ≤ q.clock) (h : KeysAt p.clock p.link) where
+  on_then : KeysAt p.clock q.link → AheadStep p q
+  on_then more = on (keys_later p.clock q.clock q.link up more)
 
   step_ahead : LinkStep d values p q → AheadStep p q
-  step_ahead (stays is) = on (subst Left (sym is) h)
-  step_ahead (hands A carried size still is) = on (subst Left (sym is) (subst KeysAhead
-      (sym (sent_last (values.strips p.profile.spelling) (values.alters p.profile.spelling) A carried size p.clock p.link queued.lines queued.order queued.sent))
-      (one_behind (going_to B p.link.under_way) (plain_flight (values.strips p.profile.spelling) (values.alters p.profile.spelling) A carried p.clock p.link) h)))
-  step_ahead (hands B carried size still is) =
-      on (subst Left (sym is) (subst KeysAhead (sym (sent_by_b (values.strips p.profile.spelling) (values.alters p.profile.spelling) carried size p.clock p.link)) h))
+  step_ahead (stays is) = on_then (subst (KeysAt p.clock) (sym is) h)
+  step_ahead (hands A carried size still is) =
+      let l : LinkState Carried = after_send (values.strips p.profile.spelling) (values.alters p.profile.spelling) A carried size p.clock p.link in
+      on_then (subst (KeysAt p.clock) (sym is) (ahead_later IsThirdCopy IsBare (next_number A p.link) (next_number A l) (p.clock + p.link.delay) (p.clock + p.link.delay) (going_to B l.under_way) (counts_on p.link.from_a) (le_refl (p.clock + p.link.delay))
+      (ahead_sent IsThirdCopy IsBare (values.strips p.profile.spelling) (values.alters p.profile.spelling) carried size p.clock p.link queued.lines queued.order h)))
+  step_ahead (hands B carried size still is) = on_then (subst (KeysAt p.clock) (sym is)
+      (subst (StandsAhead IsThirdCopy IsBare (next_number A p.link) (p.clock + p.link.delay)) (sym (sent_by_b (values.strips p.profile.spelling) (values.alters p.profile.spelling) carried size p.clock p.link)) h))
   step_ahead (is_cut line next action is dead) = dies dead
-  step_ahead (delivers event due next is) = by (same_side x.first.to B) refl (subst (λ fs. KeysAhead (going_to B fs)) x.flights_are h)
+  step_ahead (delivers event due next is) = by (same_side x.first.to B) refl (subst (λ fs. StandsAhead IsThirdCopy IsBare (next_number A p.link) (p.clock + p.link.delay) (going_to B fs)) x.flights_are h)
     where
       x : IsFirstOf due p.link.under_way
       x = comes_first p due next
 
-      rest : KeysAhead (going_to B x.others) → AheadStep p q
-      rest more = on (subst Left (sym is) (subst (λ fs. KeysAhead (going_to B fs)) (sym (ap (λ e. (after_delivery e p.link).under_way) x.due_is ∙ first_leaves x.first x.others p.link x.flights_are)) more))
+      rest : StandsAhead IsThirdCopy IsBare (next_number A p.link) (p.clock + p.link.delay) (going_to B x.others) → AheadStep p q
+      rest more = on_then (subst (KeysAt p.clock) (sym is) (subst (λ fs. StandsAhead IsThirdCopy IsBare (next_number A p.link) (p.clock + p.link.delay) (going_to B fs))
+          (sym (ap (λ e. (after_delivery e p.link).under_way) x.due_is ∙ first_leaves x.first x.others p.link x.flights_are)) more))
 
-      by : (b : Bool) → same_side x.first.to B ≡ b → KeysAhead (cond b (x.first ∷ going_to B x.others) (going_to B x.others)) → AheadStep p q
-      by true to (inl third) = comes others (agenda ∙ ap (λ e. e ∷ others) event) x.first x.others x.flights_are (one_side x.first.to B to) third (next ∙ ap (λ e. Some (happenings.Arrives e)) x.due_is)
-      by true to (inr more) = rest more.1
+      by : (b : Bool) → same_side x.first.to B ≡ b
+          → StandsAhead IsThirdCopy IsBare (next_number A p.link) (p.clock + p.link.delay) (cond b (x.first ∷ going_to B x.others) (going_to B x.others)) → AheadStep p q
+      by true to held = ⊎_elim
+          (λ third. comes others (agenda ∙ ap (λ e. e ∷ others) event) x.first x.others x.flights_are (one_side x.first.to B to) third (next ∙ ap (λ e. Some (happenings.Arrives e)) x.due_is))
+          (λ more. rest more.1)
+          held.1
       by false to more = rest more
 
-takes_ahead : (r : Reply) (p : PathState Carried) → IsQueued p.clock p.link → KeysAhead (going_to B p.link.under_way) → AheadStep p (takes values r p)
+takes_ahead : (r : Reply) (p : PathState Carried) → IsQueued p.clock p.link → KeysAt p.clock p.link → AheadStep p (takes values r p)
 takes_ahead r p queued h = by p.agenda
   where
     by : (ds : List Duty) → AheadStep (with_agenda ds p) (takes values r (with_agenda ds p))
     by [] = on h
     by (d ∷ ds) =
         let x : PathState Carried = with_agenda (d ∷ ds) p in let y : PathState Carried = answered values d r x in
-        further x y (takes values r x) (settled_lasts LinkStays links_last y.agenda y) (settled_lasts DeadStays dead_last y.agenda y) (step_ahead d ds x y refl queued h (link_step values d r x))
+        further x y (takes values r x) (settled_lasts LinkStays links_last y.agenda y) (settled_lasts SameClock clock_lasts y.agenda y) (settled_lasts DeadStays dead_last y.agenda y)
+        (step_ahead d ds x y refl queued (answered_ticks values d r x).clock h (link_step values d r x))
 
-becomes_ahead : (p q : PathState Carried) → Becomes values p q → IsQueued p.clock p.link → KeysAhead (going_to B p.link.under_way) → AheadStep p q
-becomes_ahead p q Becomes.stays queued h = on h
-becomes_ahead p q (Becomes.takes_a_reply r) queued h = takes_ahead r p queued h
-becomes_ahead p q Becomes.begins_anew queued h =
-    on (subst (λ (l : LinkState Carried). KeysAhead (going_to B l.under_way)) (sym (begins_lasts LinkStays links_last (record p { clock = p.until; until = p.until + 100 }))) h)
+becomes_ahead : (p q : PathState Carried) → Becomes values p q → p.clock ≤ p.until → IsQueued p.clock p.link → KeysAt p.clock p.link → AheadStep p q
+becomes_ahead p q Becomes.stays up queued h = on h
+becomes_ahead p q (Becomes.takes_a_reply r) up queued h = takes_ahead r p queued h
+becomes_ahead p q Becomes.begins_anew up queued h =
+    let y : PathState Carried = record p { clock = p.until; until = p.until + 100 } in
+    on (subst (λ n. KeysAt n (next_round p).link) (sym (begins_lasts SameClock clock_lasts y)) (subst (KeysAt p.until) (sym (begins_lasts LinkStays links_last y)) (keys_later p.clock p.until p.link up h)))
 
 takes_queued : (r : Reply) (p : PathState Carried) → IsQueued p.clock p.link → let q = takes values r p in IsQueued q.clock q.link
 takes_queued r p h = by p.agenda
@@ -266,9 +292,9 @@ becomes_queued p q Becomes.begins_anew up h =
     let y : PathState Carried = record p { clock = p.until; until = p.until + 100 } in
     subst (λ n. IsQueued n (next_round p).link) (sym (begins_lasts SameClock clock_lasts y)) (subst (IsQueued p.until) (sym (begins_lasts LinkStays links_last y)) (queued_later p.clock p.until p.link up h))
 
--- no segment of A's is harmed
-sent_unharmed : (d : Duty) (p q : PathState Carried) → IsQueued p.clock p.link → LinkStep d values p q → is_harmed A p q ≡ false
-sent_unharmed d p q queued step = by step
+-- none of A's first eight segments is harmed
+sent_unharmed : (d : Duty) (p q : PathState Carried) → IsQueued p.clock p.link → next_number A p.link ≤ 8 → LinkStep d values p q → is_harmed A p q ≡ false
+sent_unharmed d p q queued low step = by step
   where
     none : segments_sent A q.link ≡ segments_sent A p.link → is_harmed A p q ≡ false
     none same = ap (λ b. b && not (list_any (λ (f : Flight Carried). same_side f.to B && (f.number == segments_sent A q.link && nat_le f.tick (p.clock + 400))) q.link.under_way))
@@ -293,28 +319,50 @@ sent_unharmed d p q queued step = by step
 
         flights : going_to B q.link.under_way ≡ going_to B p.link.under_way ++ f ∷ []
         flights = ap (λ (l : LinkState Carried). going_to B l.under_way) is
-            ∙ sent_last (values.strips p.profile.spelling) (values.alters p.profile.spelling) A carried size p.clock p.link queued.lines queued.order queued.sent
+            ∙ goes_last_first (values.strips p.profile.spelling) (values.alters p.profile.spelling) carried size p.clock p.link queued.lines low queued.order (queued.sent (omega (arith, low)))
 
         last : soon f ≡ true
         last = and_from (f.number == segments_sent A q.link) (nat_le f.tick (p.clock + 400)) (eq-eqb f.number (segments_sent A q.link) (sym (ap (λ (l : LinkState Carried). l.from_a) is)))
             (le-leb f.tick (p.clock + 400) (let short = queued.delay in omega (arith, short)))
 
-unharmed : (p q : PathState Carried) → Becomes values p q → IsQueued p.clock p.link → is_harmed A p q ≡ false
-unharmed p q becomes queued = by q becomes
+unharmed : (p q : PathState Carried) → Becomes values p q → IsQueued p.clock p.link → next_number A p.link ≤ 8 → is_harmed A p q ≡ false
+unharmed p q becomes queued low = by q becomes
   where
     same : (q : PathState Carried) → q.link ≡ p.link → is_harmed A p q ≡ false
-    same q is = sent_unharmed duties.End p q queued (stays is)
+    same q is = sent_unharmed duties.End p q queued low (stays is)
 
     takes_so : (r : Reply) (ds : List Duty) → is_harmed A (with_agenda ds p) (takes values r (with_agenda ds p)) ≡ false
     takes_so r [] = same p refl
     takes_so r (d ∷ ds) =
         let x : PathState Carried = with_agenda (d ∷ ds) p in let y : PathState Carried = answered values d r x in
-        subst (λ (l : LinkState Carried). is_harmed A x (record y { link = l }) ≡ false) (sym (settled_lasts LinkStays links_last y.agenda y)) (sent_unharmed d x y queued (link_step values d r x))
+        subst (λ (l : LinkState Carried). is_harmed A x (record y { link = l }) ≡ false) (sym (settled_lasts LinkStays links_last y.agenda y)) (sent_unharmed d x y queued low (link_step values d r x))
 
     by : (q : PathState Carried) → Becomes values p q → is_harmed A p q ≡ false
     by q Becomes.stays = same p refl
     by q (Becomes.takes_a_reply r) = takes_so r p.agenda
     by q Becomes.begins_anew = same (next_round p) (begins_lasts LinkStays links_last (record p { clock = p.until; until = p.until + 100 }))
+
+-- ---- how many A sends
+
+counted_step : {d : Duty} (p q : PathState Carried) → LinkStep d values p q → segments_sent A q.link ≤ suc (segments_sent A p.link)
+counted_step p q (stays is) = let same = ap (λ (l : LinkState Carried). l.from_a) is in omega (arith, same)
+counted_step p q (hands A carried size still is) = let same = ap (λ (l : LinkState Carried). l.from_a) is in omega (arith, same)
+counted_step p q (hands B carried size still is) = let same = ap (λ (l : LinkState Carried). l.from_a) is in omega (arith, same)
+counted_step p q (delivers event due next is) = let same = ap (λ (l : LinkState Carried). l.from_a) is in omega (arith, same)
+counted_step p q (is_cut line next action is dead) = let same = ap (λ (l : LinkState Carried). l.from_a) is in omega (arith, same)
+
+-- one more at most
+becomes_counted : (p q : PathState Carried) → Becomes values p q → segments_sent A q.link ≤ suc (segments_sent A p.link)
+becomes_counted p q Becomes.stays = omega arith
+becomes_counted p q (Becomes.takes_a_reply r) = by p.agenda
+  where
+    by : (ds : List Duty) → segments_sent A (takes values r (with_agenda ds p)).link ≤ suc (segments_sent A p.link)
+    by [] = omega arith
+    by (d ∷ ds) =
+        let x : PathState Carried = with_agenda (d ∷ ds) p in let y : PathState Carried = answered values d r x in
+        let same = ap (λ (l : LinkState Carried). l.from_a) (settled_lasts LinkStays links_last y.agenda y) in let step = counted_step x y (link_step values d r x) in omega (arith, same, step)
+becomes_counted p q Becomes.begins_anew =
+    let same = ap (λ (l : LinkState Carried). l.from_a) (begins_lasts LinkStays links_last (record p { clock = p.until; until = p.until + 100 })) in omega (arith, same)
 
 -- ---- SND.NXT of an end that owes an acknowledgement stays
 
@@ -347,6 +395,49 @@ becomes_same p q Becomes.stays stood living due = refl
 becomes_same p q (Becomes.takes_a_reply r) stood living due = takes_same r p stood living due
 becomes_same p q Becomes.begins_anew stood living due = begins_lasts Same same_last (record p { clock = p.until; until = p.until + 100 }) A
 
+-- and it sends none, or the first segment that it sends next
+data OwedLink (p q : PathState Carried) : Type 0 where
+  none_goes : segments_sent A q.link ≡ segments_sent A p.link → OwedLink p q
+  one_goes : (t : ToSend) → first_sends p.agenda p ≡ Some t → t.from ≡ A → q.link ≡ handed values A (segment_sent p t) p → OwedLink p q
+
+module _ (d : Duty) (ds : List Duty) (r : Reply) (p : PathState Carried) (other : is_event d ≡ false) where
+  abbrev before : PathState Carried
+  before = with_agenda (d ∷ ds) p
+
+  abbrev step : PathState Carried
+  step = answered values d r (with_agenda (d ∷ ds) p)
+
+  duty_owed : OwedLink (with_agenda (d ∷ ds) p) (takes values r (with_agenda (d ∷ ds) p))
+  duty_owed = by (first_sends (d ∷ ds) (with_agenda (d ∷ ds) p)) refl
+    where
+      hands_it : (t : ToSend) → first_sends (d ∷ ds) before ≡ Some t → Hands values before t
+      hands_it t is = subst (HandsOrTellsNone values before) is (each_segment_is_told values before)
+
+      by_side : (t : ToSend) → first_sends (d ∷ ds) before ≡ Some t → (s : Side) → t.from ≡ s → OwedLink before (takes values r before)
+      by_side t is A own = OwedLink.one_goes t is own (subst (λ s. (takes values r before).link ≡ handed values s (segment_sent before t) before) own ((hands_it t is).taken r))
+      by_side t is B own = OwedLink.none_goes (ap (λ (l : LinkState Carried). l.from_a) (subst (λ s. (takes values r before).link ≡ handed values s (segment_sent before t) before) own ((hands_it t is).taken r)))
+
+      by : (o : Option ToSend) → first_sends (d ∷ ds) before ≡ o → OwedLink before (takes values r before)
+      by None is = OwedLink.none_goes (ap (λ (l : LinkState Carried). l.from_a) (settled_lasts LinkStays links_last step.agenda step ∙ quiet_link values d r before other is))
+      by (Some t) is = by_side t is t.from refl
+
+takes_owed : (r : Reply) (p : PathState Carried) → Stands A p → is_dead p.a.tcp.state ≡ false → p.a.tcp.due.ack ≡ true → OwedLink p (takes values r p)
+takes_owed r p stood living due = by p.agenda stood
+  where
+    first : (d : Duty) (ds : List Duty) → Ahead A p.a (d ∷ ds) → Sends A p.a d ⊎ (is_silent d ≡ true)
+    first d ds h = ⊎_elim (λ is. inl is) (λ rest. inr rest.1.1.0) h
+
+    by : (ds : List Duty) → Ready A ds p.a → OwedLink (with_agenda ds p) (takes values r (with_agenda ds p))
+    by [] h = OwedLink.none_goes refl
+    by (d ∷ ds) (ready.is_dead_now gone) = absurd (both_ways (is_dead p.a.tcp.state) living gone)
+    by (d ∷ ds) (ready.is_quiet none) = absurd (both_ways p.a.tcp.due.ack none.ack due)
+    by (d ∷ ds) (ready.answers a) = duty_owed d ds r p (settles_first A p.a d (first d ds a)).0
+
+becomes_owed : (p q : PathState Carried) → Becomes values p q → Stands A p → is_dead p.a.tcp.state ≡ false → p.a.tcp.due.ack ≡ true → OwedLink p q
+becomes_owed p q Becomes.stays stood living due = OwedLink.none_goes refl
+becomes_owed p q (Becomes.takes_a_reply r) stood living due = takes_owed r p stood living due
+becomes_owed p q Becomes.begins_anew stood living due = OwedLink.none_goes (ap (λ (l : LinkState Carried). l.from_a) (begins_lasts LinkStays links_last (record p { clock = p.until; until = p.until + 100 })))
+
 -- that of an end before the handshake is done stays, too
 becomes_pushes : (p q : PathState Carried) → Becomes values p q → IsSettled p → Pushes A p q
 becomes_pushes p q Becomes.stays stood = inl refl
@@ -371,8 +462,8 @@ treats_none _ p t is sends = true≢false (sym is)
 data KeysFirst (p : PathState Carried) : Type 0 where
   confirmed : IsConfirmed B p → KeysFirst p
   opening : p.a.tcp.send.nxt ≤ 1 → stage p.a.tcp.state < 3 → KeysFirst p
-  owed : p.a.tcp.send.nxt ≤ 1 → 3 ≤ stage p.a.tcp.state → p.a.tcp.due.ack ≡ true → KeysFirst p
-  ahead : 3 ≤ stage p.a.tcp.state → KeysAhead (going_to B p.link.under_way) → KeysFirst p
+  owed : p.a.tcp.send.nxt ≤ 1 → 3 ≤ stage p.a.tcp.state → p.a.tcp.due.ack ≡ true → segments_sent A p.link ≤ 7 → KeysFirst p
+  ahead : 3 ≤ stage p.a.tcp.state → KeysAt p.clock p.link → KeysFirst p
 
 abbrev IsFew : PathState Carried → Type 0
 IsFew p = (s : Side) → segments_sent s p.link < 2 ^ 64 - 1
@@ -381,7 +472,8 @@ record GoKeysFirst (p : PathState Carried) : Type 0 where
   queued : IsQueued p.clock p.link
   keys_first : IsAlive p → IsFew p → KeysFirst p
 
-module _ (start : Start) (plan : PathPlan) (one : BeginsWithOnePath start plan) where
+module _ (start : Start) (plan : PathPlan) (one : BeginsWithOnePath start plan)
+    (syns : (turns : List Turn) (p : PathState Carried) → IsPathAt 0 (reached values start turns) p → IsAlive p → stage p.a.tcp.state ≤ 1 → segments_sent A p.link ≤ 6) where
   abbrev mild : IsMildStart start
   mild = one.mild
 
@@ -466,6 +558,14 @@ module _ (start : Start) (plan : PathPlan) (one : BeginsWithOnePath start plan) 
           by_key None has some = absurd (true≢false (sym some))
           by_key (Some key) has some = by_bare key has so
 
+      covers_third : (t : ToSend) → first_sends p.agenda p ≡ Some t → t.from ≡ A → p.a.tcp.due.ack ≡ true → (segment_sent p t).rst ≡ false → Covers 1 (segment_sent p t)
+      covers_third t sends own due unreset = by (subst (λ (o : Option ToSend). IfSome o (λ (u : ToSend). u.from ≡ A → IsBareAck p.profile A p.a (segment_sent p u))) sends
+          (of_p AcksGoFirst (copies_are_answered values start turns).first A (alive.living A) due) own)
+        where
+          by : IsBareAck p.profile A p.a (segment_sent p t) → Covers 1 (segment_sent p t)
+          by (bare_by.acks is) = record { up_to = p.a.tcp.recv.edge; acknowledged = ap (λ (y : PlainSegment). y.acknowledged) is; enough = known.edge A; rst = unreset }
+          by (bare_by.resets is) = absurd (both_ways (segment_sent p t).rst unreset is)
+
   -- ---- a turn
 
   module _ (turns : List Turn) (turn : Turn) (p q : PathState Carried) (here : IsPathAt 0 (reached values start turns) p) (there : IsPathAt 0 (reached values start (turns ++ turn ∷ [])) q) (becomes : Becomes values p q)
@@ -523,10 +623,20 @@ module _ (start : Start) (plan : PathPlan) (one : BeginsWithOnePath start plan) 
           counts : CopiesCount p q
           counts = by_turn PathsHear (each_copy_that_comes_counts w turn 2 here.crew here.there)
 
+          early : (x : EndPhase) → IsOfA x → stage x < 3 → stage x ≤ 1
+          early x (of_a.waiting is) under = let at = ap stage is in omega (arith, at)
+          early x (of_a.sent is) under = let at = ap stage is in omega (arith, at)
+          early x (of_a.past over) under = absurd (omega (arith, under, over))
+
+          few_yet : segments_sent A q.link ≤ 7
+          few_yet =
+              let before = syns turns p here was (early p.a.tcp.state (of_p turns p here (λ (x : PathState Carried). GoByTheHandshake x) (ends_go_by_the_handshake values start turns).each).a low) in
+              let more = becomes_counted p q becomes in omega (arith, before, more)
+
           accepted : (acked : ℕ) → IsTo values p c (judged.As (means.Accepts acked)) → KeysFirst q
           accepted acked is = ⊎_elim
               (λ same. absurd (let state = ap (λ (y : PathState Carried). stage y.a.tcp.state) same in omega (arith, low, high, state)))
-              (λ due. owed nxt high (subst (λ t. (end_at t q).tcp.due.ack ≡ true) to_a due))
+              (λ due. owed nxt high (subst (λ t. (end_at t q).tcp.due.ack ≡ true) to_a due) few_yet)
               (counts.acks c (means.Accepts acked) is refl (λ repeated. cc) (ap is_half_open (fits (means.Accepts acked) is).0))
 
           never_past : (x : EndPhase) → IsOfA x → stage x < 3 → is_past x ≡ true → ⊥
@@ -558,8 +668,8 @@ module _ (start : Start) (plan : PathPlan) (one : BeginsWithOnePath start plan) 
 
       -- ---- A owes an acknowledgement
 
-      owed_goes : p.b.modes.clear ≡ false → p.a.tcp.send.nxt ≤ 1 → 3 ≤ stage p.a.tcp.state → p.a.tcp.due.ack ≡ true → KeysFirst q
-      owed_goes unsure nxt past due = by go.0 go.1
+      owed_goes : p.b.modes.clear ≡ false → p.a.tcp.send.nxt ≤ 1 → 3 ≤ stage p.a.tcp.state → p.a.tcp.due.ack ≡ true → segments_sent A p.link ≤ 7 → KeysFirst q
+      owed_goes unsure nxt past due sent_few = by_link (becomes_owed p q becomes stood (was.living A) due)
         where
           stood : Stands A p
           stood = (subst StandingMember here.is ((each_stands values start turns).each 2 here.crew here.there)) A
@@ -569,6 +679,56 @@ module _ (start : Start) (plan : PathPlan) (one : BeginsWithOnePath start plan) 
 
           high : 3 ≤ stage q.a.tcp.state
           high = let more = up in omega (arith, more, past)
+
+          not_harmed : is_harmed A p q ≡ false
+          not_harmed = unharmed p q becomes queued (omega (arith, sent_few))
+
+          sent_so : WereSentBefore (next_number A q.link) (q.clock + q.link.delay) (going_to B q.link.under_way)
+          sent_so = (becomes_queued p q becomes (let soon = (near turns p here).clock in omega (arith, soon)) queued).sent (let more = becomes_counted p q becomes in omega (arith, more, sent_few))
+
+          third_ahead : (f : Flight Carried) → IsUnderWay f q → f.to ≡ B → IsThirdCopy f → KeysFirst q
+          third_ahead f way to third = ahead high (keys_of_all q.clock q.link sent_so (located q.link.under_way (bare (turns ++ turn ∷ []) q there less) way.at f (way.there ∙ ap Some way.holds) to third))
+
+          -- what the link makes of such a segment
+          third_copy : (f : Flight Carried) (x : PlainSegment) (stripped altered : Bool) → (StripsNothing q.link.lines → stripped ≡ false) → (AltersNothing q.link.lines → altered ≡ false) → (c : Profile)
+              → f.carried ≡ changed (values.strips c.spelling A) (values.alters c.spelling A) stripped altered (values.makes c.spelling A x) → f.carried ≡ values.makes c.spelling A x
+          third_copy f x stripped altered whole plain c carried =
+              let mild_link = link (turns ++ turn ∷ []) q there in
+              carried
+              ∙ ap (λ b. changed (values.strips c.spelling A) (values.alters c.spelling A) b altered (values.makes c.spelling A x)) (whole mild_link.strips)
+              ∙ ap (λ b. changed (values.strips c.spelling A) (values.alters c.spelling A) false b (values.makes c.spelling A x)) (plain mild_link.alters)
+
+          third_of : (f : Flight Carried) (x : PlainSegment) (c : Profile) → f.carried ≡ values.makes c.spelling A x → IsThird x → Covers 1 x → IsThirdCopy f
+          third_of f x c carried third covers = record {
+            unstripped = ap (λ (y : Carried). y.stripped) carried;
+            third = subst IsThird (sym (ap (λ (y : Carried). y.segment) carried)) third;
+            covers = subst (Covers 1) (sym (ap (λ (y : Carried). y.segment) carried)) covers;
+          }
+
+          -- ---- it goes
+
+          sent_now : (t : ToSend) → first_sends p.agenda p ≡ Some t → t.from ≡ A → q.link ≡ handed values A (segment_sent p t) p → KeysFirst q
+          sent_now t is own taken = ⊎_elim
+              (λ harmed. absurd (both_ways (is_harmed A p q) not_harmed harmed))
+              flying_now
+              ((what_is_sent_comes_soon values).comes p q (of_p turns p here CopiesAreNumbered ((what_is_sent_comes_soon values).numbered start turns).each) A (segment_sent p t) (few A) taken)
+            where
+              lines_same : q.link.lines ≡ p.link.lines
+              lines_same = ap (λ (l : LinkState Carried). l.lines) taken
+
+              flying_now : IsSentSoon values A (segment_sent p t) p q → KeysFirst q
+              flying_now h = by (segment_sent p t).rst refl
+                where
+                  carried : h.copy.carried ≡ values.makes p.profile.spelling A (segment_sent p t)
+                  carried = third_copy h.copy (segment_sent p t) h.stripped h.altered (λ strips. h.whole (subst StripsNothing lines_same strips)) (λ alters. h.plain (subst AltersNothing lines_same alters)) p.profile h.carried
+
+                  by : (b : Bool) → (segment_sent p t).rst ≡ b → KeysFirst q
+                  by true rst = absurd (both_ways h.copy.carried.segment.rst
+                      (subst (λ (f : Flight Carried). f.carried.segment.rst ≡ false) h.there.holds ((living_path start (turns ++ turn ∷ []) mild q there alive.living).copies.each h.there.at h.there.item h.there.there))
+                      (ap (λ (y : Carried). y.segment.rst) carried ∙ rst))
+                  by false unreset = third_ahead h.copy h.there h.to (third_of h.copy (segment_sent p t) p.profile carried (goes_third turns p here was unsure nxt past t is own due unreset) (covers_third turns p here was unsure t is own due unreset))
+
+          -- ---- it is owed still
 
           answers : AnswersComeSo IsThird values (Path p) (Path q)
           answers = by_turn (AnswersComeSo IsThird values)
@@ -580,21 +740,10 @@ module _ (start : Start) (plan : PathPlan) (one : BeginsWithOnePath start plan) 
           go : (go : AnswerGoesOn values A 1 (p.clock + 400) p q) × AnswerComesSo IsThird go
           go = answers A 1 (p.clock + 400) (few A) (goes_third turns p here was unsure nxt past) owed_now tt
 
-          third_copy : (f : Flight Carried) → IsAnswer values A 1 q f → (x : PlainSegment) → IsThird x → f.carried.stripped ≡ false → f.carried.segment ≡ x → Covers 1 x → IsThirdCopy f
-          third_copy f h x third unstripped same covers = record { unstripped = unstripped; third = subst IsThird (sym same) third; covers = subst (Covers 1) (sym same) covers }
-
-          flying : (f : Flight Carried) → IsUnderWay f q → (h : IsAnswer values A 1 q f) → IsThird h.segment → KeysFirst q
-          flying f way h third =
-              let mild_link = link (turns ++ turn ∷ []) q there in
-              let carried : f.carried ≡ values.makes q.profile.spelling A h.segment = h.carried
-              ∙ ap (λ b. changed (values.strips q.profile.spelling A) (values.alters q.profile.spelling A) b h.altered (values.makes q.profile.spelling A h.segment)) (h.whole mild_link.strips)
-              ∙ ap (λ b. changed (values.strips q.profile.spelling A) (values.alters q.profile.spelling A) false b (values.makes q.profile.spelling A h.segment)) (h.plain mild_link.alters) in
-              let third_is = third_copy f h h.segment third (ap (λ (c : Carried). c.stripped) carried) (ap (λ (c : Carried). c.segment) carried) h.covers in
-              ahead high (located q.link.under_way (bare (turns ++ turn ∷ []) q there less) way.at f (way.there ∙ ap Some way.holds) h.to third_is)
-
-          answered_still : (h : IsAnswered values A 1 (p.clock + 400) q) → IsAnsweredSo IsThird h → KeysFirst q
-          answered_still (owes low begun came due_still) so = owed less high due_still
-          answered_still (flies f low way h) so = flying f way h so
+          answered_still : segments_sent A q.link ≤ 7 → (h : IsAnswered values A 1 (p.clock + 400) q) → IsAnsweredSo IsThird h → KeysFirst q
+          answered_still few_still (owes low begun came due_still) so = owed less high due_still few_still
+          answered_still few_still (flies f low way h) so =
+              third_ahead f way h.to (third_of f h.segment q.profile (third_copy f h.segment h.stripped h.altered h.whole h.plain q.profile h.carried) so h.covers)
 
           never_refused : IsToRefuse A p.agenda → ⊥
           never_refused (refuse.refuses others is) = true≢false (sym (ap (λ ds. list_any is_harsh ds) is)
@@ -602,14 +751,18 @@ module _ (start : Start) (plan : PathPlan) (one : BeginsWithOnePath start plan) 
           never_refused (refuse.answers others is) = never_refuses p A ((of_p turns p here (λ (x : PathState Carried). is_joined x.profile ≡ false → AllClear x.agenda x) (each_clears values start turns).each) (first_path turns p here).first)
               (was.living A) others is
 
-          by : (go : AnswerGoesOn values A 1 (p.clock + 400) p q) → AnswerComesSo IsThird go → KeysFirst q
-          by (answer.on h) so = answered_still h so
-          by (answer.arrives f low way h others first next) so = absurd (both_ways p.a.tcp.due.ack
+          by : segments_sent A q.link ≤ 7 → (go : AnswerGoesOn values A 1 (p.clock + 400) p q) → AnswerComesSo IsThird go → KeysFirst q
+          by few_still (answer.on h) so = answered_still few_still h so
+          by few_still (answer.arrives f low way h others first next) so = absurd (both_ways p.a.tcp.due.ack
               ((of_p turns p here HasAnswered (copies_are_answered values start turns).each) (done.next others first) A (was.living A)).ack due)
-          by (answer.harmed is) so = absurd (both_ways (is_harmed A p q) (unharmed p q becomes queued) is)
-          by (answer.resets is) so = absurd (never_refused is)
-          by (answer.gone dead) so = absurd (both_ways (is_dead q.a.tcp.state) (alive.living A) dead)
-          by (answer.dies line next is dead) so = absurd (both_ways (is_dead q.a.tcp.state) (alive.living A) dead)
+          by few_still (answer.harmed is) so = absurd (both_ways (is_harmed A p q) not_harmed is)
+          by few_still (answer.resets is) so = absurd (never_refused is)
+          by few_still (answer.gone dead) so = absurd (both_ways (is_dead q.a.tcp.state) (alive.living A) dead)
+          by few_still (answer.dies line next is dead) so = absurd (both_ways (is_dead q.a.tcp.state) (alive.living A) dead)
+
+          by_link : OwedLink p q → KeysFirst q
+          by_link (OwedLink.none_goes count) = by (omega (arith, count, sent_few)) go.0 go.1
+          by_link (OwedLink.one_goes t is own taken) = sent_now t is own taken
 
       -- ---- the copy comes that shows both keys
 
@@ -678,8 +831,8 @@ module _ (start : Start) (plan : PathPlan) (one : BeginsWithOnePath start plan) 
             (λ told. confirmed_on (subst (λ t. ConfirmedOn t (turned start plan one.one mild turns turn p q here there becomes alive).steps q) to told))
             ((turned start plan one.one mild turns turn p q here there becomes alive).confirming.tells brings 0 (says.Keys third.third.other third.third.own) (keys third.third.other third.third.own) item)
 
-      ahead_goes : p.b.modes.clear ≡ false → 3 ≤ stage p.a.tcp.state → KeysAhead (going_to B p.link.under_way) → KeysFirst q
-      ahead_goes unsure past h = by (becomes_ahead p q becomes queued h)
+      ahead_goes : p.b.modes.clear ≡ false → 3 ≤ stage p.a.tcp.state → KeysAt p.clock p.link → KeysFirst q
+      ahead_goes unsure past h = by (becomes_ahead p q becomes (let soon = (near turns p here).clock in omega (arith, soon)) queued h)
         where
           by : AheadStep p q → KeysFirst q
           by (on more) = ahead (let more_up = up in omega (arith, more_up, past)) more
@@ -689,27 +842,27 @@ module _ (start : Start) (plan : PathPlan) (one : BeginsWithOnePath start plan) 
       goes : KeysFirst p → KeysFirst q
       goes (confirmed h) = confirmed_on ((turned start plan one.one mild turns turn p q here there becomes alive).confirming.stays B h)
       goes (opening nxt low) = opening_goes nxt low
-      goes (owed nxt past due) = if_unsure (λ unsure. owed_goes unsure nxt past due)
+      goes (owed nxt past due sent_few) = if_unsure (λ unsure. owed_goes unsure nxt past due sent_few)
       goes (ahead past h) = if_unsure (λ unsure. ahead_goes unsure past h)
 
   -- ---- always
 
-  module _ (short : plan.delay ≤ 400) (none : MovesNoneOfA start.lines) where
-    unmoved : (lines : List ScriptLine) → list_all (λ line. not (moves A line)) lines ≡ true → AllByRecursion (λ line. moves A line ≡ false) (lines_of 0 lines)
+  module _ (short : plan.delay ≤ 400) (none : MovesNoneOfFirst 8 start.lines) where
+    unmoved : (lines : List ScriptLine) → list_all (λ line. not (moves A line && is_first 8 line)) lines ≡ true → FirstStay (lines_of 0 lines)
     unmoved [] all = tt
     unmoved (line ∷ lines) all = by (is_path 0 (path_named line)) (unmoved lines parts.1)
       where
-        parts : (not (moves A line) ≡ true) × (list_all (λ other. not (moves A other)) lines ≡ true)
-        parts = and_parts (not (moves A line)) (list_all (λ other. not (moves A other)) lines) all
+        parts : (not (moves A line && is_first 8 line) ≡ true) × (list_all (λ other. not (moves A other && is_first 8 other)) lines ≡ true)
+        parts = and_parts (not (moves A line && is_first 8 line)) (list_all (λ other. not (moves A other && is_first 8 other)) lines) all
 
-        by : (b : Bool) → AllByRecursion (λ other. moves A other ≡ false) (lines_of 0 lines) → AllByRecursion (λ other. moves A other ≡ false) (if b then line ∷ lines_of 0 lines else lines_of 0 lines)
-        by true rest = (not-true (moves A line) parts.0, rest)
+        by : (b : Bool) → FirstStay (lines_of 0 lines) → FirstStay (if b then line ∷ lines_of 0 lines else lines_of 0 lines)
+        by true rest = (not-true (moves A line && is_first 8 line) parts.0, rest)
         by false rest = rest
 
     first_moment : GoKeysFirst (begins_turn (waiting_path {C = Carried} (path_begins start 0 plan) start.lines))
     first_moment = record {
       queued = subst (λ n. IsQueued n (begins_turn p).link) (sym (begins_lasts SameClock clock_lasts p)) (subst (IsQueued 0) (sym (begins_lasts LinkStays links_last p))
-          (record { lines = unmoved start.lines none; order = tt; sent = tt; delay = short }));
+          (record { lines = unmoved start.lines none; order = tt; sent = λ few. tt; delay = short }));
       keys_first = λ alive few. opening (let same = begins_lasts Same same_last p A in omega (arith, same)) (⊎_elim (λ low. low)
           (λ high. absurd (both_ways (is_dead (begins_turn p).a.tcp.state) (alive.living A) (begins_dead 3 (omega arith) (omega arith) values A p (omega arith) high))) (cases_lt (stage (begins_turn p).a.tcp.state) 3));
     }
@@ -773,13 +926,13 @@ module _ (start : Start) (plan : PathPlan) (one : BeginsWithOnePath start plan) 
           by_keys unsure (confirmed (sure.by_dss own h)) = absurd (apart (sym own))
           by_keys unsure (confirmed (sure.by_keys own other told h)) = none_next p.agenda p.b.treated.items p own other h
           by_keys unsure (opening nxt low) = none_brought (λ f fs is to. (bare turns p here nxt).each 0 f (ap (λ gs. slice_get gs 0) is) to)
-          by_keys unsure (owed nxt past due) = none_brought (λ f fs is to. (bare turns p here nxt).each 0 f (ap (λ gs. slice_get gs 0) is) to)
+          by_keys unsure (owed nxt past due sent_few) = none_brought (λ f fs is to. (bare turns p here nxt).each 0 f (ap (λ gs. slice_get gs 0) is) to)
           by_keys unsure (ahead past h) = none_brought (λ f fs is to. first_bare f (going_to B fs)
-              (subst (λ s. KeysAhead (cond (same_side s B) (f ∷ going_to B fs) (going_to B fs))) to (subst (λ gs. KeysAhead (going_to B gs)) is h)))
+              (subst (λ s. StandsAhead IsThirdCopy IsBare (next_number A p.link) (p.clock + p.link.delay) (cond (same_side s B) (f ∷ going_to B fs) (going_to B fs))) to
+              (subst (λ gs. StandsAhead IsThirdCopy IsBare (next_number A p.link) (p.clock + p.link.delay) (going_to B gs)) is h)))
             where
-              first_bare : (f : Flight Carried) (fs : List (Flight Carried)) → KeysAhead (f ∷ fs) → IsBare f
-              first_bare f fs (inl third) = third.third.bare
-              first_bare f fs (inr more) = more.0
+              first_bare : (f : Flight Carried) (fs : List (Flight Carried)) → StandsAhead IsThirdCopy IsBare (next_number A p.link) (p.clock + p.link.delay) (f ∷ fs) → IsBare f
+              first_bare f fs held = ⊎_elim (λ third. third.third.bare) (λ more. more.0) held.1
 
     early_none : (turns : List Turn) → length turns < 2 ^ 64 - 1 → ((p : PathState Carried) → IsPathAt 0 (reached values start turns) p → IsAlive p)
         → may_send_at (slice_get (reached values start turns).crew 2) ≡ false → early_at (slice_get (reached values start turns).crew 2) ≡ false
@@ -831,5 +984,18 @@ module _ (start : Start) (plan : PathPlan) (one : BeginsWithOnePath start plan) 
             ap (λ n. came_from n more (after_turn values turn w)) (none_counted w (after_turn values turn w) (early_none before (let sum = length-append before (turn ∷ more) in omega (arith, sum, few)) alive unsure))
             ∙ subst (λ (u : WorldState Carried). came_from 0 more u ≡ 0) (run_append values before (turn ∷ []) (opened_world start)) rest
 
+-- where none of A's first segments but so few are SYNs
+pub nothing_comes_early_so : ((start : Start) (plan : PathPlan) (turns : List Turn) → BeginsWithOnePath start plan → (p : PathState Carried) → IsPathAt 0 (reached values start turns) p → IsAlive p
+    → stage p.a.tcp.state ≤ 1 → segments_sent A p.link ≤ 6) → NothingComesEarlyByText
+nothing_comes_early_so syns start plan turns one short none few living =
+    none_lost_early start turns (some_none start plan one (λ turns p here alive low. syns start plan turns one p here alive low) short none [] turns few living)
+
 pub nothing_comes_early_by_text : NothingComesEarlyByText
-nothing_comes_early_by_text start plan turns one short none few living = none_lost_early start turns (some_none start plan one short none [] turns few living)
+nothing_comes_early_by_text = nothing_comes_early_so syns_are_few
+
+-- where no line moves a segment of A's none moves one of its first
+pub none_of_first : (lines : List ScriptLine) → MovesNoneOfA lines → MovesNoneOfFirst 8 lines
+none_of_first [] none = refl
+none_of_first (line ∷ lines) none =
+    let parts = and_parts (not (moves A line)) (list_all (λ other. not (moves A other)) lines) none in
+    ap (λ b. not (b && is_first 8 line) && list_all (λ other. not (moves A other && is_first 8 other)) lines) (not-true (moves A line) parts.0) ∙ none_of_first lines parts.1

@@ -35,7 +35,7 @@ use Rattle.path_core.specs.State.{PathState, end_at, path_of, with_agenda}
 use Rattle.path_core.specs.Steps.{asks_first, asks_of, next_round, takes}
 use Rattle.path_core.specs.Values.{Carried, values}
 use Rattle.world_laws.specs.declared.member.Member.TheVariants.{Path}
-use Rattle.world_laws.specs.Actors.{Actor, ActorCrew}
+use Rattle.world_laws.specs.Actors.{ActorCrew}
 use Rattle.world_laws.specs.Openings.{PathPlan, Start, opened_world, path_begins}
 use Rattle.world_laws.specs.Promises.{written_by}
 use Rattle.world_laws.specs.RoundDone.{reached}
@@ -44,7 +44,7 @@ use Rattle.world_laws.specs.Worlds.{Turn, WorldState, after_turn}
 use Rattle.world_laws.proofs.Rounds.Lifting.{opened_lifted}
 use Rattle.world_laws.proofs.Weaving.WholeRounds.{run_append}
 use Rattle.world_laws.proofs.Writes.Steps.{begins_lasts, settled_lasts}
-use Rattle.whole_paths.specs.Between.{EachPathBetween, PathsBetween}
+use Rattle.whole_paths.specs.Between.{EachPathBetween}
 use Rattle.whole_paths.specs.Finish.{IsPathAt}
 use Rattle.whole_paths.specs.Halted.{ShutUntilGranted}
 use Rattle.whole_paths.specs.Mild.{IsMildStart}
@@ -58,6 +58,7 @@ use Rattle.whole_paths.proofs.Halting.{Known, known_at, piece_len}
 use Rattle.whole_paths.proofs.KnownWindows.{SameShut, peer_granted, shut_last, shut_same, unsent_same}
 use Rattle.whole_paths.proofs.OnlyBooks.{Refusal, refusal}
 use Rattle.whole_paths.proofs.OnlyBooks.Refusal.{by_window, by_standby, by_stop, by_spent}
+use Rattle.whole_paths.proofs.PathTurns.{at_turn}
 use Rattle.whole_paths.proofs.PositionCounts.{paths_took_what_they_sent, positions_count_bytes, spent_taken}
 use Rattle.whole_paths.proofs.Pushing.{AllStay, answered_next, event_next, unsent_next}
 use Rattle.whole_paths.proofs.Turns.{paths_between}
@@ -264,14 +265,7 @@ module _ (start : Start) (plan : PathPlan) (one : start.paths ≡ plan ∷ []) (
     left = let few = (counts turns p here s).taken in let low = unsent_yet in omega (arith, few, low)
 
     turn_on : ShutOn s (books_in (reached values start turns).books) p q
-    turn_on =
-        let old : WorldState Carried = reached values start turns in
-        let found = paths_on old turn 2 here.crew here.there in
-        let crew : found.0 ≡ there.crew = same_Some found.0 there.crew (sym found.1 ∙ subst (λ (u : WorldState Carried). slice_get u.crew 2 ≡ Some there.crew) (same turns turn p q here there s) there.there) in
-        let far : PathsBetween EachShut old.books (after_turn values turn old).books there.crew.list here.crew.member there.crew.member
-        = subst (λ (d : ActorCrew Carried). PathsBetween EachShut old.books (after_turn values turn old).books d.list here.crew.member d.member) crew found.2 in
-        subst (λ m. PathsBetween EachShut old.books (after_turn values turn old).books there.crew.list (Path p) m) there.is
-        (subst (λ m. PathsBetween EachShut old.books (after_turn values turn old).books there.crew.list m there.crew.member) here.is far) s
+    turn_on = at_turn start turns turn p q here there EachShut paths_on s
 
     by_refusal : (why : Why) → Refusal b b (end_at s p).modes.standby why → (end_at s q).sending.shut ≡ is_shut why → Stays
     by_refusal why (by_window is all more) shut = inl (shut ∙ ap is_shut is)

@@ -68,7 +68,7 @@ module _ {C : Type 0} (k : Codec C) (w : WorldState C) (more : List Turn) where
   later = world_run k more w
 
   -- isn't whole
-  dead_not_whole : AnEndDied 0 w → IsWhole 0 later → ⊥
+  pub dead_not_whole : AnEndDied 0 w → IsWhole 0 later → ⊥
   dead_not_whole died whole =
       let found = (goes_on_so k w more).crew 2 died.here.crew died.here.there in
       let same : found.0 ≡ whole.here.crew = same_Some found.0 whole.here.crew (sym found.1 ∙ whole.here.there) in

@@ -35,7 +35,7 @@ abbrev pub brings_octets : Option Event → PathState Carried → Bool
 brings_octets (Some (happenings.Arrives due)) p = same_side due.to B && has_octets (heard_in values due.to (arriving due p.link) p)
 brings_octets _ p = false
 
--- it comes next
+-- such a copy comes next
 abbrev pub octets_next : List Duty → PathState Carried → Bool
 octets_next (duties.Step step_duties.Events ∷ others) p = brings_octets (next_event p) p
 octets_next _ p = false
@@ -58,7 +58,8 @@ abbrev pub may_send_at : Option (ActorCrew Carried) → Bool
 may_send_at (Some c) = of_kind (λ app. false) (λ p. p.b.modes.clear) c.member
 may_send_at None = false
 
--- So many came until a turn, which may bring one more. Where A's timer runs out by it each record but the first is sent again: one counts then at most.
+-- Of so many that came until a turn, with one more where one comes by it. Where A's timer runs out by the turn each record but the first is sent
+-- again: one counts then at most.
 abbrev pub counted_by : ℕ → WorldState Carried → WorldState Carried → ℕ
 counted_by n w v = let more = n + one_if (early_at (slice_get w.crew 2)) in
     if nat_lt (expiries_at (slice_get w.crew 2)) (expiries_at (slice_get v.crew 2)) then min more 1 else more

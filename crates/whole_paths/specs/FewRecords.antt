@@ -23,7 +23,7 @@ use Rattle.whole_paths.specs.OpeningWaits.{IsAlive}
 abbrev pub IsFull : Profile → ℕ → Record → Type 0
 IsFull c size r = (r.pos ≡ 0) ⊎ ((r.pos + payload_size c ≤ end_of r) ⊎ (size < end_of r))
 
--- So is each record of an end that sent no FIN, as long as both ends live, of a side whose file fits.
+-- Each record of an end that sent no FIN is full, as long as both ends live, of a side whose file fits.
 abbrev pub RecordsAreFull : Type 0
 RecordsAreFull = (start : Start) (plan : PathPlan) (turns : List Turn) (s : Side) → BeginsWithOnePath start plan → FitsFirstWindow start s
     → (p : PathState Carried) → IsPathAt 0 (reached values start turns) p → IsAlive p → (end_at s p).tcp.send.finished ≡ false

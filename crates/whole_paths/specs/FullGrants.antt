@@ -27,7 +27,7 @@ pub record HoldsAFullPiece (c : Profile) (b : Sending) (from : ℕ) (e : PathEnd
   pub pos : piece.pos ≡ from
   pub last : e.tcp.send.nxt ≡ end_of piece
   pub full : (from + payload_size c ≤ end_of piece) ⊎ (min (length b.written) b.edge < end_of piece)
-  -- it holds of what is written
+  -- all of its bytes are written
   pub part : length piece.piece ≤ length b.written
 
 -- On the only path of a mild connection, by any turn: SND.NXT of an end that sent no FIN stays, or such a record begins where it was.

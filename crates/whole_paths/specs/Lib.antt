@@ -155,6 +155,7 @@ pub mod WindowKinds
 pub mod WindowsHeld
 pub mod CalmWindows
 pub mod ToldRounds
+pub mod FewSyns
 pub mod ToldSince
 pub mod QuietOpenings
 pub mod ShortWaits
@@ -198,3 +199,7 @@ pub mod Serving
 pub mod Backups
 pub mod ManyWaits
 pub mod ManyGoingOn
+pub mod ManyCourses
+pub mod ManyCourses
+pub mod ManyGoingOn
+pub mod ManyPaths

@@ -2,6 +2,8 @@
 ghost use Rattle.path_core.specs.Octets.{octets};
 ghost use Rattle.path_core.specs.Values.{values};
 ghost use Rattle.whole_paths.specs.EdgeStands.{NothingIsTriedPastTheEdge, ShutEndsStayShut};
+ghost use Rattle.whole_paths.specs.ManyCourses.{ManyPathsBringAll, ManyPathsDeliver, ServingPathsDeliver};
+ghost use Rattle.whole_paths.specs.ManyPaths.{FirstPathsDeliver};
 ghost use Rattle.whole_paths.specs.ManyWaits.{EachMissingByteIsWaitedFor};
 ghost use Rattle.whole_paths.specs.Wanted.{WhatIsWantedIsTold};
 ghost use Rattle.whole_paths.specs.WindowWaits.{ShutEndsAreAwaited};
@@ -41,4 +43,26 @@ pub fn shut_ends_are_awaited()
 /// the path doesn't stand by. The wait is for a minute and 800 ticks. What is counted is what is over one path, and what became of the bytes of each stream.
 pub fn each_missing_byte_is_waited_for()
     ensures { EachMissingByteIsWaitedFor }
+{}
+
+/// A law: from where path 0 of a mild connection is whole to where it still is, all of both streams is there, with rounds enough, whatever becomes of any
+/// number of other paths (RFC 8684, section 3.3.2).
+///
+/// Path 0 is never on standby, and buffers have 32 bytes at least. There are rounds enough for all that can be counted: what is over one path, each byte of
+/// a file once more, and twice for each path; and for each segment of path 0 that is harmed. With three rounds more both files are delivered
+/// (`delivers`); so they are where its ends stand by at no moment (`serving`).
+pub fn many_paths_bring_all()
+    ensures brings { ManyPathsBringAll }
+    ensures delivers { ManyPathsDeliver }
+    ensures serving { ServingPathsDeliver }
+{}
+
+/// A law: once path 0 is whole at the end of a round, and still whole when rounds enough have ended, both files are delivered, whatever becomes of any number
+/// of other paths (RFC 8684, section 3.3.2).
+///
+/// It is said of mild scripts: other paths lose, join, die, stand by or are announced as they like. Path 0 stands by at neither end at any moment. There are
+/// rounds enough for all that can be counted over all paths, and for each segment of path 0 that is harmed: far more than a run takes.
+pub fn first_paths_deliver()
+    ensures octets { FirstPathsDeliver octets }
+    ensures values { FirstPathsDeliver values }
 {}

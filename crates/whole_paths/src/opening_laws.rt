@@ -9,6 +9,7 @@ ghost use Rattle.whole_paths.specs.FewRecords.{OpensOwingSegments, RecordsAreFul
 ghost use Rattle.whole_paths.specs.FirstPiecesSoon.{EachFirstPieceComesSoon};
 ghost use Rattle.whole_paths.specs.OnePathScripts.{NeverFalls};
 ghost use Rattle.whole_paths.specs.QuietOpenings.{OpensOwingFew, lost_early};
+ghost use Rattle.whole_paths.specs.FewSyns.{SynsAreFew};
 ghost use Rattle.whole_paths.specs.QuietTexts.{NothingComesEarlyByText};
 ghost use Rattle.whole_paths.specs.SignPieces.{EachSignPieceComes};
 ghost use Rattle.whole_paths.specs.SynsSoon.{EachSynComesSoon};
@@ -97,11 +98,20 @@ pub fn records_are_full()
     ensures owing { OpensOwingSegments }
 {}
 
-/// A law: where no line of the script moves a segment of A's, none with octets comes to B's end before that may send a DSS, over the only path of a
-/// mild connection (RFC 8684, section 3.1).
+/// A law: where no line of the script moves one of A's first eight segments, none with octets comes to B's end before that may send a DSS, over the
+/// only path of a mild connection (RFC 8684, section 3.1).
 ///
-/// A's copies come in the order in which they were sent. The first one that acknowledges B's SYN has no octet, and shows both keys. It is said of fewer
-/// than 2^64 - 1 turns by which no end died, over a path of 400 ticks at most.
+/// These come in the order in which they were sent, and no later one comes before. The first one that acknowledges B's SYN is among them
+/// (`syns_are_few`), has no octet, and shows both keys. It is said of fewer than 2^64 - 1 turns by which no end died, over a path of 400 ticks at
+/// most.
 pub fn nothing_comes_early_by_text()
     ensures { NothingComesEarlyByText }
+{}
+
+/// A law: as long as A's end of the only path of a mild connection opens it sends six segments at most: its SYN, and that again for each of five
+/// expiries in a row (RFC 9293, section 3.8.3; RFC 6298, section 5).
+///
+/// Neither end is dead: the sixth expiry in a row would end A's.
+pub fn syns_are_few()
+    ensures { SynsAreFew }
 {}

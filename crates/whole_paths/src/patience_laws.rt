@@ -41,14 +41,15 @@ pub fn patient_texts_deliver()
     ensures values { PatientTextEnds values }
 {}
 
-/// A law: over one path both files are delivered after 10,800 rounds, 23 for each full segment of either file, and 3,150 for each line by which a segment
-/// is lost or late, where the script's text tells that (`finish`); until then the connection goes on, as no reader is told of an abort and the path
+/// A law: over one path both files are delivered after 10,800 rounds, 23 for each full segment of either file, and 3,150 for each line by which a
+/// segment is lost or late, where the script's text tells that (`finish`); until then the connection goes on, as no reader is told of an abort and the path
 /// lives (`go_on`).
 ///
 /// The script has one path, and is mild. Four lines at most lose or delay a segment; none speaks of a whole direction; by none the path dies, or its
-/// address is taken back. Where one loses, delays or repeats a segment of A's, A's file fits the first window (`patient_texts_deliver`), and each full
-/// segment of that counts as such a line besides. It is said of fewer than 2^64 - 1 turns, in any lawful order of steps within the rounds, over links
-/// that carry octets. So few are those of a run of whose actors each made fewer than 2^57 steps (`brief`).
+/// address is taken back. Where one loses, delays or repeats one of A's first eight segments, A's file fits the first window
+/// (`patient_texts_deliver`), and each full segment of that counts as such a line besides. It is said of fewer than 2^64 - 1 turns, in any lawful
+/// order of steps within the rounds, over links that carry octets. So few are those of a run of whose actors each made fewer than 2^57 steps
+/// (`brief`).
 pub fn few_texts_deliver()
     ensures finish { FewTextsFinish }
     ensures go_on { FewTextsGoOn }
