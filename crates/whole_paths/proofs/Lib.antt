@@ -328,6 +328,4 @@ pub mod Backups
 pub mod ManyWaits
 pub mod ManyGoingOn
 pub mod ManyCourses
-pub mod ManyCourses
-pub mod ManyGoingOn
 pub mod ManyPaths
