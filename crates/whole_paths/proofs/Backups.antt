@@ -257,11 +257,29 @@ module _ {C : Type 0} (k : Codec C) (number : ℕ) where
   so_far start done (turn ∷ more) turns is h = so_far start (done ++ turn ∷ []) more turns (append_assoc done (turn ∷ []) more ∙ is)
       (subst IfNone (sym (run_append k done (turn ∷ []) (opened_world start))) (turn_clean turn (reached k start done) (always_known k start done).named h))
 
+  -- what is told in no step isn't in any before
+  step_older : (turn : Turn) (w : WorldState C) → ToldNoBackup number (after_turn k turn w) → ToldNoBackup number w
+  step_older turn w = turn_so k (λ v. ToldNoBackup number v → ToldNoBackup number w) turn w (λ h. h)
+      (λ actor c x there is none d at. (let new : ActorCrew C = crew_after k x w.books c in ⊎_elim
+      (λ same.
+      (let one : c ≡ d = same_Some c d (sym there ∙ ap (slice_get w.crew) same ∙ at) in
+      subst (λ (y : ActorCrew C). list_any noted_backup y.list ≡ false) one
+      (earlier_none c.list (note_of w.books c.pass x) (none new (subst (λ n. slice_get (set w.crew actor new) n ≡ Some new) same (set_same w.crew actor new c there)))).0))
+      (λ other. none d (set_other w.crew actor new (2 + number) (λ same. other (sym same)) ∙ at))
+      (cases_eq actor (2 + number))))
+      (λ over none d at. none (begins (greatest 0 w.crew) d) (map_there (begins (greatest 0 w.crew)) w.crew (2 + number) ∙ ap (option_map (begins (greatest 0 w.crew))) at))
+
+  older : (start : Start) (ts us : List Turn) → ToldNoBackup number (reached k start (ts ++ us)) → ToldNoBackup number (reached k start ts)
+  older start ts [] none = subst (λ vs. ToldNoBackup number (reached k start vs)) (append-nil ts) none
+  older start ts (turn ∷ us) none = step_older turn (reached k start ts) (subst (ToldNoBackup number) (run_append k ts (turn ∷ []) (opened_world start))
+      (older start (ts ++ turn ∷ []) us (subst (λ vs. ToldNoBackup number (reached k start vs)) (sym (append_assoc ts (turn ∷ []) us)) none)))
+
 serves_so : {C : Type 0} (k : Codec C) → WhoIsNoBackupServes k
-serves_so k start number turns none = (so_far k number start [] turns turns refl (λ told. opened_clean k number start) none).ends
+serves_so k start number turns none ts us is =
+    (so_far k number start [] ts ts refl (λ told. opened_clean k number start) (older k number start ts us (subst (λ vs. ToldNoBackup number (reached k start vs)) (sym is) none))).ends
 
 pub who_is_no_backup_serves : WhoIsNoBackupServes values
-who_is_no_backup_serves start number turns none = serves_so values start number turns none
+who_is_no_backup_serves start number turns none ts us is = serves_so values start number turns none ts us is
 
 pub who_is_no_backup_serves_in_octets : WhoIsNoBackupServes octets
-who_is_no_backup_serves_in_octets start number turns none = serves_so octets start number turns none
+who_is_no_backup_serves_in_octets start number turns none ts us is = serves_so octets start number turns none ts us is

@@ -1,5 +1,5 @@
 -- A path stands by only where it told a side that it is a backup (RFC 8684, section 3.3.8).
-use Rattle.std.specs.Prelude.{ℕ, ◌+◌, ◌≡◌, Bool, false, Some, List, slice_get}
+use Rattle.std.specs.Prelude.{ℕ, ◌+◌, ◌≡◌, Bool, false, Some, List, ◌++◌, slice_get}
 use Rattle.std.specs.List.{list_any}
 use Rattle.control_book.specs.declared.call.ControlCall.TheVariants as control_calls
 use Rattle.actor_desk.specs.declared.ask.Ask.{Ask}
@@ -26,6 +26,7 @@ module _ {C : Type 0} where
   abbrev pub ToldNoBackup : ℕ → WorldState C → Type 0
   ToldNoBackup number w = (c : ActorCrew C) → slice_get w.crew (2 + number) ≡ Some c → list_any noted_backup c.list ≡ false
 
-  -- then it doesn't stand by
+  -- then it stands by after none of the first of these turns
   abbrev pub WhoIsNoBackupServes : Codec C → Type 0
-  WhoIsNoBackupServes k = (start : Start) (number : ℕ) (turns : List Turn) → let w = reached k start turns in ToldNoBackup number w → ServesAt number w
+  WhoIsNoBackupServes k = (start : Start) (number : ℕ) (turns : List Turn) → ToldNoBackup number (reached k start turns)
+      → (ts us : List Turn) → ts ++ us ≡ turns → ServesAt number (reached k start ts)

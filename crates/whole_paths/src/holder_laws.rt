@@ -134,7 +134,7 @@ pub fn who_serves_asks_so()
     ensures octets { WhoServesAsksSo octets }
 {}
 
-/// A law: a path stands by at neither end as long as it told no side that it is a backup, over any number of paths (RFC 8684, section 3.3.8).
+/// A law: a path that told no side that it is a backup stood by at neither end, at no moment, over any number of paths (RFC 8684, section 3.3.8).
 ///
 /// It tells that as an end lives, by the flag of the peer's MP_JOIN, or as an MP_PRIO comes; no other path does.
 pub fn who_is_no_backup_serves()
