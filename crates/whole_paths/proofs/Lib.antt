@@ -316,6 +316,7 @@ pub mod ShutKnown
 pub mod Refused
 pub mod PlainQueues
 pub mod QuietTexts
+pub mod KeysAhead
 pub mod FewTexts
 pub mod BriefRuns
 pub mod FirstMissing
