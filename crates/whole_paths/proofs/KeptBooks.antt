@@ -26,7 +26,7 @@ IsSpared place ids = slice_index_or ids place false ≡ false
 abbrev pub AreSpared : ℕ → List (List Bool) → Type 0
 AreSpared place sets = (at : ℕ) → IsSpared place (withdrawals_on sets at)
 
-set_spared : (place : ℕ) (ids : List Bool) (id : ℕ) (due : Bool) → (id ≡ place → due ≡ false) → IsSpared place ids → IsSpared place (slice_set ids id due)
+pub set_spared : (place : ℕ) (ids : List Bool) (id : ℕ) (due : Bool) → (id ≡ place → due ≡ false) → IsSpared place ids → IsSpared place (slice_set ids id due)
 set_spared place [] id due unless h = h
 set_spared zero (member ∷ ids) zero due unless h = unless refl
 set_spared (suc place) (member ∷ ids) zero due unless h = h

@@ -325,6 +325,7 @@ pub mod MissingBytes
 pub mod ReturnWaits
 pub mod CountedCourses
 pub mod Serving
+pub mod Backups
 pub mod ManyWaits
 pub mod ManyGoingOn
 pub mod ManyCourses

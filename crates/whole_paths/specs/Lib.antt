@@ -196,6 +196,7 @@ pub mod MissingBytes
 pub mod ReturnWaits
 pub mod CountedCourses
 pub mod Serving
+pub mod Backups
 pub mod ManyWaits
 pub mod ManyGoingOn
 pub mod ManyCourses

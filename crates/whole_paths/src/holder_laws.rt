@@ -3,6 +3,7 @@ ghost use Rattle.path_core.specs.Octets.{octets};
 ghost use Rattle.path_core.specs.Values.{values};
 ghost use Rattle.world_laws.specs.Laws.{Always};
 ghost use Rattle.world_laws.specs.Promises.{HoldsAnyway, HoldsAnywayOfOctets};
+ghost use Rattle.whole_paths.specs.Backups.{WhoIsNoBackupServes};
 ghost use Rattle.whole_paths.specs.BookNews.{BookNewsIsBounded, BookNewsNeverFalls, EachByteCounts, WhatIsGivenBackCounts};
 ghost use Rattle.whole_paths.specs.CountedCourses.{PathsAreCounted};
 ghost use Rattle.whole_paths.specs.FirstMissing.{EachMissingByteIsHeld};
@@ -131,4 +132,12 @@ pub fn paths_go_on()
 pub fn who_serves_asks_so()
     ensures values { WhoServesAsksSo values }
     ensures octets { WhoServesAsksSo octets }
+{}
+
+/// A law: a path that told no side that it is a backup stood by at neither end, at no moment, over any number of paths (RFC 8684, section 3.3.8).
+///
+/// It tells that as an end lives, by the flag of the peer's MP_JOIN, or as an MP_PRIO comes; no other path does.
+pub fn who_is_no_backup_serves()
+    ensures values { WhoIsNoBackupServes values }
+    ensures octets { WhoIsNoBackupServes octets }
 {}
