@@ -73,12 +73,19 @@ module _ (d : Drawn) where
     pub opener : flow.opener ≡ end_of 0 A
     pub opened : is_some flow.opened ≡ true
 
+  -- a flow of path 0 stands there
+  pub record BeganOn (flows : List Flow) (place : ℕ) : Type 0 where
+    pub flow : Flow
+    pub there : slice_get flows place ≡ Some flow
+    pub opener : flow.opener ≡ end_of 0 A
+
   pub record OneHolds (state : SeenFlows) : Type 0 where
     -- of each path one flow
     pub alone : (i j : ℕ) (f g : Flow) → slice_get state.flows i ≡ Some f → slice_get state.flows j ≡ Some g → f.opener ≡ g.opener → i ≡ j
     pub capable : Each (λ f. IsCapable f.opening → f.opener ≡ end_of 0 A) state.flows
     pub begun : (state.connections ≡ []) ⊎ IsOpen state.flows
     pub few : (i : ℕ) (keys : Keys) → slice_get state.connections i ≡ Some keys → i ≡ 0
+    pub first : (i : ℕ) (keys : Keys) → slice_get state.connections i ≡ Some keys → BeganOn state.flows keys.flow
     pub known : Each (λ (k : KnownKey). k.connection ≡ 0) state.known
     pub belongs : Each (λ f. IfSome f.belongs (λ b. b.connection ≡ 0)) state.flows
 
@@ -96,7 +103,7 @@ module _ (d : Drawn) where
     found = flow_between (ends_in seen) state.flows
 
     same_one : OneHolds (record state { last = packet })
-    same_one = record { alone = one.alone; capable = one.capable; begun = one.begun; few = one.few; known = one.known; belongs = one.belongs }
+    same_one = record { alone = one.alone; capable = one.capable; begun = one.begun; few = one.few; first = one.first; known = one.known; belongs = one.belongs }
 
     -- ---- a SYN that begins a flow
 
@@ -149,6 +156,7 @@ module _ (d : Drawn) where
           opened = open_one.opened;
         })) one.begun;
         few = one.few;
+        first = λ i keys at. let was = one.first i keys at in record { flow = was.flow; there = before_end state.flows (new ∷ []) keys.flow was.flow was.there; opener = was.opener };
         known = one.known;
         belongs = each_end (λ f. IfSome f.belongs (λ b. b.connection ≡ 0)) state.flows new one.belongs (belongs_new o);
       }
@@ -199,16 +207,30 @@ module _ (d : Drawn) where
         capable_next : Each (λ f. IsCapable f.opening → f.opener ≡ end_of 0 A) (set state.flows f.index next)
         capable_next = each_set (λ f. IsCapable f.opening → f.opener ≡ end_of 0 A) state.flows f.index next one.capable (one.capable f.index f.flow there)
 
+        in_place : (i j : ℕ) → (i ≡ j) ⊎ (i ≡ j → ⊥)
+        in_place zero zero = inl refl
+        in_place zero (suc j) = inr (λ same. cc)
+        in_place (suc i) zero = inr (λ same. cc)
+        in_place (suc i) (suc j) = ⊎_elim (λ same. inl (ap suc same)) (λ apart. inr (λ same. apart (omega (arith, same)))) (in_place i j)
+
+        -- one of path 0 stays there
+        first_next : (place : ℕ) → BeganOn state.flows place → BeganOn (set state.flows f.index next) place
+        first_next place at = by (in_place place f.index)
+          where
+            by : (place ≡ f.index) ⊎ (place ≡ f.index → ⊥) → BeganOn (set state.flows f.index next) place
+            by (inl same) =
+                let is_it : at.flow ≡ f.flow = some_same at.flow f.flow (sym at.there ∙ ap (slice_get state.flows) same ∙ there) in
+                record {
+                  flow = next;
+                  there = ap (slice_get (set state.flows f.index next)) same ∙ set_same state.flows f.index next f.flow there;
+                  opener = sym (ap (λ (x : Flow). x.opener) is_it) ∙ at.opener;
+                }
+            by (inr apart) = record { flow = at.flow; there = set_other state.flows f.index next place apart ∙ at.there; opener = at.opener }
+
         -- an open flow stays open
         open_next : (is_some f.flow.opened ≡ true → is_some next.opened ≡ true) → IsOpen state.flows → IsOpen (set state.flows f.index next)
         open_next keeps at = by (in_place at.place f.index)
           where
-            in_place : (i j : ℕ) → (i ≡ j) ⊎ (i ≡ j → ⊥)
-            in_place zero zero = inl refl
-            in_place zero (suc j) = inr (λ same. cc)
-            in_place (suc i) zero = inr (λ same. cc)
-            in_place (suc i) (suc j) = ⊎_elim (λ same. inl (ap suc same)) (λ apart. inr (λ same. apart (omega (arith, same)))) (in_place i j)
-
             by : (at.place ≡ f.index) ⊎ (at.place ≡ f.index → ⊥) → IsOpen (set state.flows f.index next)
             by (inl same) =
                 let is_it : at.flow ≡ f.flow = some_same at.flow f.flow (sym at.there ∙ ap (slice_get state.flows) same ∙ there) in
@@ -245,6 +267,7 @@ module _ (d : Drawn) where
         capable = capable_next None is;
         begun = ⊎_elim (λ empty. inl empty) (λ at. inr (open_next None is (λ some. some) at)) one.begun;
         few = one.few;
+        first = λ i keys at. first_next None is keys.flow (one.first i keys at);
         known = one.known;
         belongs = belongs_next None is (one.belongs f.index f.flow there);
       }
@@ -267,6 +290,7 @@ module _ (d : Drawn) where
         begun = ⊎_elim (λ empty. inl empty)
             (λ at. inr (open_next (Some (answer.Join join)) is (λ some. tied_open (opened_by seen join.answer) it.belongs (wrong_token 0 state.connections it.first join)) at)) one.begun;
         few = one.few;
+        first = λ i keys at. first_next (Some (answer.Join join)) is keys.flow (one.first i keys at);
         known = one.known;
         belongs = belongs_next (Some (answer.Join join)) is
             (tied_one (opened_by seen join.answer) it.belongs (wrong_token 0 state.connections it.first join) (one.belongs f.index f.flow there)
@@ -286,6 +310,7 @@ module _ (d : Drawn) where
           opened = refl;
         });
         few = λ i keys at. first_of_all i keys (subst (λ (cs : List Keys). slice_get (cs ++ record { a = None; b = key; checksums = checksums; flow = f.index } ∷ []) i ≡ Some keys) no_other at);
+        first = λ i keys at. began i keys (subst (λ (cs : List Keys). slice_get (cs ++ record { a = None; b = key; checksums = checksums; flow = f.index } ∷ []) i ≡ Some keys) no_other at);
         known = each_end (λ (k : KnownKey). k.connection ≡ 0) state.known _ one.known (ap length no_other);
         belongs = belongs_next (Some (answer.Key key checksums)) is (ap length no_other);
       }
@@ -313,6 +338,18 @@ module _ (d : Drawn) where
                   let is_it : at.flow ≡ f.flow = some_same at.flow f.flow (sym at.there ∙ ap (slice_get state.flows) same ∙ there) in
                   absurd (false≢true (sym (ap is_some (answer_needs seen it (answer.Key key checksums) is)) ∙ (ap (λ (x : Flow). is_some x.opened) (sym is_it) ∙ at.opened)))
 
+          began : (i : ℕ) (keys : Keys) → slice_get (record { a = None; b = key; checksums = checksums; flow = f.index } ∷ []) i ≡ Some keys
+              → BeganOn (set state.flows f.index (flow_after seen (answered state seen it (Some (answer.Key key checksums))) it)) keys.flow
+          began zero keys at =
+              subst (λ (k : Keys). BeganOn (set state.flows f.index (flow_after seen (answered state seen it (Some (answer.Key key checksums))) it)) k.flow)
+              (some_same (record { a = None; b = key; checksums = checksums; flow = f.index }) keys at)
+              (record {
+                flow = flow_after seen (answered state seen it (Some (answer.Key key checksums))) it;
+                there = set_same state.flows f.index (flow_after seen (answered state seen it (Some (answer.Key key checksums))) it) f.flow there;
+                opener = first_path;
+              })
+          began (suc i) keys at = cc
+
           first_of_all : (i : ℕ) (keys : Keys) → slice_get (record { a = None; b = key; checksums = checksums; flow = f.index } ∷ []) i ≡ Some keys → i ≡ 0
           first_of_all zero keys at = refl
           first_of_all (suc i) keys at = cc
@@ -338,19 +375,21 @@ module _ (d : Drawn) where
 
   -- ---- A's key
 
-  learnt_one : (connection a : ℕ) (keys : Option Keys) (state : SeenFlows) → connection ≡ 0 → OneHolds state → OneHolds (learnt_by state connection a keys)
-  learnt_one connection a None state first one = one
-  learnt_one connection a (Some keys) state first one = record {
+  learnt_one : (connection a : ℕ) (keys : Option Keys) (state : SeenFlows) → slice_get state.connections connection ≡ keys → connection ≡ 0 → OneHolds state → OneHolds (learnt_by state connection a keys)
+  learnt_one connection a None state has first one = one
+  learnt_one connection a (Some keys) state has first one = record {
     alone = one.alone;
     capable = one.capable;
     begun = ⊎_elim (λ empty. inl (ap (λ (cs : List Keys). set cs connection (record keys { a = Some a })) empty)) (λ at. inr at) one.begun;
     few = λ i other at. ⊎_elim (λ here. here.0 ∙ first) (λ before. one.few i other before.1) (in_set state.connections connection (record keys { a = Some a }) i other at);
+    first = λ i other at. ⊎_elim (λ here. subst (λ (k : Keys). BeganOn state.flows k.flow) here.1 (one.first connection keys has)) (λ before. one.first i other before.1)
+        (in_set state.connections connection (record keys { a = Some a }) i other at);
     known = each_end (λ (k : KnownKey). k.connection ≡ 0) state.known _ one.known first;
     belongs = one.belongs;
   }
 
   pub key_one : (connection : ℕ) (before told : Option ℕ) (state : SeenFlows) → connection ≡ 0 → OneHolds state → OneHolds (with_key connection before told state)
-  key_one connection None (Some a) state first one = learnt_one connection a (slice_get state.connections connection) state first one
+  key_one connection None (Some a) state first one = learnt_one connection a (slice_get state.connections connection) state refl first one
   key_one connection None None state first one = one
   key_one connection (Some known) None state first one = one
   key_one connection (Some known) (Some a) state first one = one
@@ -361,6 +400,7 @@ module _ (d : Drawn) where
     capable = λ i f at. absurd (none i at);
     begun = inl refl;
     few = λ i keys at. absurd (none i at);
+    first = λ i keys at. absurd (none i at);
     known = λ i k at. absurd (none i at);
     belongs = λ i f at. absurd (none i at);
   }

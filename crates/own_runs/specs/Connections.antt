@@ -23,10 +23,11 @@ use Rattle.own_runs.specs.Runs.{capture_of}
 abbrev pub end_on : ℕ → Side → End
 end_on path s = record { address = V4 (address_of path s); port = port_of path s }
 
--- A subflow runs between the ends of a path, and A opened it.
+-- A subflow runs between the ends of a path, A opened it, and its SYN has no payload.
 pub record RunsOn (path : ℕ) (flow : Flow) : Type 0 where
   pub opener : flow.opener ≡ end_on path A
   pub other : flow.other ≡ end_on path B
+  pub syn : flow.syn_octets ≡ 0
 
 -- B's key is that of the start, and A's, where it was shown; and checksums are used where the start says so.
 pub record HasItsKeys (start : Start) (keys : Keys) : Type 0 where
@@ -39,6 +40,9 @@ pub record HasItsKeys (start : Start) (keys : Keys) : Type 0 where
 pub record SeesTheConnection (start : Start) (judged : JudgedValue) : Type 0 where
   pub one : length judged.books ≤ 1
   pub keys : (connection : ℕ) (keys : Keys) → slice_get judged.seen.connections connection ≡ Some keys → HasItsKeys start keys
+  -- the subflow that opened it runs on path 0
+  pub first : (connection : ℕ) (keys : Keys) → slice_get judged.seen.connections connection ≡ Some keys
+      → (flow : Flow) × (slice_get judged.seen.flows keys.flow ≡ Some flow) × RunsOn 0 flow
   pub subflows : (i : ℕ) (flow : Flow) → slice_get judged.seen.flows i ≡ Some flow → (path : ℕ) × RunsOn path flow
   pub apart : (i j : ℕ) (f g : Flow) → slice_get judged.seen.flows i ≡ Some f → slice_get judged.seen.flows j ≡ Some g → f.opener ≡ g.opener → i ≡ j
   pub joins : strays_words judged.seen.flows ≡ []
