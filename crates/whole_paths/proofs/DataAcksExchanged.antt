@@ -16,7 +16,7 @@ use Rattle.link_model.specs.declared.flight.Flight.{Flight}
 use Rattle.link_model.specs.Fate.{is_stripped, is_altered}
 use Rattle.link_model.specs.Steps.{changed, due_of, next_number, segments_sent}
 use Rattle.subflow_tcp.specs.States.{is_closed_to_segments, is_dead}
-use Rattle.actor_desk.specs.Books.{StampedBooks, books_in}
+use Rattle.actor_desk.specs.Books.{StampedBooks}
 use Rattle.actor_desk.specs.declared.ask.Note.{Note}
 use Rattle.actor_desk.specs.Words.{is_nil}
 use Rattle.path_agenda.specs.Items.{wants_ack}

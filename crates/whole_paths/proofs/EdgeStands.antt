@@ -1,5 +1,5 @@
 -- A side that stands at the edge of its peer's window does so until the edge rises: nothing is granted there, to whatever path asks.
-use Rattle.std.proofs.Common.{◌≡◌, refl, sym, subst, ap, ◌∙◌, ◌⊎◌, inl, inr, ⊎_elim, ℕ, zero, suc, ◌+◌, ◌-◌, ◌<◌, ◌≤◌, ◌==◌, ◌&&◌, ◌||◌, arith, cond, min, max, nat_lt, nat_le, Bool, true, false, true≢false, not, if◌then◌else◌, Option, Some, None, Result, Ok, Err, List, [], ◌∷◌, ◌++◌, length, take, drop, map, replicate}
+use Rattle.std.proofs.Common.{◌≡◌, refl, sym, subst, ap, ◌∙◌, ◌⊎◌, inl, inr, ⊎_elim, ℕ, zero, suc, ◌+◌, ◌-◌, ◌<◌, ◌≤◌, ◌==◌, ◌&&◌, ◌||◌, arith, cond, min, max, nat_lt, Bool, true, false, true≢false, not, if◌then◌else◌, Some, None, Result, Ok, Err, List, [], ◌∷◌, ◌++◌, length, take, drop, map, replicate}
 use Rattle.std.specs.List.{position, position_or_len, slice_get}
 use Rattle.std.proofs.lemmas.Bool.{cases_lt, le-leb, lt-ltb, ne_eqb}
 use Rattle.std.proofs.lemmas.List.{length-append}
@@ -36,7 +36,7 @@ use Rattle.path_core.specs.Steps.{asks_of, next_round, takes}
 use Rattle.path_core.specs.End.{PathEnd}
 use Rattle.path_core.specs.Values.{Carried, values}
 use Rattle.world_laws.specs.declared.member.Member.TheVariants.{App, Path}
-use Rattle.world_laws.specs.Actors.{Actor, ActorCrew}
+use Rattle.world_laws.specs.Actors.{Actor}
 use Rattle.world_laws.specs.Openings.{Start, opened_world}
 use Rattle.world_laws.specs.Promises.{HasRoom}
 use Rattle.world_laws.specs.RoundDone.{reached}
@@ -46,7 +46,7 @@ use Rattle.whole_paths.specs.Between.{PathsBetween}
 use Rattle.whole_paths.specs.EdgeStands.{IsShutOutAt, NothingIsTriedPastTheEdge, ShutEndsStayShut, StandsAtTheEdge, StaysShutOut}
 use Rattle.whole_paths.proofs.Refusals.{AtGrant, at_grant, takes_told}
 use Rattle.whole_paths.proofs.Refusals.AtGrant.{asks_none_of_it, asks_bytes}
-use Rattle.whole_paths.proofs.OnePath.{own_standby, send_after, send_replied}
+use Rattle.whole_paths.proofs.OnePath.{own_standby, send_replied}
 use Rattle.whole_paths.proofs.RoundBegins.{next_rests}
 use Rattle.whole_paths.proofs.Standing.{duty_serves}
 use Rattle.whole_paths.proofs.Turns.{TellsSteps, books_by_turns, paths_between}

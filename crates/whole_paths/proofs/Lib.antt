@@ -326,6 +326,7 @@ pub mod ReturnWaits
 pub mod CountedCourses
 pub mod Serving
 pub mod Backups
+pub mod RegularPaths
 pub mod ManyWaits
 pub mod ManyGoingOn
 pub mod ManyCourses

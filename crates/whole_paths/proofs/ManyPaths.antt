@@ -4,9 +4,8 @@ use Rattle.std.proofs.Math.Nat.{lt-div-mul-add}
 use Rattle.link_script.specs.declared.script.Script.{Script}
 use Rattle.path_core.specs.Octets.{octets}
 use Rattle.path_core.specs.Shown.{shown_path}
-use Rattle.path_core.specs.Values.{Carried, values}
+use Rattle.path_core.specs.Values.{values}
 use Rattle.world_laws.specs.declared.outcome.Outcome.TheVariants.{Delivered}
-use Rattle.world_laws.specs.Fresh.{shown_world}
 use Rattle.world_laws.specs.Openings.{Start, opened_world, start_of}
 use Rattle.world_laws.specs.Outcomes.{outcome_of}
 use Rattle.world_laws.specs.RoundDone.{reached}

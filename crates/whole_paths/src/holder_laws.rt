@@ -13,6 +13,7 @@ ghost use Rattle.whole_paths.specs.Holders.{HoldersLive, WhatIsTriedIsAwaited};
 ghost use Rattle.whole_paths.specs.ManyGoingOn.{PathsGoOn};
 ghost use Rattle.whole_paths.specs.MissingBytes.{WhatIsMissingIsAwaited};
 ghost use Rattle.whole_paths.specs.Refusals.{WhoAsksIsRefused};
+ghost use Rattle.whole_paths.specs.RegularPaths.{RegularPathsDeliver};
 ghost use Rattle.whole_paths.specs.ReturnWaits.{AllNewsIsBounded, ReturnsAreAwaitedAlways};
 ghost use Rattle.whole_paths.specs.Serving.{WhoServesAsksSo};
 
@@ -140,4 +141,13 @@ pub fn who_serves_asks_so()
 pub fn who_is_no_backup_serves()
     ensures values { WhoIsNoBackupServes values }
     ensures octets { WhoIsNoBackupServes octets }
+{}
+
+/// A law: once path 0 is whole at the end of a round, and still whole when rounds enough have ended, both files are delivered, whatever becomes of any number
+/// of other paths, if path 0 told no side that it is a backup (RFC 8684, sections 3.3.2 and 3.3.8).
+///
+/// It is said of mild scripts (`first_paths_deliver`); that path 0 is no backup its own steps tell (`who_is_no_backup_serves`).
+pub fn regular_paths_deliver()
+    ensures octets { RegularPathsDeliver octets }
+    ensures values { RegularPathsDeliver values }
 {}
