@@ -202,3 +202,4 @@ pub mod ManyWaits
 pub mod ManyGoingOn
 pub mod ManyCourses
 pub mod ManyPaths
+pub mod ManyEnds
