@@ -197,6 +197,7 @@ pub mod ReturnWaits
 pub mod CountedCourses
 pub mod Serving
 pub mod Backups
+pub mod BackupAsks
 pub mod RegularPaths
 pub mod ManyWaits
 pub mod ManyGoingOn

@@ -3,6 +3,7 @@ ghost use Rattle.path_core.specs.Octets.{octets};
 ghost use Rattle.path_core.specs.Values.{values};
 ghost use Rattle.world_laws.specs.Laws.{Always};
 ghost use Rattle.world_laws.specs.Promises.{HoldsAnyway, HoldsAnywayOfOctets};
+ghost use Rattle.whole_paths.specs.BackupAsks.{WhoHeardOfNoneTellsNone};
 ghost use Rattle.whole_paths.specs.Backups.{WhoIsNoBackupServes};
 ghost use Rattle.whole_paths.specs.BookNews.{BookNewsIsBounded, BookNewsNeverFalls, EachByteCounts, WhatIsGivenBackCounts};
 ghost use Rattle.whole_paths.specs.CountedCourses.{PathsAreCounted};
@@ -150,4 +151,10 @@ pub fn who_is_no_backup_serves()
 pub fn regular_paths_deliver()
     ensures octets { RegularPathsDeliver octets }
     ensures values { RegularPathsDeliver values }
+{}
+
+/// A law: a path tells no side that it is a backup unless an end of it heard so, by the peer's MP_JOIN or its MP_PRIO (RFC 8684, sections 3.2 and 3.3.8).
+pub fn who_heard_of_no_backup_tells_none()
+    ensures values { WhoHeardOfNoneTellsNone values }
+    ensures octets { WhoHeardOfNoneTellsNone octets }
 {}

@@ -139,6 +139,7 @@ pub use holder_laws::what_is_given_back_counts;
 pub use holder_laws::what_is_missing_is_awaited;
 pub use holder_laws::what_is_tried_is_awaited;
 pub use holder_laws::who_asks_is_refused;
+pub use holder_laws::who_heard_of_no_backup_tells_none;
 pub use holder_laws::who_is_no_backup_serves;
 pub use holder_laws::who_serves_asks_so;
 pub use laws::a_copy_leaves_by_arriving;
