@@ -18,7 +18,8 @@ use std::alloc::{AllocError, Global};
 
 /// Three names, if none is empty.
 fn named<'a>(script: &'a str, file_a: &'a str, file_b: &'a str) -> Option<CommandLine<'a>>
-    ensures { option_map as_line result ≡ loading_if_given script.entry.now file_a.entry.now file_b.entry.now }
+    ensures { option_map as_line result ≡
+        loading_if_given script.entry.now file_a.entry.now file_b.entry.now }
 {
     if script.is_empty() || file_a.is_empty() || file_b.is_empty() {
         return None;

@@ -115,6 +115,7 @@ pub record IsOwn (d : Drawn) (seen : Seen) : Type 0 where
   pub source : seen.source ≡ end_of path from
   pub destination : seen.destination ≡ end_of path (peer from)
   pub good : seen.has_good_sum ≡ true
+  pub uncut : seen.is_cut ≡ false
   pub values : List OptionValue
   pub options : seen_options d.checksums seen.segment.options ≡ map Readable values
   pub each : All (ValueIs d path from) values

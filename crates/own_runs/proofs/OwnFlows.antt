@@ -1,6 +1,7 @@
 -- The flows and connections that are seen in a capture of a connection of ours.
 use Rattle.std.proofs.Common.{◌≡◌, refl, sym, ap, ◌∙◌, subst, ℕ, zero, suc, ◌+◌, ◌%◌, ◌^◌, nat_le, ◌⊎◌, inl, inr, ◌||◌, Bool, true, false, not, is_none, if◌then◌else◌, Option, Some, None, List, [], ◌∷◌, ◌++◌, length, arith}
 use Rattle.std.specs.Prelude.{IfSome, find}
+use Rattle.std.specs.Int.{from_bool}
 use Rattle.std.specs.List.{slice_get}
 use Rattle.std.specs.Option.{option_or}
 use Rattle.std.proofs.Math.ListN.{set}
@@ -80,6 +81,8 @@ module _ (d : Drawn) where
     pub nonce : IfSome flow.opened (NonceIs path flow.opening)
     pub number : flow.number ≡ first_seq d path A
     pub octets : flow.syn_octets ≡ 0
+    pub cut : flow.cut ≡ 0
+    pub wrong : flow.wrong_sums ≡ 0
     pub bases : IfSome flow.opened (BasesAre path)
 
   abbrev pub FlowIs : Flow → Type 0
@@ -175,6 +178,8 @@ module _ (d : Drawn) where
             nonce = was.1.nonce;
             number = was.1.number;
             octets = was.1.octets;
+            cut = was.1.cut;
+            wrong = was.1.wrong;
             bases = was.1.bases;
           },
         )
@@ -188,6 +193,8 @@ module _ (d : Drawn) where
       nonce = tt;
       number = (own.starts syn).0 ∙ ap (first_seq d own.path) asks.0;
       octets = (own.starts syn).1;
+      cut = ap (λ (b : Bool). from_bool b) own.uncut;
+      wrong = refl;
       bases = tt;
     }
 
@@ -309,6 +316,8 @@ module _ (d : Drawn) where
         nonce = f.nonce;
         number = f.number;
         octets = f.octets;
+        cut = f.cut;
+        wrong = f.wrong;
         bases = f.bases;
       }
       flow_so (Some (answer.Key key checksums)) is at = record {
@@ -319,6 +328,8 @@ module _ (d : Drawn) where
         nonce = key_nonce flow.opening key checksums is;
         number = f.number;
         octets = f.octets;
+        cut = f.cut;
+        wrong = f.wrong;
         bases = at 0;
       }
       flow_so (Some (answer.Join join)) is at =
@@ -332,6 +343,8 @@ module _ (d : Drawn) where
                 (join_nonce flow.opening join is);
             number = f.number;
             octets = f.octets;
+            cut = f.cut;
+            wrong = f.wrong;
             bases = subst (λ (o : Option Opened). IfSome o (BasesAre path)) (sym (tied_opened (opened_by seen join.answer) flow.belongs wrong)) (at join.answer);
           }
 
@@ -379,6 +392,8 @@ module _ (d : Drawn) where
       nonce = f.nonce;
       number = f.number;
       octets = f.octets;
+      cut = ap (λ (b : Bool). flow.cut + from_bool b) own.uncut ∙ (let none = f.cut in omega (arith, none));
+      wrong = (let none = f.wrong in omega (arith, none));
       bases = f.bases;
     }
 

@@ -416,6 +416,7 @@ module _ (Q : ℕ → Side → PlainSegment → Type 0) (start : Start) (x : Sen
     source = ap (λ (h : Head). let made : End = record { address = V4 (address_of x.path x.from); port = h.source_port } in made) (heads_are c.spelling x.from sg);
     destination = ap (λ (h : Head). let made : End = record { address = V4 (address_of x.path (peer x.from)); port = h.destination_port } in made) (heads_are c.spelling x.from sg);
     good = refl;
+    uncut = refl;
     values = map (said_option c.spelling x.from) sg.options;
     options = seen_are c.spelling x.from sg says.tells.sayable fits;
     each = values;

@@ -23,11 +23,13 @@ use Rattle.own_runs.specs.Runs.{capture_of}
 abbrev pub end_on : ℕ → Side → End
 end_on path s = record { address = V4 (address_of path s); port = port_of path s }
 
--- A subflow runs between the ends of a path, A opened it, and its SYN has no payload.
+-- A subflow runs between the ends of a path, A opened it, and its SYN has no payload. None of its packets is cut, and none has a wrong sum.
 pub record RunsOn (path : ℕ) (flow : Flow) : Type 0 where
   pub opener : flow.opener ≡ end_on path A
   pub other : flow.other ≡ end_on path B
   pub syn : flow.syn_octets ≡ 0
+  pub cut : flow.cut ≡ 0
+  pub wrong_sums : flow.wrong_sums ≡ 0
 
 -- B's key is that of the start, and A's, where it was shown; and checksums are used where the start says so.
 pub record HasItsKeys (start : Start) (keys : Keys) : Type 0 where
