@@ -197,6 +197,7 @@ pub mod ReturnWaits
 pub mod CountedCourses
 pub mod Serving
 pub mod Backups
+pub mod Priorities
 pub mod BackupAsks
 pub mod RegularPaths
 pub mod ManyWaits

@@ -1,6 +1,6 @@
 //! Who holds what isn't acknowledged, over any number of paths, as clauses of functions that do nothing.
 ghost use Rattle.path_core.specs.Octets.{octets};
-ghost use Rattle.path_core.specs.Values.{values};
+ghost use Rattle.path_core.specs.Values.{Carried, values};
 ghost use Rattle.world_laws.specs.Laws.{Always};
 ghost use Rattle.world_laws.specs.Promises.{HoldsAnyway, HoldsAnywayOfOctets};
 ghost use Rattle.whole_paths.specs.BackupAsks.{WhoHeardOfNoneTellsNone};
@@ -13,6 +13,7 @@ ghost use Rattle.whole_paths.specs.HolderWaits.{HoldersLetGo};
 ghost use Rattle.whole_paths.specs.Holders.{HoldersLive, WhatIsTriedIsAwaited};
 ghost use Rattle.whole_paths.specs.ManyGoingOn.{PathsGoOn};
 ghost use Rattle.whole_paths.specs.MissingBytes.{WhatIsMissingIsAwaited};
+ghost use Rattle.whole_paths.specs.Priorities.{WhoSaysAPriorityNotesIt};
 ghost use Rattle.whole_paths.specs.Refusals.{WhoAsksIsRefused};
 ghost use Rattle.whole_paths.specs.RegularPaths.{RegularPathsDeliver};
 ghost use Rattle.whole_paths.specs.ReturnWaits.{AllNewsIsBounded, ReturnsAreAwaitedAlways};
@@ -157,4 +158,9 @@ pub fn regular_paths_deliver()
 pub fn who_heard_of_no_backup_tells_none()
     ensures values { WhoHeardOfNoneTellsNone values }
     ensures octets { WhoHeardOfNoneTellsNone octets }
+{}
+
+/// A law: a segment says a priority only where this stands in what its end has to note (RFC 8684, section 3.3.8).
+pub fn who_says_a_priority_notes_it()
+    ensures { WhoSaysAPriorityNotesIt Carried }
 {}
