@@ -1,5 +1,5 @@
 -- A segment says a priority only where its end has it to note (RFC 8684, section 3.3.8).
-use Rattle.std.specs.Prelude.{◌≡◌, Bool, true, false, List}
+use Rattle.std.specs.Prelude.{◌≡◌, Bool, true, false, Option, Some, List}
 use Rattle.std.specs.List.{list_any}
 use Rattle.std.specs.Option.{IfSome}
 use Rattle.path_segments.specs.Options.{PlainOption}
@@ -7,6 +7,14 @@ use Rattle.path_segments.specs.Spelled.{PlainSegment}
 use Rattle.path_segments.specs.declared.segment.PathOption.TheVariants.{Prio}
 use Rattle.path_agenda.specs.declared.duty.Duty.{Duty}
 use Rattle.path_agenda.specs.declared.notice.OwnNotice.{OwnNotice}
+use Rattle.path_store.specs.declared.lines.LineAction.{LineAction}
+use Rattle.path_store.specs.declared.lines.LineLeft.{LineLeft}
+use Rattle.sides.specs.declared.side.Side.{Side}
+use Rattle.actor_desk.specs.declared.ask.Reply.{Reply}
+use Rattle.path_core.specs.Codec.{Codec}
+use Rattle.path_core.specs.Events.{next_event}
+use Rattle.path_core.specs.Steps.{takes}
+use Rattle.path_core.specs.declared.events.Event.{Event}
 use Rattle.path_core.specs.End.{PathEnd}
 use Rattle.path_core.specs.Looking.{first_sends, segment_sent}
 use Rattle.path_core.specs.State.{PathState, end_at}
@@ -33,3 +41,16 @@ PrioritiesAreNoted p = (ds : List Duty) → IfSome (first_sends ds p) (λ t. say
 
 abbrev pub WhoSaysAPriorityNotesIt : Type 0 → Type 0
 WhoSaysAPriorityNotesIt C = (p : PathState C) → PrioritiesAreNoted p
+
+-- by the line a priority is to be told
+abbrev pub is_priority_line : LineAction → Bool
+is_priority_line (LineAction.Prio s backup) = true
+is_priority_line _ = false
+
+-- no such line comes next
+abbrev pub SparesEvent : Option Event → Type 0
+SparesEvent o = (line : LineLeft) → o ≡ Some (Event.Takes line) → is_priority_line line.action ≡ false
+
+-- what an end has to note by a step that takes no such line it had to note before
+abbrev pub PrioritiesComeByLines : {C : Type 0} → Codec C → Type 0
+PrioritiesComeByLines {C} k = (p : PathState C) (r : Reply) (s : Side) → SparesEvent (next_event p) → has_priority (end_at s (takes k r p)) ≡ true → has_priority (end_at s p) ≡ true

@@ -13,7 +13,7 @@ ghost use Rattle.whole_paths.specs.HolderWaits.{HoldersLetGo};
 ghost use Rattle.whole_paths.specs.Holders.{HoldersLive, WhatIsTriedIsAwaited};
 ghost use Rattle.whole_paths.specs.ManyGoingOn.{PathsGoOn};
 ghost use Rattle.whole_paths.specs.MissingBytes.{WhatIsMissingIsAwaited};
-ghost use Rattle.whole_paths.specs.Priorities.{WhoSaysAPriorityNotesIt};
+ghost use Rattle.whole_paths.specs.Priorities.{PrioritiesComeByLines, WhoSaysAPriorityNotesIt};
 ghost use Rattle.whole_paths.specs.Refusals.{WhoAsksIsRefused};
 ghost use Rattle.whole_paths.specs.RegularPaths.{RegularPathsDeliver};
 ghost use Rattle.whole_paths.specs.ReturnWaits.{AllNewsIsBounded, ReturnsAreAwaitedAlways};
@@ -163,4 +163,10 @@ pub fn who_heard_of_no_backup_tells_none()
 /// A law: a segment says a priority only where this stands in what its end has to note (RFC 8684, section 3.3.8).
 pub fn who_says_a_priority_notes_it()
     ensures { WhoSaysAPriorityNotesIt Carried }
+{}
+
+/// A law: an end has a priority to note only by a line of the script: by each other step it had it before (RFC 8684, section 3.3.8).
+pub fn priorities_come_by_lines()
+    ensures values { PrioritiesComeByLines values }
+    ensures octets { PrioritiesComeByLines octets }
 {}

@@ -133,6 +133,7 @@ pub use holder_laws::holders_let_go;
 pub use holder_laws::holders_live;
 pub use holder_laws::paths_are_counted;
 pub use holder_laws::paths_go_on;
+pub use holder_laws::priorities_come_by_lines;
 pub use holder_laws::regular_paths_deliver;
 pub use holder_laws::returns_are_awaited_always;
 pub use holder_laws::what_is_given_back_counts;
