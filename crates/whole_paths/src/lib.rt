@@ -18,7 +18,7 @@
 //!
 //! Over one path that stays whole, or whose ends don't die early, all this ends: both files are delivered (`whole_paths_deliver`). So it is from the
 //! beginning of the connection (`one_path_ends`), and four harmed segments let no end die early (`few_losses_finish`). A full segment takes 23
-//! rounds, and one that is harmed 3,150, where the files fit the first windows (`patient_paths_deliver`).
+//! rounds, and one that is harmed 3,150 (`patient_paths_deliver`).
 #![tactic(auto)]
 
 mod debt_laws;
