@@ -326,6 +326,9 @@ pub mod ReturnWaits
 pub mod CountedCourses
 pub mod Serving
 pub mod Backups
+pub mod SaidPriorities
+pub mod QueuedPriorities
+pub mod BackupAsks
 pub mod RegularPaths
 pub mod ManyWaits
 pub mod ManyGoingOn

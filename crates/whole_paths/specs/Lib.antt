@@ -197,6 +197,8 @@ pub mod ReturnWaits
 pub mod CountedCourses
 pub mod Serving
 pub mod Backups
+pub mod Priorities
+pub mod BackupAsks
 pub mod RegularPaths
 pub mod ManyWaits
 pub mod ManyGoingOn

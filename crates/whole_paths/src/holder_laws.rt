@@ -1,8 +1,9 @@
 //! Who holds what isn't acknowledged, over any number of paths, as clauses of functions that do nothing.
 ghost use Rattle.path_core.specs.Octets.{octets};
-ghost use Rattle.path_core.specs.Values.{values};
+ghost use Rattle.path_core.specs.Values.{Carried, values};
 ghost use Rattle.world_laws.specs.Laws.{Always};
 ghost use Rattle.world_laws.specs.Promises.{HoldsAnyway, HoldsAnywayOfOctets};
+ghost use Rattle.whole_paths.specs.BackupAsks.{WhoHeardOfNoneTellsNone};
 ghost use Rattle.whole_paths.specs.Backups.{WhoIsNoBackupServes};
 ghost use Rattle.whole_paths.specs.BookNews.{BookNewsIsBounded, BookNewsNeverFalls, EachByteCounts, WhatIsGivenBackCounts};
 ghost use Rattle.whole_paths.specs.CountedCourses.{PathsAreCounted};
@@ -12,6 +13,7 @@ ghost use Rattle.whole_paths.specs.HolderWaits.{HoldersLetGo};
 ghost use Rattle.whole_paths.specs.Holders.{HoldersLive, WhatIsTriedIsAwaited};
 ghost use Rattle.whole_paths.specs.ManyGoingOn.{PathsGoOn};
 ghost use Rattle.whole_paths.specs.MissingBytes.{WhatIsMissingIsAwaited};
+ghost use Rattle.whole_paths.specs.Priorities.{PrioritiesComeByLines, WhoSaysAPriorityNotesIt};
 ghost use Rattle.whole_paths.specs.Refusals.{WhoAsksIsRefused};
 ghost use Rattle.whole_paths.specs.RegularPaths.{RegularPathsDeliver};
 ghost use Rattle.whole_paths.specs.ReturnWaits.{AllNewsIsBounded, ReturnsAreAwaitedAlways};
@@ -150,4 +152,21 @@ pub fn who_is_no_backup_serves()
 pub fn regular_paths_deliver()
     ensures octets { RegularPathsDeliver octets }
     ensures values { RegularPathsDeliver values }
+{}
+
+/// A law: a path tells no side that it is a backup unless an end of it heard so, by the peer's MP_JOIN or its MP_PRIO (RFC 8684, sections 3.2 and 3.3.8).
+pub fn who_heard_of_no_backup_tells_none()
+    ensures values { WhoHeardOfNoneTellsNone values }
+    ensures octets { WhoHeardOfNoneTellsNone octets }
+{}
+
+/// A law: a segment says a priority only where this stands in what its end has to note (RFC 8684, section 3.3.8).
+pub fn who_says_a_priority_notes_it()
+    ensures { WhoSaysAPriorityNotesIt Carried }
+{}
+
+/// A law: an end has a priority to note only by a line of the script: by each other step it had it before (RFC 8684, section 3.3.8).
+pub fn priorities_come_by_lines()
+    ensures values { PrioritiesComeByLines values }
+    ensures octets { PrioritiesComeByLines octets }
 {}
