@@ -46,7 +46,7 @@ module _ (start : Start) (turns : List Turn) (size : HasRoom start) (fit : Numbe
       let it = run_settled start turns size fit run side at in record {
         one = (let same = it.counts.books in let few = few_books verdict.seen.connections it.one.few in omega (arith, same, few));
         keys = λ i keys there. let is = it.own.connections i keys there in record { a = is.a; b = is.b; checksums = is.checksums };
-        subflows = λ i flow there. let is = it.own.flows i flow there in (is.0, record { opener = is.1.opener; other = is.1.other; syn = is.1.octets; cut = is.1.cut; wrong_sums = is.1.wrong });
+        subflows = λ i flow there. let is = it.own.flows i flow there in (is.0, is.1.within, record { opener = is.1.opener; other = is.1.other; syn = is.1.octets; cut = is.1.cut; wrong_sums = is.1.wrong });
         first = λ i keys there. opens_it i keys there;
         apart = it.one.alone;
         joins = none_told verdict.seen.flows it.named;
