@@ -37,8 +37,8 @@ pub record HasItsKeys (start : Start) (keys : Keys) : Type 0 where
   pub b : keys.b ≡ start.key_b
   pub checksums : keys.checksums ≡ start.checksums
 
--- At most one connection is seen, and it is the start's. Each subflow runs on a path of the start, and no two on the same. Each join's connection is found, so no line is of
--- one, and what the capture comes to is for the rules of the two sides alone.
+-- At most one connection is seen, and it is the start's. Each subflow runs on a path of the start, and no two on the same. Each join's connection is
+-- found, so no line is of one, and what the capture comes to is for the rules of the two sides alone.
 pub record SeesTheConnection (start : Start) (judged : JudgedValue) : Type 0 where
   pub one : length judged.books ≤ 1
   pub keys : (connection : ℕ) (keys : Keys) → slice_get judged.seen.connections connection ≡ Some keys → HasItsKeys start keys
