@@ -47,6 +47,7 @@ pub record SeesTheConnection (start : Start) (judged : JudgedValue) : Type 0 whe
       → (flow : Flow) × (slice_get judged.seen.flows keys.flow ≡ Some flow) × RunsOn 0 flow
   pub subflows : (i : ℕ) (flow : Flow) → slice_get judged.seen.flows i ≡ Some flow → (path : ℕ) × (path < length start.paths) × RunsOn path flow
   pub apart : (i j : ℕ) (f g : Flow) → slice_get judged.seen.flows i ≡ Some f → slice_get judged.seen.flows j ≡ Some g → f.opener ≡ g.opener → i ≡ j
+  pub few : length judged.seen.flows ≤ length start.paths
   pub joins : strays_words judged.seen.flows ≡ []
   pub ending : ending_of judged ≡ (if has_none judged.books then NoConnection else (if list_any broke_rule judged.books then Broken else Kept))
 
