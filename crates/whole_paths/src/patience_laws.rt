@@ -8,7 +8,7 @@ ghost use Rattle.whole_paths.specs.PatientTexts.{FewLossesFinishByText, PatientT
 /// A law: over one path both files are delivered after 10,800 rounds, 23 for each full segment of either file, and 3,150 for each segment that is
 /// harmed, unless an end dies; however much is lost, late or repeated.
 ///
-/// It is said of mild scripts, of files of any length, and of fewer than 2^64 - 1 turns. So it is from the round's end at which the path is whole
+/// It is said of mild scripts, of files of 16 MiB at most, and of fewer than 2^64 - 1 turns. So it is from the round's end at which the path is whole
 /// (`ends_octets`, `ends_values`), and from the beginning (`octets`, `values`). A segment is harmed where it is lost, or comes later than 400 ticks;
 /// with four such segments at most, and no line by which the path dies or its address is taken back, no end dies (`few_octets`, `few_values`).
 /// Each copy with octets that comes to B's end before that may send a DSS, as none does unless A's first segment with both keys is harmed or
