@@ -140,7 +140,7 @@ module _ (d : Drawn) (U T V W : Type 0) (state : JudgedValue) (packet : ℕ) (se
     next_on : FlowOn d own.path next
     next_on =
         let on = counted_on d state.seen packet seen own h.own own.path it_found.0.flow f_on.1 in
-        record { opener = on.opener; other = on.other; opening = on.opening; belongs = on.belongs; nonce = on.nonce; number = on.number; octets = on.octets; cut = on.cut; wrong = on.wrong; bases = on.bases }
+        record { within = on.within; opener = on.opener; other = on.other; opening = on.opening; belongs = on.belongs; nonce = on.nonce; number = on.number; octets = on.octets; cut = on.cut; wrong = on.wrong; bases = on.bases }
 
     taken_is : taken state.seen packet seen true ≡ record {
       now = record { flows = set state.seen.flows it_found.0.index next; connections = state.seen.connections; known = state.seen.known; last = packet };

@@ -1,5 +1,5 @@
 -- What a reader of captures finds of a segment of a connection of ours, by what was drawn for the connection.
-use Rattle.std.proofs.Common.{◌≡◌, refl, sym, ap, ◌∙◌, ℕ, ◌+◌, ◌%◌, ◌^◌, ◌⊎◌, Bool, true, false, Option, List, map, arith}
+use Rattle.std.proofs.Common.{◌≡◌, refl, sym, ap, ◌∙◌, ℕ, ◌+◌, ◌<◌, ◌%◌, ◌^◌, ◌⊎◌, Bool, true, false, Option, List, map, arith}
 use Rattle.std.specs.Prelude.{All, IfSome, Some, None, unwrap_or, slice_get}
 use Rattle.sides.specs.declared.side.Side.{Side}
 use Rattle.sides.specs.declared.side.Side.TheVariants.{A, B}
@@ -40,6 +40,7 @@ pub record Drawn : Type 0 where
   pub initial_a : ℕ → ℕ
   pub initial_b : ℕ → ℕ
   pub checksums : Bool
+  pub paths : ℕ
 
 module _ (d : Drawn) where
   abbrev pub own_key : Side → ℕ
@@ -111,6 +112,7 @@ end_of path side = record { address = V4 (address_of path side); port = port_of 
 -- the segment; a SYN asks for what A asks for, and answers what B answers, and has the number of position 0, without octets.
 pub record IsOwn (d : Drawn) (seen : Seen) : Type 0 where
   pub path : ℕ
+  pub within : path < d.paths
   pub from : Side
   pub source : seen.source ≡ end_of path from
   pub destination : seen.destination ≡ end_of path (peer from)

@@ -1,5 +1,5 @@
 -- The flows and connections that are seen in a capture of a connection of ours.
-use Rattle.std.proofs.Common.{◌≡◌, refl, sym, ap, ◌∙◌, subst, ℕ, zero, suc, ◌+◌, ◌%◌, ◌^◌, nat_le, ◌⊎◌, inl, inr, ◌||◌, Bool, true, false, not, is_none, if◌then◌else◌, Option, Some, None, List, [], ◌∷◌, ◌++◌, length, arith}
+use Rattle.std.proofs.Common.{◌≡◌, refl, sym, ap, ◌∙◌, subst, ℕ, zero, suc, ◌+◌, ◌<◌, ◌%◌, ◌^◌, nat_le, ◌⊎◌, inl, inr, ◌||◌, Bool, true, false, not, is_none, if◌then◌else◌, Option, Some, None, List, [], ◌∷◌, ◌++◌, length, arith}
 use Rattle.std.specs.Prelude.{IfSome, find}
 use Rattle.std.specs.Int.{from_bool}
 use Rattle.std.specs.List.{slice_get}
@@ -74,6 +74,7 @@ module _ (d : Drawn) where
 
   -- a flow of a path, which A opened
   pub record FlowOn (path : ℕ) (flow : Flow) : Type 0 where
+    pub within : path < d.paths
     pub opener : flow.opener ≡ end_of path A
     pub other : flow.other ≡ end_of path B
     pub opening : OpeningIs d path flow.opening
@@ -171,6 +172,7 @@ module _ (d : Drawn) where
         each_set FlowIs state.flows found.index (record found.flow { is_over = true }) h.flows (
           was.0,
           record {
+            within = was.1.within;
             opener = was.1.opener;
             other = was.1.other;
             opening = was.1.opening;
@@ -186,6 +188,7 @@ module _ (d : Drawn) where
 
     begun_on : (o : Opening) → seen.segment.head.syn ≡ true → (own.from ≡ A) × OpeningIs d own.path o → FlowOn own.path (begun packet seen o (belongs_by o state.known))
     begun_on o syn asks = record {
+      within = own.within;
       opener = own.source ∙ ap (end_of own.path) asks.0;
       other = own.destination ∙ ap (λ (s : Side). end_of own.path (peer s)) asks.0;
       opening = asks.1;
@@ -309,6 +312,7 @@ module _ (d : Drawn) where
 
       flow_so : (a : Option Answer) → IfSome a (AnswerIs d path flow.opening) → IfSome a (λ x. (nonce : ℕ) → BasesAre path (opened_by seen nonce)) → FlowOn path (flow_after seen (answered state seen flow a) flow)
       flow_so None is at = record {
+        within = f.within;
         opener = f.opener;
         other = f.other;
         opening = f.opening;
@@ -321,6 +325,7 @@ module _ (d : Drawn) where
         bases = f.bases;
       }
       flow_so (Some (answer.Key key checksums)) is at = record {
+        within = f.within;
         opener = f.opener;
         other = f.other;
         opening = f.opening;
@@ -335,6 +340,7 @@ module _ (d : Drawn) where
       flow_so (Some (answer.Join join)) is at =
           let wrong = wrong_token 0 state.connections flow.first join in
           record {
+            within = f.within;
             opener = f.opener;
             other = f.other;
             opening = f.opening;
@@ -385,6 +391,7 @@ module _ (d : Drawn) where
     -- with one packet more
     pub counted_on : (path : ℕ) (flow : Flow) → FlowOn path flow → FlowOn path (counted seen.is_cut true flow)
     counted_on path flow f = record {
+      within = f.within;
       opener = f.opener;
       other = f.other;
       opening = f.opening;

@@ -4,6 +4,7 @@ use Rattle.std.specs.Prelude.{All, IfSome, unwrap_or}
 use Rattle.std.specs.Int.{from_bool}
 use Rattle.std.specs.Int.{w16, to_be_bytes}
 use Rattle.std.specs.Option.{option_map, option_or}
+use Rattle.std.proofs.lemmas.Option.{slice_get_within}
 use Rattle.std.proofs.lemmas.Bool.{and_parts, le-leb}
 use Rattle.std.proofs.lemmas.List.Elements.{All-cons, All-head, All-nil, All-tail, All-weaker}
 use Rattle.capture_reader.specs.Seen.{Seen, segment_in_packet}
@@ -412,6 +413,7 @@ module _ (Q : ℕ → Side → PlainSegment → Type 0) (start : Start) (x : Sen
   pub is_own : IsOwn own seen_of
   is_own = record {
     path = x.path;
+    within = slice_get_within start.paths x.path s.plan s.there;
     from = x.from;
     source = ap (λ (h : Head). let made : End = record { address = V4 (address_of x.path x.from); port = h.source_port } in made) (heads_are c.spelling x.from sg);
     destination = ap (λ (h : Head). let made : End = record { address = V4 (address_of x.path (peer x.from)); port = h.destination_port } in made) (heads_are c.spelling x.from sg);

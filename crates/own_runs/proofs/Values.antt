@@ -1,5 +1,5 @@
 -- Options that show what was drawn, as they are written.
-use Rattle.std.proofs.Common.{◌≡◌, refl, ℕ, Bool, true, false, if◌then◌else◌, Some, None, option_map, List}
+use Rattle.std.proofs.Common.{◌≡◌, refl, ℕ, Bool, true, false, if◌then◌else◌, Some, None, option_map, List, length}
 use Rattle.std.specs.Prelude.{unwrap_or}
 use Rattle.std.specs.List.{slice_get}
 use Rattle.mptcp_options.specs.declared.capable.CapableKeys.TheVariants.{Both, NoKey, Sender, WithData}
@@ -30,6 +30,7 @@ drawn start = record {
   initial_a = nonce_at (λ plan. plan.initial_a) start.paths;
   initial_b = nonce_at (λ plan. plan.initial_b) start.paths;
   checksums = start.checksums;
+  paths = length start.paths;
 }
 
 -- ---- values

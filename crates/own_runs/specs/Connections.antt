@@ -1,5 +1,5 @@
 -- The connection that the judge finds in the capture of a run, whatever the run's script does.
-use Rattle.std.specs.Prelude.{◌≡◌, ◌≤◌, ℕ, true, if◌then◌else◌, Option, Some, IfSome, Ok, List, [], length}
+use Rattle.std.specs.Prelude.{◌≡◌, ◌<◌, ◌≤◌, ℕ, true, if◌then◌else◌, Option, Some, IfSome, Ok, List, [], length}
 use Rattle.std.specs.List.{list_any, slice_get}
 use Rattle.capture_reader.specs.declared.seen.End.{End}
 use Rattle.capture_verdict.specs.Ending.{broke_rule, ending_of, has_none}
@@ -37,16 +37,17 @@ pub record HasItsKeys (start : Start) (keys : Keys) : Type 0 where
   pub b : keys.b ≡ start.key_b
   pub checksums : keys.checksums ≡ start.checksums
 
--- At most one connection is seen, and it is the start's. No two subflows run on the same path. Each join's connection is found, so no line is of
--- one, and what the capture comes to is for the rules of the two sides alone.
+-- At most one connection is seen, and it is the start's. Each subflow runs on a path of the start, and no two on the same. Each join's connection is
+-- found, so no line is of one, and what the capture comes to is for the rules of the two sides alone.
 pub record SeesTheConnection (start : Start) (judged : JudgedValue) : Type 0 where
   pub one : length judged.books ≤ 1
   pub keys : (connection : ℕ) (keys : Keys) → slice_get judged.seen.connections connection ≡ Some keys → HasItsKeys start keys
   -- the subflow that opened it runs on path 0
   pub first : (connection : ℕ) (keys : Keys) → slice_get judged.seen.connections connection ≡ Some keys
       → (flow : Flow) × (slice_get judged.seen.flows keys.flow ≡ Some flow) × RunsOn 0 flow
-  pub subflows : (i : ℕ) (flow : Flow) → slice_get judged.seen.flows i ≡ Some flow → (path : ℕ) × RunsOn path flow
+  pub subflows : (i : ℕ) (flow : Flow) → slice_get judged.seen.flows i ≡ Some flow → (path : ℕ) × (path < length start.paths) × RunsOn path flow
   pub apart : (i j : ℕ) (f g : Flow) → slice_get judged.seen.flows i ≡ Some f → slice_get judged.seen.flows j ≡ Some g → f.opener ≡ g.opener → i ≡ j
+  pub few : length judged.seen.flows ≤ length start.paths
   pub joins : strays_words judged.seen.flows ≡ []
   pub ending : ending_of judged ≡ (if has_none judged.books then NoConnection else (if list_any broke_rule judged.books then Broken else Kept))
 

@@ -67,9 +67,9 @@ pub fn own_runs_break_no_rule()
 
 /// A law: the capture of a run is read, and at most one connection is seen in it, whatever the script does. B's key is that of the start, and A's,
 /// where it was shown; checksums are used where the start says so (RFC 8684, section 3.1). The subflow that opened it runs on path 0. Each subflow
-/// runs between the ends of a path, A opened it by a SYN without payload, and no two run on the same path. None of its packets is cut, and none has
-/// a wrong sum. Each join's connection was found (section 3.2), so no line is of a join, and whether the capture ends well is for the rules of the
-/// two sides alone. The premises are those of `own_runs_break_no_rule`.
+/// runs between the ends of a path of the start, A opened it by a SYN without payload, and no two run on the same path, so they are no more than
+/// the paths. None of its packets is cut, and none has a wrong sum. Each join's connection was found (section 3.2), so no line is of a join, and
+/// whether the capture ends well is for the rules of the two sides alone. The premises are those of `own_runs_break_no_rule`.
 pub fn own_runs_are_one_connection()
     ensures { EachRunIsOneConnection }
 {}

@@ -335,3 +335,4 @@ pub mod ManyWaits
 pub mod ManyGoingOn
 pub mod ManyCourses
 pub mod ManyPaths
+pub mod ManyEnds

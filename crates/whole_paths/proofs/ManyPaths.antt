@@ -23,13 +23,13 @@ use Rattle.whole_paths.proofs.Mild.{mild_scripts_start_mildly}
 use Rattle.whole_paths.proofs.OpenCourses.{lawful_parts}
 use Rattle.whole_paths.proofs.OverOctets.{octets_are_as_far_as_values, path_on}
 
-starts_mildly : (script : Script) (file_a file_b : List ℕ) → IsMildScript script file_a file_b → IsMildStart (start_of script file_a file_b)
+pub starts_mildly : (script : Script) (file_a file_b : List ℕ) → IsMildScript script file_a file_b → IsMildStart (start_of script file_a file_b)
 starts_mildly script file_a file_b h =
     let short_a = h.a in let short_b = h.b in
     mild_scripts_start_mildly script file_a file_b (record { ranges = h.ranges; short_a = omega (arith, short_a); short_b = omega (arith, short_b) }) h.mild
 
 -- three rounds past the ticks
-rounds_so : (n rounds : ℕ) → n / 100 + 4 ≤ rounds → n + 300 < 100 * rounds
+pub rounds_so : (n rounds : ℕ) → n / 100 + 4 ≤ rounds → n + 300 < 100 * rounds
 rounds_so n rounds many = let less = lt-div-mul-add {a = n} {b = 100} (omega arith) in omega (arith, less, many)
 
 pub first_paths_deliver : FirstPathsDeliver values
@@ -57,7 +57,7 @@ first_paths_deliver script file_a file_b before more mild brief lawful first las
 
 -- ---- over octets
 
-serves_back : (start : Start) (turns : List Turn) → IsMildStart start → ServesAt 0 (reached octets start turns) → ServesAt 0 (reached values start turns)
+pub serves_back : (start : Start) (turns : List Turn) → IsMildStart start → ServesAt 0 (reached octets start turns) → ServesAt 0 (reached values start turns)
 serves_back start turns mild h p here s =
     ap (λ e. e.modes.standby) (sym (same_end_at s p))
     ∙ h (shown_path p) (subst (λ (w : WorldState (List ℕ)). IsPathAt 0 w (shown_path p)) (sym (run_fresh start turns mild.plain.size mild.fit)) (path_on 0 (reached values start turns) p here)) s

@@ -291,7 +291,7 @@ few_losses_finish_as_over_values = finish_where (λ script turns. Unit {0})
 -- ---- ends that died early
 
 -- all of both streams is there by the books alone
-there_by_books : {C D : Type 0} (w : WorldState C) (v : WorldState D) → w.books ≡ v.books → AllIsThere w → AllIsThere v
+pub there_by_books : {C D : Type 0} (w : WorldState C) (v : WorldState D) → w.books ≡ v.books → AllIsThere w → AllIsThere v
 there_by_books w v same h = record {
   of = λ s. record {
     closed = ap (λ b. (send_of s (books_in b)).closed) (sym same) ∙ (h.of s).closed;

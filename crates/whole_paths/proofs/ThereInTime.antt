@@ -90,7 +90,7 @@ whole_paths_didnt_die k enough ends script path file_a file_b before more mild a
 -- ---- delivered in time
 
 -- all of both streams is there, or not
-all_there_or : (w : WorldState Carried) → AllIsThere w ⊎ (AllIsThere w → ⊥)
+pub all_there_or : (w : WorldState Carried) → AllIsThere w ⊎ (AllIsThere w → ⊥)
 all_there_or w = ⊎_elim
     (λ a. ⊎_elim (λ b. inl (record { of = elim [ A ↦ a | B ↦ b ] })) (λ none. inr (λ all. none (all.of B))) (there_or B w))
     (λ none. inr (λ all. none (all.of A)))

@@ -1,6 +1,6 @@
 -- The exchange of an ask between the open ends of an only path: where it asks for the Data ACK of a DATA_FIN, the peer heard that before it
 -- answers (RFC 8684, section 3.3.3).
-use Rattle.std.specs.Prelude.{ℕ, ◌+◌, ◌-◌, ◌^◌, ◌≡◌, ◌<◌, ◌≤◌, ◌⊎◌, Bool, true, Some, List, [], ◌∷◌, slice_get}
+use Rattle.std.specs.Prelude.{ℕ, ◌+◌, ◌-◌, ◌^◌, ◌≡◌, ◌<◌, ◌≤◌, ◌⊎◌, Bool, true, Some, List, [], slice_get}
 use Rattle.sides.specs.declared.side.Side.{Side}
 use Rattle.sides.specs.Side.{peer}
 use Rattle.link_model.specs.Steps.{segments_sent}

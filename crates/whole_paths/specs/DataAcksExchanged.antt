@@ -1,6 +1,6 @@
 -- The exchange of an ask: what an end without a record asks comes to the peer, and the Data ACK that it waits for comes back (RFC 8684,
 -- sections 3.3.2 and 3.3.3).
-use Rattle.std.specs.Prelude.{ℕ, ◌+◌, ◌-◌, ◌^◌, ◌≡◌, ◌<◌, ◌≤◌, ◌⊎◌, Bool, true, false, None, Some, IsSome, List, [], ◌∷◌, slice_get}
+use Rattle.std.specs.Prelude.{ℕ, ◌+◌, ◌-◌, ◌^◌, ◌≡◌, ◌<◌, ◌≤◌, ◌⊎◌, Bool, true, false, None, Some, IsSome, List, [], slice_get}
 use Rattle.sides.specs.declared.side.Side.{Side}
 use Rattle.sides.specs.Side.{peer}
 use Rattle.link_model.specs.Steps.{segments_sent}

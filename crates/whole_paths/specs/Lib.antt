@@ -204,3 +204,4 @@ pub mod ManyWaits
 pub mod ManyGoingOn
 pub mod ManyCourses
 pub mod ManyPaths
+pub mod ManyEnds

@@ -3,6 +3,7 @@ ghost use Rattle.path_core.specs.Octets.{octets};
 ghost use Rattle.path_core.specs.Values.{values};
 ghost use Rattle.whole_paths.specs.EdgeStands.{NothingIsTriedPastTheEdge, ShutEndsStayShut};
 ghost use Rattle.whole_paths.specs.ManyCourses.{ManyPathsBringAll, ManyPathsDeliver, ServingPathsDeliver};
+ghost use Rattle.whole_paths.specs.ManyEnds.{FirstPathsEnd};
 ghost use Rattle.whole_paths.specs.ManyPaths.{FirstPathsDeliver};
 ghost use Rattle.whole_paths.specs.ManyWaits.{EachMissingByteIsWaitedFor};
 ghost use Rattle.whole_paths.specs.Wanted.{WhatIsWantedIsTold};
@@ -65,4 +66,13 @@ pub fn many_paths_bring_all()
 pub fn first_paths_deliver()
     ensures octets { FirstPathsDeliver octets }
     ensures values { FirstPathsDeliver values }
+{}
+
+/// A law: once path 0 is whole at the end of a round, both files are delivered when rounds enough have ended, whatever becomes of any number of other paths;
+/// or an end of path 0 died before all of both streams was there (RFC 8684, section 3.3.2).
+///
+/// It is said of mild scripts, and where path 0 stands by at neither end at any moment.
+pub fn first_paths_end()
+    ensures octets { FirstPathsEnd octets }
+    ensures values { FirstPathsEnd values }
 {}
