@@ -327,6 +327,7 @@ pub mod CountedCourses
 pub mod Serving
 pub mod Backups
 pub mod SaidPriorities
+pub mod PriorityItems
 pub mod QueuedPriorities
 pub mod BackupAsks
 pub mod RegularPaths

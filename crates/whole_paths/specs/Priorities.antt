@@ -1,6 +1,6 @@
 -- A segment says a priority only where its end has it to note (RFC 8684, section 3.3.8).
-use Rattle.std.specs.Prelude.{◌≡◌, Bool, true, false, Option, Some, List}
-use Rattle.std.specs.List.{list_any}
+use Rattle.std.specs.Prelude.{◌≡◌, Bool, true, false, Option, Some, List, ℕ, map}
+use Rattle.std.specs.List.{flat_map, list_any}
 use Rattle.std.specs.Option.{IfSome}
 use Rattle.path_segments.specs.Options.{PlainOption}
 use Rattle.path_segments.specs.Spelled.{PlainSegment}
@@ -15,6 +15,9 @@ use Rattle.path_core.specs.Codec.{Codec}
 use Rattle.path_core.specs.Events.{next_event}
 use Rattle.path_core.specs.Steps.{takes}
 use Rattle.path_core.specs.declared.events.Event.{Event}
+use Rattle.path_segments.specs.Laws.{meant_option}
+use Rattle.path_core.specs.OptionsIn.{items_in}
+use Rattle.whole_paths.specs.BackupAsks.{notes_backup}
 use Rattle.path_core.specs.End.{PathEnd}
 use Rattle.path_core.specs.Looking.{first_sends, segment_sent}
 use Rattle.path_core.specs.State.{PathState, end_at}
@@ -54,3 +57,7 @@ SparesEvent o = (line : LineLeft) → o ≡ Some (Event.Takes line) → is_prior
 -- what an end has to note by a step that takes no such line it had to note before
 abbrev pub PrioritiesComeByLines : {C : Type 0} → Codec C → Type 0
 PrioritiesComeByLines {C} k = (p : PathState C) (r : Reply) (s : Side) → SparesEvent (next_event p) → has_priority (end_at s (takes k r p)) ≡ true → has_priority (end_at s p) ≡ true
+
+-- what an end hears of a segment tells of no backup where the segment says no priority
+abbrev pub BackupsAreSaid : Type 0
+BackupsAreSaid = (joined : Bool) (s : Side) (window : ℕ) (xs : List PlainOption) → list_any says_priority xs ≡ false → list_any notes_backup (flat_map (items_in joined s window) (map meant_option xs)) ≡ false

@@ -13,7 +13,7 @@ ghost use Rattle.whole_paths.specs.HolderWaits.{HoldersLetGo};
 ghost use Rattle.whole_paths.specs.Holders.{HoldersLive, WhatIsTriedIsAwaited};
 ghost use Rattle.whole_paths.specs.ManyGoingOn.{PathsGoOn};
 ghost use Rattle.whole_paths.specs.MissingBytes.{WhatIsMissingIsAwaited};
-ghost use Rattle.whole_paths.specs.Priorities.{PrioritiesComeByLines, WhoSaysAPriorityNotesIt};
+ghost use Rattle.whole_paths.specs.Priorities.{BackupsAreSaid, PrioritiesComeByLines, WhoSaysAPriorityNotesIt};
 ghost use Rattle.whole_paths.specs.Refusals.{WhoAsksIsRefused};
 ghost use Rattle.whole_paths.specs.RegularPaths.{RegularPathsDeliver};
 ghost use Rattle.whole_paths.specs.ReturnWaits.{AllNewsIsBounded, ReturnsAreAwaitedAlways};
@@ -169,4 +169,9 @@ pub fn who_says_a_priority_notes_it()
 pub fn priorities_come_by_lines()
     ensures values { PrioritiesComeByLines values }
     ensures octets { PrioritiesComeByLines octets }
+{}
+
+/// A law: what an end hears of a segment tells of no backup where the segment says no priority (RFC 8684, section 3.3.8).
+pub fn backups_are_said()
+    ensures { BackupsAreSaid }
 {}

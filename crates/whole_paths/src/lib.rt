@@ -127,6 +127,7 @@ pub use expiry_laws::few_losses_finish;
 pub use expiry_laws::first_addresses_stay;
 pub use expiry_laws::harmless_ends_die_of_expiries;
 pub use expiry_laws::mild_ends_die_of_expiries;
+pub use holder_laws::backups_are_said;
 pub use holder_laws::each_byte_counts;
 pub use holder_laws::each_missing_byte_is_held;
 pub use holder_laws::holders_let_go;
