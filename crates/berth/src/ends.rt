@@ -17,7 +17,7 @@ pub struct Giver<W: Drop, D: Deed<W>> {
     recalled: u32,
 }
 
-// A worker that came too late for its last job is woken for each 256th only.
+// A worker is woken for each 256th job in a row that was taken back; one that is awake takes what is there.
 const SELDOM: u32 = 256;
 
 impl<W: Drop, D: Deed<W>> Model for Giver<W, D> {
@@ -80,9 +80,9 @@ impl<W: Drop, D: Deed<W>> Giver<W, D> {
         self.berth.wait_until_come(rt)
     }
 
-    // The worker is woken, unless it came too late for its last job.
+    // The worker is woken seldom: a turn is shorter than to wake it, and who gives it waits for it or makes it.
     fn wake(&self) {
-        if self.recalled % SELDOM == 0 {
+        if self.recalled % SELDOM == SELDOM - 1 {
             self.berth.wake();
         }
     }
