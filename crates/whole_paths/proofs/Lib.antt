@@ -336,3 +336,11 @@ pub mod ManyGoingOn
 pub mod ManyCourses
 pub mod ManyPaths
 pub mod ManyEnds
+pub mod JoinedLow
+pub mod JoinedCopies
+pub mod JoinedTreated
+pub mod JoinedUnbroken
+pub mod JoinedKeys
+pub mod ByPaths
+pub mod OnlyEvents
+pub mod JoinedPaths

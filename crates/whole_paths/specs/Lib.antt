@@ -205,3 +205,4 @@ pub mod ManyGoingOn
 pub mod ManyCourses
 pub mod ManyPaths
 pub mod ManyEnds
+pub mod JoinedPaths
