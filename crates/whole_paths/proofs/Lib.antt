@@ -344,3 +344,9 @@ pub mod JoinedKeys
 pub mod ByPaths
 pub mod OnlyEvents
 pub mod JoinedPaths
+pub mod LivingBooks
+pub mod LivesTold
+pub mod LivingPaths
+pub mod LooksFirst
+pub mod StandbyPaths
+pub mod StandbyRounds

@@ -1,5 +1,5 @@
 -- A kind of duty that no other one tells, and by which no end breaks, leaves or is stopped, is laid out by events alone.
-use Rattle.std.proofs.Common.{◌≡◌, refl, ℕ, Bool, true, false, List, [], ◌∷◌}
+use Rattle.std.proofs.Common.{◌≡◌, refl, ℕ, Bool, true, false, List, ◌∷◌}
 use Rattle.std.specs.List.{list_any}
 use Rattle.std.proofs.lemmas.Bool.{or_from, or_parts}
 use Rattle.sides.specs.declared.side.Side.{Side}

@@ -206,3 +206,6 @@ pub mod ManyCourses
 pub mod ManyPaths
 pub mod ManyEnds
 pub mod JoinedPaths
+pub mod LivingPaths
+pub mod StandbyPaths
+pub mod StandbyRounds
