@@ -348,5 +348,6 @@ pub mod LivingBooks
 pub mod LivesTold
 pub mod LivingPaths
 pub mod LooksFirst
+pub mod RoundLives
 pub mod StandbyPaths
 pub mod StandbyRounds

@@ -222,6 +222,21 @@ module _ {C : Type 0} (k : Codec C) where
               let open_end = duty_tells s number d ds p stood rightly (record { backup = tells.backup; is = same_Some (ask_for k d p) x asks ∙ tells.is }) in
               let own = open_end.own in let at = named.0 in omega (arith, own, at)
 
+      -- it is that path, and its end lives
+      pub telling_lives : (s : Side) (number : ℕ) → TellsLive s number x → (p : PathState C) × IsPathAt number w p × (is_dead (end_at s p).tcp.state ≡ false)
+      telling_lives s number tells = by c.member refl (h.named actor c there) (h.rightly actor c there) asking
+        where
+          on_path : (p : PathState C) → c.member ≡ Path p → 2 + path_of p ≡ actor → (ds : List Duty) → FirstStands ds p → TellsOf ds p → asks_first k ds p ≡ Some x → (p : PathState C) × IsPathAt number w p × (is_dead (end_at s p).tcp.state ≡ false)
+          on_path p kind named [] stood rightly asks = cc
+          on_path p kind named (d ∷ ds) stood rightly asks =
+              let told = duty_tells s number d ds p stood rightly (record { backup = tells.backup; is = same_Some (ask_for k d p) x asks ∙ tells.is }) in
+              let own = told.own in let same : 2 + number ≡ actor = omega (arith, own, named) in
+              (p, record { crew = c; there = ap (slice_get w.crew) same ∙ there; is = kind }, told.stands.living)
+
+          by : (m : Actor C) → c.member ≡ m → IsNamed k actor m → TellsRightly m → member_asks k m ≡ Some x → (p : PathState C) × IsPathAt number w p × (is_dead (end_at s p).tcp.state ≡ false)
+          by (App a) kind named rightly asks = absurd (app_never s number x a a.agenda asks tells)
+          by (Path p) kind named rightly asks = on_path p kind named.0 p.agenda named.1 rightly asks
+
       -- another path is where it was
       apart_on : (s : Side) (number : ℕ) → (actor ≡ 2 + number → ⊥) → (p : PathState C) × IsPathAt number w p × MayLive s p → (p : PathState C) × IsPathAt number v p × MayLive s p
       apart_on s number apart found =

@@ -53,6 +53,7 @@ module _ {C : Type 0} (w : WorldState C) (h : LivingPathsLive w) where
           record {
             other = found.at;
             apart = λ same. true≢false (sym (same_number number) ∙ ap (λ n. n == number) (sym same) ∙ x.apart);
+            lives_so = x.lives_so;
             regular = x.regular;
             path = lived.0;
             here = lived.1;

@@ -26,6 +26,7 @@ use Rattle.path_core.specs.State.{PathState, end_at, path_of, with_agenda}
 use Rattle.path_core.specs.Steps.{asks_first, takes}
 use Rattle.world_laws.specs.declared.member.Member.TheVariants.{App, Path}
 use Rattle.world_laws.specs.Actors.{Actor, ActorCrew, member_asks, member_next, member_takes}
+use Rattle.world_laws.specs.Members.{HoldsOfKind}
 use Rattle.world_laws.specs.Openings.{Start, opened_world, path_begins}
 use Rattle.world_laws.specs.Outcomes.{notes_at, notes_or}
 use Rattle.world_laws.specs.RoundDone.{reached}
@@ -45,6 +46,7 @@ use Rattle.whole_paths.proofs.Holding.{IsNamed}
 use Rattle.whole_paths.proofs.LivingPaths.{Known, always_known, known_asked}
 use Rattle.whole_paths.proofs.LooksFirst.{IsToLook, NoneLooks, answered_none, asks_as_it_stands, asks_no_look, begins_looks, look_next, looker_asks_none, looks_on, settled_looks, settled_none}
 use Rattle.whole_paths.proofs.Refused.{first_there, steps_so}
+use Rattle.whole_paths.proofs.RoundLives.{LivedFirst, Since, StaysPast, begins_so, past_asked, since_asked, since_begun}
 use Rattle.whole_paths.proofs.StandbyPaths.{standby_served}
 
 -- a Look of this side tells whether the path stands by
@@ -68,8 +70,12 @@ module _ {C : Type 0} (k : Codec C) (start : Start) (since : List Turn) (s : Sid
   abbrev before : List Note
   before = notes_at (2 + number) begun.crew
 
-  abbrev Told : WorldState C → Type 0
-  Told w = WasServedBeside k s number begun w
+  -- at a moment of the round another path lived by the side's book, and was no backup
+  pub record Told (w : WorldState C) : Type 0 where
+    pub sooner : List ℕ
+    pub later : List ℕ
+    pub there : after_steps k later (after_steps k sooner begun) ≡ w
+    pub beside : IsServedBeside s number (after_steps k sooner begun)
 
   -- the path is to look yet, or looked, and stands by only for another one
   abbrev Looked : WorldState C → PathState C → Type 0
@@ -223,25 +229,6 @@ module _ {C : Type 0} (k : Codec C) (start : Start) (since : List Turn) (s : Sid
 
   -- ---- as a round begins
 
-  abbrev MemberLooks : Actor C → Type 0
-  MemberLooks (App a) = Unit {0}
-  MemberLooks (Path p) = IsToLook s p.agenda
-
-  next_looks : (m : Actor C) → MemberLooks (member_next m)
-  next_looks (App a) = tt
-  next_looks (Path p) = begins_looks k s (record p { clock = p.until; until = p.until + 100 })
-
-  begins_so : BeginsRound k start begun → (c : ActorCrew C) → slice_get begun.crew (2 + number) ≡ Some c → MemberLooks c.member
-  begins_so (beginning.First is) c there =
-      opened_actors (λ actor (d : ActorCrew C). MemberLooks d.member) start tt tt (λ n plan at. begins_looks k s (waiting_path (path_begins start n plan) start.lines)) (2 + number) c
-      (ap (λ (w : WorldState C). slice_get w.crew (2 + number)) (sym is) ∙ there)
-  begins_so (beginning.Next turns over is) c there =
-      let w : WorldState C = world_run k turns (opened_world start) in
-      let u : WorldState C = record w { crew = map (begins (greatest 0 w.crew)) w.crew } in
-      let ended : end_round w ≡ u = ap (λ (b : Bool). if b then u else w) over in
-      let found = in_map (begins (greatest 0 w.crew)) w.crew (2 + number) c (ap (λ (v : WorldState C). slice_get v.crew (2 + number)) (sym (is ∙ ended)) ∙ there) in
-      subst (λ (d : ActorCrew C). MemberLooks d.member) found.2 (next_looks found.0.member)
-
   first_going : BeginsRound k start begun → (p : PathState C) → IsPathAt number begun p → Going begun
   first_going begins p here = record {
     known = always_known k start since;
@@ -251,14 +238,57 @@ module _ {C : Type 0} (k : Codec C) (start : Start) (since : List Turn) (s : Sid
     here = here;
     more = [];
     list_is = ap notes_or (sym here.there) ∙ sym (append-nil _);
-    looked = inl (subst MemberLooks here.is (begins_so begins here.crew here.there));
+    looked = inl (subst (HoldsOfKind (λ app. Unit {0}) (λ (q : PathState C). IsToLook s q.agenda)) here.is
+        (begins_so k (λ (q : PathState C). IsToLook s q.agenda) (begins_looks k s) start begun begins (2 + number) here.crew here.there));
     served = λ is. absurd (true≢false (sym is));
   }
 
 pub who_stood_by_was_served : {C : Type 0} (k : Codec C) → WhoStoodByWasServed k
-who_stood_by_was_served k start since order begins number p here s stood =
-    let there = first_there k start since order number p here in
-    let g = steps_so k (Going k start since s number) (λ w h actor c x at asking. going_asked k start since s number w h actor c x at asking) order (reached k start since) (first_going k start since s number begins there.0 there.1) in
-    let steps : steps_since (2 + number) (reached k start since) (after_steps k order (reached k start since)) ≡ g.more =
-    ap (λ xs. drop (length (notes_at (2 + number) (reached k start since).crew)) xs) (ap notes_or g.here.there ∙ g.list_is) ∙ drop-append_seam (notes_at (2 + number) (reached k start since).crew) g.more in
-    g.served (ap (last_on_standby s false) (sym steps) ∙ stood)
+who_stood_by_was_served {C = C} k start since order begins number p here s stood = by told
+  where
+    begun : WorldState C
+    begun = reached k start since
+
+    w : WorldState C
+    w = after_steps k order begun
+
+    there : (p : PathState C) × IsPathAt number begun p
+    there = first_there k start since order number p here
+
+    g : Going k start since s number w
+    g = steps_so k (Going k start since s number) (λ v h actor c x at asking. going_asked k start since s number v h actor c x at asking) order begun (first_going k start since s number begins there.0 there.1)
+
+    steps : steps_since (2 + number) begun w ≡ g.more
+    steps = ap (λ xs. drop (length (notes_at (2 + number) begun.crew)) xs) (ap notes_or g.here.there ∙ g.list_is) ∙ drop-append_seam (notes_at (2 + number) begun.crew) g.more
+
+    told : Told k start since s number w
+    told = g.served (ap (last_on_standby s false) (sym steps) ∙ stood)
+
+    by : Told k start since s number w → WasServedBeside k s number begun w
+    by t = record {
+      sooner = t.sooner;
+      later = t.later;
+      there = t.there;
+      beside = t.beside;
+      first = lived.path;
+      was = lived.here;
+      lived = lived.lived;
+      path = now.path;
+      here = now.here;
+      past = now.past;
+    }
+      where
+        other : ℕ
+        other = t.beside.other
+
+        v : WorldState C
+        v = after_steps k t.sooner begun
+
+        so_far : Since k start since s other v
+        so_far = steps_so k (Since k start since s other) (λ u h actor c x at asking. since_asked k start since s other u h actor c x at asking) t.sooner begun (since_begun k start since s other begins)
+
+        lived : LivedFirst k start since s other
+        lived = so_far.lived t.beside.lives_so
+
+        now : StaysPast k s other w
+        now = subst (StaysPast k s other) t.there (steps_so k (StaysPast k s other) (λ u h actor c x at asking. past_asked k s other u actor c x at h) t.later v (record { path = t.beside.path; here = t.beside.here; past = t.beside.living.past }))

@@ -2,7 +2,7 @@
 use Rattle.std.specs.Prelude.{ℕ, ◌≡◌, true, false, slice_index_or}
 use Rattle.sides.specs.declared.side.Side.{Side}
 use Rattle.control_book.specs.Control.{Control}
-use Rattle.control_book.specs.Registry.{standby}
+use Rattle.control_book.specs.Registry.{lives, standby}
 use Rattle.actor_desk.specs.Books.{books_in}
 use Rattle.actor_desk.specs.Desk.{control_of}
 use Rattle.path_core.specs.State.{PathState}
@@ -20,6 +20,7 @@ module _ {C : Type 0} where
   pub record IsServedBeside (s : Side) (number : ℕ) (w : WorldState C) : Type 0 where
     pub other : ℕ
     pub apart : other ≡ number → ⊥
+    pub lives_so : lives (control_in s w).paths other ≡ true
     pub regular : slice_index_or (control_in s w).addresses.backups other false ≡ false
     pub path : PathState C
     pub here : IsPathAt other w path
