@@ -1,5 +1,5 @@
 -- Who lives by a side's control book in a round lived as the round began, or was opened in it; and who is past the handshake stays so.
-use Rattle.std.proofs.Common.{◌≡◌, refl, sym, subst, ap, ◌∙◌, ⊎_elim, ℕ, ◌+◌, ◌≤◌, arith, Bool, true, false, true≢false, if◌then◌else◌, Some, List, [], ◌∷◌, map, set}
+use Rattle.std.proofs.Common.{◌≡◌, refl, sym, subst, ap, ◌∙◌, ⊎_elim, ℕ, ◌+◌, ◌≤◌, arith, Bool, true, false, if◌then◌else◌, Some, List, [], ◌∷◌, map, set}
 use Rattle.std.specs.List.{slice_get}
 use Rattle.std.proofs.lemmas.Bool.{both_ways, cases_eq}
 use Rattle.std.proofs.lemmas.Option.{same_Some}
@@ -31,7 +31,7 @@ use Rattle.world_laws.specs.RoundDone.{reached}
 use Rattle.world_laws.specs.RoundNumbers.{BeginsRound}
 use Rattle.world_laws.specs.RoundNumbers.{BeginsRound as beginning}
 use Rattle.world_laws.specs.StampedBooks.{answer_to}
-use Rattle.world_laws.specs.Worlds.{Turn, WorldState, all_over, asked, begins, crew_after, end_round, greatest, world_run}
+use Rattle.world_laws.specs.Worlds.{Turn, WorldState, asked, begins, crew_after, end_round, greatest, world_run}
 use Rattle.world_laws.proofs.Weaving.Journals.{books_after}
 use Rattle.world_laws.proofs.Worlds.Opened.{opened_actors}
 use Rattle.whole_paths.specs.AsFar.{stage}

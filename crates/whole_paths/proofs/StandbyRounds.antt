@@ -1,5 +1,5 @@
 -- Where in a round a path asked for bytes on standby, its side's book told it so in that round, for another path that lived then and is no backup.
-use Rattle.std.proofs.Common.{◌≡◌, refl, sym, subst, ap, ◌∙◌, ◌⊎◌, inl, inr, ⊎_elim, ℕ, ◌+◌, arith, Bool, true, false, true≢false, if◌then◌else◌, Option, Some, List, [], ◌∷◌, ◌++◌, append_assoc, drop, length, map, set}
+use Rattle.std.proofs.Common.{◌≡◌, refl, sym, subst, ap, ◌∙◌, ◌⊎◌, inl, inr, ⊎_elim, ℕ, ◌+◌, arith, Bool, true, false, true≢false, if◌then◌else◌, Option, Some, List, [], ◌∷◌, ◌++◌, append_assoc, drop, length, set}
 use Rattle.std.specs.List.{list_any, slice_get}
 use Rattle.std.proofs.Math.Seq.{drop-append_seam}
 use Rattle.std.proofs.lemmas.Bool.{both_ways, cases_eq, or_parts}
@@ -9,7 +9,7 @@ use Rattle.sides.specs.declared.side.Side.{Side}
 use Rattle.sides.specs.declared.side.Side.TheVariants.{A, B}
 use Rattle.control_book.specs.declared.call.ControlCall.TheVariants as control_calls
 use Rattle.control_book.specs.Registry.{standby}
-use Rattle.stream_lanes.proofs.Lists.{in_map, set_other, set_same}
+use Rattle.stream_lanes.proofs.Lists.{set_other, set_same}
 use Rattle.actor_desk.specs.Books.{books_in}
 use Rattle.actor_desk.specs.Desk.{SixBooks, control_of, reply_of}
 use Rattle.actor_desk.specs.declared.ask.Ask.{Ask}
@@ -21,24 +21,21 @@ use Rattle.path_agenda.specs.declared.duty.Duty.TheVariants as duties
 use Rattle.path_agenda.specs.declared.duty.StepDuty.TheVariants as step_duties
 use Rattle.path_core.specs.Codec.{Codec}
 use Rattle.path_core.specs.Duties.{answered, ask_for}
-use Rattle.path_core.specs.Start.{waiting_path}
 use Rattle.path_core.specs.State.{PathState, end_at, path_of, with_agenda}
 use Rattle.path_core.specs.Steps.{asks_first, takes}
-use Rattle.world_laws.specs.declared.member.Member.TheVariants.{App, Path}
-use Rattle.world_laws.specs.Actors.{Actor, ActorCrew, member_asks, member_next, member_takes}
+use Rattle.world_laws.specs.declared.member.Member.TheVariants.{Path}
+use Rattle.world_laws.specs.Actors.{Actor, ActorCrew, member_asks, member_takes}
 use Rattle.world_laws.specs.Members.{HoldsOfKind}
-use Rattle.world_laws.specs.Openings.{Start, opened_world, path_begins}
+use Rattle.world_laws.specs.Openings.{Start}
 use Rattle.world_laws.specs.Outcomes.{notes_at, notes_or}
 use Rattle.world_laws.specs.RoundDone.{reached}
 use Rattle.world_laws.specs.RoundEnd.{asks_grant}
 use Rattle.world_laws.specs.RoundNumbers.{BeginsRound, after_steps, is_standby, last_on_standby, steps_since}
-use Rattle.world_laws.specs.RoundNumbers.{BeginsRound as beginning}
 use Rattle.world_laws.specs.StampedBooks.{answer_to}
 use Rattle.world_laws.specs.Standbys.{looks, standby_told}
-use Rattle.world_laws.specs.Worlds.{Turn, WorldState, asked, begins, crew_after, end_round, greatest, note_of, stepped, world_run, world_step}
+use Rattle.world_laws.specs.Worlds.{Turn, WorldState, asked, begins, crew_after, note_of, stepped, world_step}
 use Rattle.world_laws.proofs.Asks.SendBooks.{last_more}
 use Rattle.world_laws.proofs.Standby.LooksAlone.{takes_stands}
-use Rattle.world_laws.proofs.Worlds.Opened.{opened_actors}
 use Rattle.whole_paths.specs.Finish.{IsPathAt}
 use Rattle.whole_paths.specs.StandbyPaths.{IsServedBeside, control_in}
 use Rattle.whole_paths.specs.StandbyRounds.{WasServedBeside, WhoStoodByWasServed}
