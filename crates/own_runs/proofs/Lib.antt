@@ -62,6 +62,7 @@ mod LanePlaces
 mod LastLanes
 mod LateJoins
 mod Learning
+mod LineLinks
 mod Lines
 mod LinesKept
 mod LinesTimes

@@ -1,5 +1,5 @@
 use Rattle.std.proofs.Common.{refl}
-use Rattle.judge_rules.specs.declared.finding.Rule.TheVariants.{AddressHmac, DataFin, DssSum, Fail, FastCloseKey, Form, JoinHmac, Keys, Mapping, PlaceContent, Token, Within}
+use Rattle.judge_rules.specs.declared.finding.Rule.TheVariants.{AddressHmac, DataFin, DssSum, Fail, FastCloseKey, Form, Infinite, JoinHmac, Keys, Mapping, PlaceContent, Token, Within}
 use Rattle.own_runs.proofs.Kept.{no_run_breaks}
 use Rattle.own_runs.proofs.LinesTimes as lines
 use Rattle.own_runs.proofs.PlacesTrace as places
@@ -40,3 +40,6 @@ returns-clause-data_fin c = lines.no_run_breaks DataFin refl
 
 pub returns-clause-fail : goal.returns-clause-fail
 returns-clause-fail c = places.no_plain_run_breaks Fail refl
+
+pub returns-clause-infinite : goal.returns-clause-infinite
+returns-clause-infinite c = lines.no_plain_run_breaks Infinite refl
