@@ -20,7 +20,7 @@ use Rattle.rule_book.specs.Facts.{Facts, first_of, own_base, own_lane, payload_a
 use Rattle.rule_book.specs.Judged.{empty_book, empty_lanes, grown, judged, judged_belonging, judged_flow, judged_formed, judged_in_flow, judged_known, judged_place, opened_facts, side_of, token_in, token_told, with_wrong_token}
 use Rattle.rule_book.specs.Signals.{KeyedValue, judged_options, told_formless}
 use Rattle.rule_book.specs.State.{BookValue, JudgedValue, LanesValue, stream_at, with_stream}
-use Rattle.rule_book.specs.Stream.{Left, behind_payload, fin_taken, gap_counted, judged_at, judged_from, judged_positions, mapped_each, mapped_one, mapped_with, summed, told_in, within_each}
+use Rattle.rule_book.specs.Stream.{Left, behind_payload, fin_taken, gap_counted, judged_at, judged_from, judged_positions, mapped_each, mapped_one, mapped_with, summed, told_in, with_plain, within_each}
 use Rattle.seen_connections.specs.Connections.{SeenFlows, taken}
 use Rattle.seen_connections.specs.SameEnds.{same_end}
 use Rattle.seen_connections.specs.SeenOptions.{SeenValue, seen_options}
@@ -263,10 +263,10 @@ module _ (index : ℕ) where
   judged_left facts is opens (Some position) options keys left = by facts.side facts.is_opener opens refl refl
     where
       behind : Acked
-      behind = judged_at facts position options keys (stream_at (peer facts.side) left.book) (stream_at facts.side left.book) (own_lane facts left.lanes)
+      behind = judged_at (with_plain options left facts) position options keys (stream_at (peer facts.side) left.book) (stream_at facts.side left.book) (own_lane facts left.lanes)
 
       linked : IsLinked index (infinite_of facts.side left.book) (own_lane facts left.lanes) behind.stream behind.lane
-      linked = linked_so index facts is position options keys (stream_at (peer facts.side) left.book) (stream_at facts.side left.book) (own_lane facts left.lanes)
+      linked = linked_so index (with_plain options left facts) is position options keys (stream_at (peer facts.side) left.book) (stream_at facts.side left.book) (own_lane facts left.lanes)
 
       own : (was : Option Infinite) (lane : LaneValue) → infinite_of facts.side left.book ≡ was → own_lane facts left.lanes ≡ lane
           → IsLinked index (infinite_of facts.side left.book) (own_lane facts left.lanes) behind.stream behind.lane → IsLinked index was lane behind.stream behind.lane

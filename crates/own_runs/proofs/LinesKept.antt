@@ -19,7 +19,7 @@ use Rattle.rule_book.specs.Facts.{Facts, first_of, own_base, own_lane, payload_a
 use Rattle.rule_book.specs.Judged.{Told, empty_book, judged_flow, judged_formed, judged_opened, judged_side, opened_facts}
 use Rattle.rule_book.specs.Signals.{KeyedValue, judged_options, told_formless}
 use Rattle.rule_book.specs.State.{BookValue, JudgedValue, LanesValue, stream_at, with_stream}
-use Rattle.rule_book.specs.Stream.{Left, gap_counted, judged_at, judged_from, judged_positions}
+use Rattle.rule_book.specs.Stream.{Left, gap_counted, judged_at, judged_from, judged_positions, with_plain}
 use Rattle.seen_connections.specs.Connections.{key_of}
 use Rattle.seen_connections.specs.SeenOptions.{Readable, SeenValue, seen_options}
 use Rattle.seen_connections.specs.declared.connections.Keys.{Keys}
@@ -273,15 +273,15 @@ module _ (ends endless : Bool) (d : Drawn) (limit : Side → ℕ) (few : (s : Si
             let its_lane = own_lane facts left.lanes in
             let gone = (gap_counted facts left).book in
             let peers = stream_at (peer s) left.book in
-            let it = judged_at facts position options keys peers own_stream its_lane in
+            let it = judged_at (with_plain options left facts) position options keys peers own_stream its_lane in
             let high = max lane.0 (payload_at facts position).to in
             let bears = subst (λ (x : Seen). Bears (λ q. content s (where_at own.path s q)) position x.segment.payload) (sym sees)
             (subst (λ (t : Side). Bears (λ q. content t (where_at own.path t q)) position seen.segment.payload) (sym sides) (p.bears position (same position e))) in
             let well = subst (λ (t : Side). All (Well own.path t position) options) (sym sides) (wells position (same position e)) in
-            let placed = placed_so false (limit s) (few s) (content s) (first_at s) (where_at own.path s) facts position options keys peers own_stream its_lane (first_so s keys k) well (never_calm options) bears
+            let placed = placed_so false (limit s) (few s) (content s) (first_at s) (where_at own.path s) (with_plain options left facts) position options keys peers own_stream its_lane (first_so s keys k) well (never_calm options) bears
             ((h.book s).0, lane.1.0) in
             let lined = lined_so ends endless (limit s) (few s) (content s) (first_at s) (where_at own.path s) (upto own.path s) (IsEnd own.path s) (IsLine own.path s) (Away own.path s) high
-            (subst (λ (t : Side). (p : ℕ) → 1 ≤ p → p ≤ upto own.path t → where_at own.path t p < limit t) (sym sides) g.inside) (λ asked. agree asked own.path s) facts position options keys peers own_stream its_lane
+            (subst (λ (t : Side). (p : ℕ) → 1 ≤ p → p ≤ upto own.path t → where_at own.path t p < limit t) (sym sides) g.inside) (λ asked. agree asked own.path s) (with_plain options left facts) position options keys peers own_stream its_lane
             (first_so s keys k) (lines_here position e) bears (subst (λ (x : Seen). x.payload_len ≡ length x.segment.payload) (sym sees) g.whole) (within_here position e) (end_here position e) (omega arith) ((h.book s).0, lane.1.0)
             ((h.book s).1, higher own.path s its_lane lane.0 high (omega arith) lane.1.1)
             (subst (LinkedIn own.path facts.index s own_stream.infinite) (own_line s facts.is_opener left.lanes opens) linked) in

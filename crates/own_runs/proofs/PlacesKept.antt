@@ -21,7 +21,7 @@ use Rattle.rule_book.specs.Facts.{Facts, first_of, own_base, own_lane}
 use Rattle.rule_book.specs.Judged.{Told, empty_book, judged_flow, judged_formed, judged_opened, judged_side, nothing_judged, opened_facts}
 use Rattle.rule_book.specs.Signals.{KeyedValue, judged_options, told_formless}
 use Rattle.rule_book.specs.State.{BookValue, JudgedValue, LanesValue, stream_at, with_stream}
-use Rattle.rule_book.specs.Stream.{Left, gap_counted, judged_at, judged_from, judged_positions}
+use Rattle.rule_book.specs.Stream.{Left, gap_counted, judged_at, judged_from, judged_positions, with_plain}
 use Rattle.seen_connections.specs.Connections.{key_of, taken}
 use Rattle.seen_connections.specs.SeenOptions.{Readable, SeenValue, seen_options}
 use Rattle.seen_connections.specs.declared.connections.Keys.{Keys}
@@ -151,8 +151,8 @@ module _ (calm : Bool) (d : Drawn) (limit : Side → ℕ) (few : (s : Side) → 
             let own_stream = stream_at facts.side left.book in
             let its_lane = own_lane facts left.lanes in
             let gone = (gap_counted facts left).book in
-            let it = judged_at facts position options keys (stream_at (peer facts.side) left.book) own_stream its_lane in
-            let placed = at_so calm (limit facts.side) (few facts.side) (content facts.side) (first_at facts.side) (where_at own.path facts.side) facts position options keys
+            let it = judged_at (with_plain options left facts) position options keys (stream_at (peer facts.side) left.book) own_stream its_lane in
+            let placed = at_so calm (limit facts.side) (few facts.side) (content facts.side) (first_at facts.side) (where_at own.path facts.side) (with_plain options left facts) position options keys
             (stream_at (peer facts.side) left.book) own_stream its_lane (first_so facts.side keys k) (all position same) none
             (subst (λ (x : Seen). Bears (λ q. content facts.side (where_at own.path facts.side q)) position x.segment.payload) (sym sees) (bears position same)) (h.book facts.side, lane) in
             record {

@@ -1,6 +1,6 @@
 -- A side that sends by an infinite mapping, or did so once, never falls back to plain TCP, and one that fell back never sends by one (RFC 8684, section
 -- 3.7).
-use Rattle.std.proofs.Common.{◌≡◌, refl, sym, ap, ◌∙◌, subst, ℕ, ◌⊎◌, ⊎_elim, ◌&&◌, ◌==◌, not, Bool, true, false, if◌then◌else◌, Some, is_none, List, [], ◌∷◌}
+use Rattle.std.proofs.Common.{◌≡◌, refl, sym, ap, ◌∙◌, subst, ℕ, ⊎_elim, ◌&&◌, ◌==◌, not, Bool, true, false, if◌then◌else◌, Some, is_none, List, [], ◌∷◌}
 use Rattle.std.proofs.lemmas.Bool.{and_parts, false≢true}
 use Rattle.actor_desk.specs.Books.{StampedBooks, after_entry, books_in}
 use Rattle.actor_desk.specs.Desk.{SixBooks, after_ask, control_of}
