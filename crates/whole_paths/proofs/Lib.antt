@@ -336,3 +336,17 @@ pub mod ManyGoingOn
 pub mod ManyCourses
 pub mod ManyPaths
 pub mod ManyEnds
+pub mod JoinedLow
+pub mod JoinedCopies
+pub mod JoinedTreated
+pub mod JoinedUnbroken
+pub mod JoinedKeys
+pub mod ByPaths
+pub mod OnlyEvents
+pub mod JoinedPaths
+pub mod LivingBooks
+pub mod LivesTold
+pub mod LivingPaths
+pub mod LooksFirst
+pub mod StandbyPaths
+pub mod StandbyRounds

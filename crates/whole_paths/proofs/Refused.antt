@@ -84,7 +84,7 @@ module _ {C : Type 0} (k : Codec C) (P : WorldState C → Type 0)
       by None there = h
       by (Some c) there = asking c there (member_asks k c.member) refl
 
-  steps_so : (order : List ℕ) (w : WorldState C) → P w → P (after_steps k order w)
+  pub steps_so : (order : List ℕ) (w : WorldState C) → P w → P (after_steps k order w)
   steps_so [] w h = h
   steps_so (actor ∷ order) w h = steps_so order (world_step k actor w) (step_so actor w h)
 
@@ -294,7 +294,7 @@ module _ {C : Type 0} (k : Codec C) where
     low : number < length start.paths
     low = number_low k start (since ++ turns) number p (subst (λ (u : WorldState C). IsPathAt number u p) (sym (run_append k since turns (opened_world start))) here)
 
-    first_there : (p : PathState C) × IsPathAt number (reached k start since) p
+    pub first_there : (p : PathState C) × IsPathAt number (reached k start since) p
     first_there =
         let long = crew_long k start since in let few = low in
         let found = some_crew (2 + number) (reached k start since).crew (omega (arith, long, few)) in by found.0 found.1 found.0.member refl ((always_known k start since).named (2 + number) found.0 found.1)

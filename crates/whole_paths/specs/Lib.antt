@@ -205,3 +205,7 @@ pub mod ManyGoingOn
 pub mod ManyCourses
 pub mod ManyPaths
 pub mod ManyEnds
+pub mod JoinedPaths
+pub mod LivingPaths
+pub mod StandbyPaths
+pub mod StandbyRounds

@@ -129,7 +129,7 @@ pub fn open_ends_hardly_go_awry()
 {}
 
 /// A law: the FIN of an end stands behind all else that the end sends: SND.NXT lies right behind it, where that is to be acknowledged, and where
-/// the peer heard of it (RFC 9293, section 3.10.4).
+/// the peer heard of it; all bytes that the end maps stand before it there (RFC 9293, section 3.10.4).
 pub fn fins_are_last()
     ensures { HoldsAnyway FinsAreLast }
 {}

@@ -2,10 +2,12 @@
 ghost use Rattle.path_core.specs.Octets.{octets};
 ghost use Rattle.path_core.specs.Values.{values};
 ghost use Rattle.whole_paths.specs.EdgeStands.{NothingIsTriedPastTheEdge, ShutEndsStayShut};
+ghost use Rattle.whole_paths.specs.JoinedPaths.{JoinedPathsNeverBreak};
 ghost use Rattle.whole_paths.specs.ManyCourses.{ManyPathsBringAll, ManyPathsDeliver, ServingPathsDeliver};
 ghost use Rattle.whole_paths.specs.ManyEnds.{FirstPathsEnd};
 ghost use Rattle.whole_paths.specs.ManyPaths.{FirstPathsDeliver};
 ghost use Rattle.whole_paths.specs.ManyWaits.{EachMissingByteIsWaitedFor};
+ghost use Rattle.whole_paths.specs.Mild.{IsPromisedMildly};
 ghost use Rattle.whole_paths.specs.Wanted.{WhatIsWantedIsTold};
 ghost use Rattle.whole_paths.specs.WindowWaits.{ShutEndsAreAwaited};
 
@@ -75,4 +77,13 @@ pub fn first_paths_deliver()
 pub fn first_paths_end()
     ensures octets { FirstPathsEnd octets }
     ensures values { FirstPathsEnd values }
+{}
+
+/// A law: a path that joins never breaks once each of its ends is past the handshake (RFC 8684, sections 3.2 and 3.6).
+///
+/// In a connection of whose options none is taken away, of whose payload nothing is altered, and in which no side closes at once, no end of it is to be
+/// reset for a reason from then on, nor is it told that its peer closed at once, and no check fails. The handshake itself may fail.
+pub fn joined_paths_never_break()
+    ensures octets { IsPromisedMildly octets (λ start w. JoinedPathsNeverBreak w) }
+    ensures values { IsPromisedMildly values (λ start w. JoinedPathsNeverBreak w) }
 {}

@@ -1,0 +1,24 @@
+-- Where in a round a path asked for bytes on standby, another one lived in that round that is no backup (RFC 8684, section 3.3.8).
+use Rattle.std.specs.Prelude.{ℕ, ◌+◌, ◌≡◌, true, false, List}
+use Rattle.sides.specs.declared.side.Side.{Side}
+use Rattle.path_core.specs.Codec.{Codec}
+use Rattle.path_core.specs.State.{PathState}
+use Rattle.world_laws.specs.Openings.{Start}
+use Rattle.world_laws.specs.RoundDone.{reached}
+use Rattle.world_laws.specs.RoundNumbers.{BeginsRound, after_steps, last_on_standby, steps_since}
+use Rattle.world_laws.specs.Worlds.{Turn, WorldState}
+use Rattle.whole_paths.specs.Finish.{IsPathAt}
+use Rattle.whole_paths.specs.StandbyPaths.{IsServedBeside}
+
+module _ {C : Type 0} (k : Codec C) where
+  -- at a moment of the round another path lived by the side's book, and was no backup
+  pub record WasServedBeside (s : Side) (number : ℕ) (begun w : WorldState C) : Type 0 where
+    pub sooner : List ℕ
+    pub later : List ℕ
+    pub there : after_steps k later (after_steps k sooner begun) ≡ w
+    pub beside : IsServedBeside s number (after_steps k sooner begun)
+
+  -- where the path asked for bytes last, in the steps of a round, on standby
+  abbrev pub WhoStoodByWasServed : Type 0
+  WhoStoodByWasServed = (start : Start) (since : List Turn) (order : List ℕ) → let begun = reached k start since in BeginsRound k start begun → let w = after_steps k order begun in
+      (number : ℕ) (p : PathState C) → IsPathAt number w p → (s : Side) → last_on_standby s false (steps_since (2 + number) begun w) ≡ true → WasServedBeside s number begun w
