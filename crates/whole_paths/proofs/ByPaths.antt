@@ -9,7 +9,7 @@ use Rattle.path_core.specs.State.{PathState}
 use Rattle.path_core.specs.Steps.{begins_turn, next_round, takes}
 use Rattle.world_laws.specs.declared.member.Member.TheVariants.{App, Path}
 use Rattle.world_laws.specs.Actors.{Actor, ActorCrew, member_next, member_takes}
-use Rattle.world_laws.specs.Openings.{PathPlan, Start, opened_world, path_begins}
+use Rattle.world_laws.specs.Openings.{PathPlan, Start, path_begins}
 use Rattle.world_laws.specs.RoundDone.{reached}
 use Rattle.world_laws.specs.StampedBooks.{answer_to}
 use Rattle.world_laws.specs.Worlds.{Turn, WorldState, begins, crew_after, greatest}

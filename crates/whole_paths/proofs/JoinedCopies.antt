@@ -1,12 +1,10 @@
 -- Each copy under way on a path that joins has a DSS with a Data ACK, is a SYN or a reset, or has no payload and acknowledges no more than its sender
 -- had as long as it might send no DSS: MP_JOIN's third and fourth segments are such (RFC 8684, section 3.2).
-use Rattle.std.proofs.Common.{◌≡◌, refl, sym, subst, ap, ◌∙◌, ◌⊎◌, inl, inr, ⊎_elim, ℕ, ◌+◌, ◌-◌, ◌≤◌, Bool, true, false, true≢false, if◌then◌else◌, Option, Some, None, IfSome, List, [], ◌∷◌, map}
-use Rattle.std.specs.List.{list_any, slice_get}
-use Rattle.std.proofs.lemmas.Bool.{both_ways, or_left}
-use Rattle.path_segments.specs.Laws.{meant, meant_option}
-use Rattle.path_segments.specs.Options.{PlainOption}
+use Rattle.std.proofs.Common.{◌≡◌, refl, sym, subst, ap, ◌∙◌, ◌⊎◌, inl, inr, ℕ, ◌+◌, ◌-◌, ◌≤◌, Bool, true, false, if◌then◌else◌, Option, Some, None, IfSome, List, [], ◌∷◌, map}
+use Rattle.std.specs.List.{list_any}
+use Rattle.std.proofs.lemmas.Bool.{both_ways}
+use Rattle.path_segments.specs.Laws.{meant_option}
 use Rattle.path_segments.specs.Spelled.{PlainSegment}
-use Rattle.path_segments.specs.declared.segment.PathMapping.{PathMapping}
 use Rattle.path_segments.specs.declared.segment.PathOption.TheVariants.{Dss}
 use Rattle.sides.specs.declared.side.Side.{Side}
 use Rattle.sides.specs.declared.side.Side.TheVariants.{A, B}
@@ -44,7 +42,7 @@ use Rattle.path_core.specs.Start.{waiting_path}
 use Rattle.path_core.specs.State.{PathState, end_at}
 use Rattle.path_core.specs.Steps.{begins_turn, next_round, takes}
 use Rattle.path_core.specs.Treating.{item_of}
-use Rattle.path_core.specs.Values.{Carried, as_arrived, carried_by, values}
+use Rattle.path_core.specs.Values.{Carried, as_arrived, values}
 use Rattle.world_laws.specs.NeverFalls.{StripsNothing}
 use Rattle.world_laws.specs.Openings.{PathPlan, Start, path_begins}
 use Rattle.world_laws.proofs.Lanes.Records.{every_at, every_find}

@@ -1,7 +1,7 @@
 -- As long as an end of a path that joins may send no DSS, it learned no mapping, sent nothing behind its SYN, and RCV.NXT is just behind its peer's SYN,
 -- or behind a FIN that stands there (RFC 8684, section 3.2).
 use Rattle.std.proofs.Common.{◌≡◌, refl, sym, subst, ap, ◌∙◌, ◌⊎◌, inl, inr, ⊎_elim, ℕ, zero, suc, ◌+◌, ◌-◌, ◌≤◌, ◌&&◌, ◌||◌, ◌^◌, arith, nat_le, nat_lt, Bool, not, true, false, true≢false, if◌then◌else◌, Option, Some, None, is_some, List, [], ◌∷◌, ◌++◌, length}
-use Rattle.std.specs.List.{list_any, slice_get}
+use Rattle.std.specs.List.{list_any}
 use Rattle.std.proofs.lemmas.Bool.{and_parts, both_ways, cases_lt, eqb-true, or_from, or_parts, or_right}
 use Rattle.std.proofs.lemmas.Option.{same_Some}
 use Rattle.path_segments.specs.Heard.{HeardSegment}
@@ -13,16 +13,12 @@ use Rattle.link_script.specs.Places.{same_side}
 use Rattle.link_model.specs.Steps.{after_delivery, arriving}
 use Rattle.dss_mapping.specs.Mappings.{Mappings}
 use Rattle.dss_mapping.specs.declared.kept.KeptMapping.{KeptMapping}
-use Rattle.subflow_recv.specs.Receiving.{Receiving}
 use Rattle.subflow_send.specs.Records.{Record}
 use Rattle.subflow_tcp.specs.Closing.{after_passing_fin, is_fin_next}
 use Rattle.subflow_tcp.specs.Expiring.{is_sixth, after_expiry}
 use Rattle.subflow_tcp.specs.Judging.{is_at, meaning_of}
-use Rattle.subflow_tcp.specs.Opening.{after_begin}
-use Rattle.subflow_tcp.specs.Segments.{Copy}
 use Rattle.subflow_tcp.specs.Sizes.{room}
-use Rattle.subflow_tcp.specs.State.{EndState, is_fin_passed}
-use Rattle.subflow_tcp.specs.States.{after_fin_passed, is_dead, is_half_open, is_waiting, may_finish}
+use Rattle.subflow_tcp.specs.States.{after_fin_passed, is_dead, is_half_open, may_finish}
 use Rattle.subflow_tcp.specs.Taking.{after_death, after_dropping_held, after_keeping_held, after_syn, unkept}
 use Rattle.subflow_tcp.specs.declared.handshake.State.{State}
 use Rattle.subflow_tcp.specs.declared.handshake.State.TheVariants as phase
@@ -30,8 +26,8 @@ use Rattle.subflow_tcp.specs.declared.verdicts.Meaning.{Meaning}
 use Rattle.subflow_tcp.specs.declared.verdicts.Meaning.TheVariants as means
 use Rattle.subflow_tcp.specs.declared.segments.Outgoing.{Outgoing}
 use Rattle.actor_desk.specs.declared.ask.Reply.{Reply}
-use Rattle.actor_desk.specs.Words.{is_nil, pick, tail_of}
-use Rattle.path_agenda.specs.Agenda.{breaks, copy_came, emission, heard_and, leaves, payload_came, resets, rest_of_turn, start_of_turn, stops}
+use Rattle.actor_desk.specs.Words.{pick, tail_of}
+use Rattle.path_agenda.specs.Agenda.{emission, heard_and, leaves, payload_came, resets, rest_of_turn, start_of_turn}
 use Rattle.path_agenda.specs.Words.{replaced}
 use Rattle.path_agenda.specs.declared.duty.Duty.{Duty}
 use Rattle.path_agenda.specs.declared.duty.Duty.TheVariants as duties
@@ -46,21 +42,21 @@ use Rattle.path_store.specs.declared.lines.LineAction.{LineAction}
 use Rattle.path_store.specs.declared.lines.LineAction.TheVariants as actions
 use Rattle.fallback_state.specs.declared.fall.Event.TheVariants as events
 use Rattle.path_core.specs.Addresses.{with_priority}
-use Rattle.path_core.specs.Arrival.{after_judged, copy_heard, copy_judged, copy_of, heard_in, judged_in, reset_for, template_by, template_judged, with_payload}
+use Rattle.path_core.specs.Arrival.{copy_heard, copy_judged, copy_of, heard_in, judged_in, reset_for, template_by, template_judged, with_payload}
 use Rattle.path_core.specs.Breaking.{answered_break, died_unless_dead, reset_on}
 use Rattle.path_core.specs.Choices.{is_side_a, item_at}
-use Rattle.path_core.specs.DataFin.{is_all_granted, is_fin_due}
-use Rattle.path_core.specs.Deliver.{after_keep, is_dropped, is_not_kept, piece_of}
-use Rattle.path_core.specs.DssIn.{counts, held_of, is_clash, with_acked, with_data_fin, with_learned, with_skipped}
+use Rattle.path_core.specs.DataFin.{is_all_granted}
+use Rattle.path_core.specs.Deliver.{after_keep, is_dropped, piece_of}
+use Rattle.path_core.specs.DssIn.{counts, held_of, with_data_fin}
 use Rattle.path_core.specs.Duties.{answered, passed, stands}
 use Rattle.path_core.specs.Emission.{answered_data, answered_grant, data_stands, first_unsent, grant_in, may_ask, may_send_data, payload_size}
 use Rattle.path_core.specs.End.{PathEnd, died}
 use Rattle.path_core.specs.Events.{after_line, happens_if, next_event}
 use Rattle.path_core.specs.Fallback.{after_fell, breaks_by_ack, fell_duties, with_infinite, with_plain_ack}
-use Rattle.path_core.specs.Judged.{after_join, is_forged, is_passed_over, join_judged, taken_as}
+use Rattle.path_core.specs.Judged.{is_forged, is_passed_over, join_judged, taken_as}
 use Rattle.path_core.specs.Modes.{acknowledged_under, bytes_acknowledged}
 use Rattle.path_core.specs.MpCapable.{after_keys}
-use Rattle.path_core.specs.MpJoin.{asked_at, is_joined, is_listening, is_never, join_answer, join_asked, join_taken, joined_by, keys_begun, never_joined, opened_by, syn_of_window, with_keys, with_mode_refused}
+use Rattle.path_core.specs.MpJoin.{asked_at, is_joined, is_listening, is_never, join_asked, join_taken, joined_by, keys_begun, never_joined, opened_by, syn_of_window, with_mode_refused}
 use Rattle.path_core.specs.OptionsIn.{items_of, options_heard}
 use Rattle.path_core.specs.Profile.{Profile}
 use Rattle.path_core.specs.Standing.{after_ack_out, answered_ack_out}
@@ -79,15 +75,14 @@ use Rattle.path_core.specs.declared.modes.Modes.{Modes}
 use Rattle.world_laws.specs.Openings.{PathPlan, Start, path_begins}
 use Rattle.world_laws.specs.Writes.{EndView, EndWrites, Only, OnlyAt, PathView, nothing, side_of, writes}
 use Rattle.world_laws.proofs.Falls.ClearStays.{Clears, answered_clear, passed_clear, unclear_before}
-use Rattle.world_laws.proofs.Falls.FailedChecks.{check_failed_so, fail_answered_so, forgets_so}
-use Rattle.world_laws.proofs.Keys.DssIsTheSign.{IsUnclear, Leads, LeadsWell, answers_lead, passed_leads, started_leads, unheard, unled}
+use Rattle.world_laws.proofs.Falls.FailedChecks.{fail_answered_so}
+use Rattle.world_laws.proofs.Keys.DssIsTheSign.{IsUnclear, Leads, answers_lead, passed_leads, started_leads, unheard, unled}
 use Rattle.world_laws.proofs.Keys.AreDrawn.{is_past}
 use Rattle.world_laws.proofs.Whole.Ends.{MeansIs, means_so}
-use Rattle.world_laws.proofs.Writes.Ends.{copy_so, fell_so, item_so, keyed_so, mode_so, window_so}
+use Rattle.world_laws.proofs.Writes.Ends.{copy_so, fell_so, keyed_so}
 use Rattle.world_laws.proofs.Writes.Paths.{passes_no_more, writes_no_more}
 use Rattle.world_laws.proofs.Writes.Steps.{unwritten}
 use Rattle.whole_paths.specs.AgendaSteps.{Follows, is_told}
-use Rattle.whole_paths.specs.AgendaSteps.{Follows as follows}
 use Rattle.whole_paths.specs.EndSteps.{PathStep, SubflowSteps}
 use Rattle.whole_paths.specs.Mild.{EndsGoByMappings}
 use Rattle.whole_paths.proofs.Agendas.{answered_follows, own_end}

@@ -1,5 +1,5 @@
 -- In a mild connection no end of a path that joins breaks, once both are past the handshake: the layers of what such a path keeps, one after the other.
-use Rattle.std.proofs.Common.{◌≡◌, refl, sym, subst, ap, ◌∙◌, ⊎_elim, ℕ, ◌+◌, ◌≤◌, arith, Bool, true, false, true≢false, Option, Some, None, List, [], ◌∷◌, ◌++◌}
+use Rattle.std.proofs.Common.{◌≡◌, sym, subst, ap, ◌∙◌, ⊎_elim, ℕ, ◌+◌, ◌≤◌, true, false, Some, List, [], ◌∷◌, ◌++◌}
 use Rattle.std.specs.List.{list_any, slice_get}
 use Rattle.std.proofs.lemmas.Bool.{both_ways}
 use Rattle.sides.specs.declared.side.Side.{Side}
@@ -10,14 +10,13 @@ use Rattle.stream_lanes.proofs.Lists.{in_map, in_set}
 use Rattle.actor_desk.specs.Books.{StampedBooks}
 use Rattle.actor_desk.specs.declared.ask.Ask.{Ask}
 use Rattle.actor_desk.specs.declared.ask.Reply.{Reply}
-use Rattle.path_agenda.specs.Agenda.{breaks, resets, stops}
-use Rattle.path_agenda.specs.declared.duty.Duty.{Duty}
+use Rattle.path_agenda.specs.Agenda.{resets}
 use Rattle.path_core.specs.MpJoin.{is_joined}
 use Rattle.path_core.specs.Octets.{octets}
 use Rattle.path_core.specs.Shown.{AltersNothing, shown_path}
 use Rattle.path_core.specs.Start.{waiting_path}
 use Rattle.path_core.specs.State.{PathState, end_at}
-use Rattle.path_core.specs.Steps.{begins_turn, next_round, takes}
+use Rattle.path_core.specs.Steps.{next_round, takes}
 use Rattle.path_core.specs.Turns.{FirstStands}
 use Rattle.path_core.specs.Values.{Carried, values}
 use Rattle.world_laws.specs.declared.member.Member.TheVariants.{App, Path}
@@ -26,30 +25,28 @@ use Rattle.world_laws.specs.Agreement.{EndsAgree}
 use Rattle.world_laws.specs.Fresh.{shown_crew, shown_member, shown_world}
 use Rattle.world_laws.specs.Members.{HoldsOfKind}
 use Rattle.world_laws.specs.NeverFalls.{StripsNothing}
-use Rattle.world_laws.specs.Openings.{PathPlan, Start, opened_world, path_begins}
-use Rattle.world_laws.specs.Outcomes.{notes_of}
+use Rattle.world_laws.specs.Openings.{Start, opened_world, path_begins}
 use Rattle.world_laws.specs.Promises.{NothingWasRefused, tells_refusal}
 use Rattle.world_laws.specs.RoundDone.{reached}
 use Rattle.world_laws.specs.StampedBooks.{answer_to}
 use Rattle.world_laws.specs.Worlds.{WorldState, Turn, after_turn, asked, begins, crew_after, greatest, world_run}
-use Rattle.world_laws.proofs.Keys.WhatWakes.{Voice, speaks}
 use Rattle.world_laws.proofs.Places.Agree.{mappings_agree}
 use Rattle.world_laws.proofs.Promises.AbortsHaveACause.{StopsAreAsked, stops_are_asked}
 use Rattle.world_laws.proofs.Promises.Made.{nothing_refused, run_fresh}
 use Rattle.world_laws.proofs.Rounds.Lifting.{opened_lifted}
 use Rattle.world_laws.proofs.Weaving.WholeRounds.{run_append}
 use Rattle.world_laws.proofs.Whole.Ends.{is_infinite_item}
-use Rattle.world_laws.proofs.Whole.Falls.{MemberUpright, PathUpright, each_upright}
+use Rattle.world_laws.proofs.Whole.Falls.{MemberUpright, each_upright}
 use Rattle.world_laws.proofs.Worlds.Turns.{turn_so}
 use Rattle.whole_paths.specs.AsFar.{stage}
 use Rattle.whole_paths.specs.JoinedPaths.{IsJoinUnbroken, JoinedPathsNeverBreak}
 use Rattle.whole_paths.specs.LastFin.{FinIsLast}
 use Rattle.whole_paths.specs.Mapped.{EndsAreLive}
-use Rattle.whole_paths.specs.Mild.{EndsGoByMappings, IsMildStart, IsPromisedMildly, IsUnbroken, LinkIsMild, is_harsh}
+use Rattle.whole_paths.specs.Mild.{EndsGoByMappings, IsMildStart, IsPromisedMildly, LinkIsMild}
 use Rattle.whole_paths.proofs.Breaking.{none_noted, path_breaks, shown_unbroken, step_fine}
 use Rattle.whole_paths.proofs.ByTurns.{Of}
 use Rattle.whole_paths.proofs.Came.{AnswersReset, answers_reset}
-use Rattle.whole_paths.proofs.ClearFirst.{Quiet, syns_alone}
+use Rattle.whole_paths.proofs.ClearFirst.{syns_alone}
 use Rattle.whole_paths.proofs.ByPaths.{OfEach, each_path}
 use Rattle.whole_paths.proofs.Exchanges.{Shown, each_shown}
 use Rattle.whole_paths.proofs.Flying.{SameProfile, profile_lasts, takes_frames}
@@ -64,9 +61,7 @@ use Rattle.whole_paths.proofs.MappedCopies.{EndBehind, PathMaps, each_behind, ea
 use Rattle.whole_paths.proofs.Mild.{links_are_mild, mapping_is_kept}
 use Rattle.whole_paths.proofs.OpenCourses.{IsOfLanes, each_of_lanes}
 use Rattle.whole_paths.proofs.Reached.{EndsAreReached, each_is_reached}
-use Rattle.whole_paths.proofs.Signless.{IsSyn}
-use Rattle.world_laws.proofs.Writes.Paths.{writes_no_more}
-use Rattle.world_laws.proofs.Writes.Steps.{begins_lasts, takes_lasts}
+use Rattle.world_laws.proofs.Writes.Steps.{begins_lasts}
 
 -- of a path that joins
 abbrev IfJoined : (PathState Carried → Type 0) → PathState Carried → Type 0

@@ -1,14 +1,13 @@
 -- What an end of a path that joins treats of a copy: an acknowledgement of bytes has a Data ACK, and what opens the end or brings the next byte has an
 -- option; no infinite mapping is heard (RFC 8684, sections 3.2, 3.3 and 3.7).
-use Rattle.std.proofs.Common.{◌≡◌, refl, sym, subst, ap, ◌∙◌, ◌⊎◌, inl, inr, ⊎_elim, ℕ, ◌+◌, ◌-◌, ◌^◌, ◌<◌, ◌≤◌, arith, min, max, nat_lt, nat_le, ◌==◌, Bool, true, false, true≢false, not, ◌&&◌, ◌||◌, if◌then◌else◌, Option, Some, None, is_some, is_none, IfSome, List, [], ◌∷◌, ◌++◌, length, map}
+use Rattle.std.proofs.Common.{◌≡◌, refl, sym, subst, ap, ◌∙◌, inl, inr, ⊎_elim, ℕ, ◌+◌, ◌^◌, ◌≤◌, arith, nat_lt, nat_le, ◌==◌, Bool, true, false, true≢false, not, ◌&&◌, if◌then◌else◌, Option, Some, None, is_some, is_none, IfSome, List, [], ◌∷◌, ◌++◌, length, map}
 use Rattle.std.specs.List.{flat_map, list_any, position, slice_get}
 use Rattle.std.specs.Prelude.{sum_by}
 use Rattle.std.specs.Option.{option_map}
-use Rattle.std.proofs.lemmas.Bool.{and_parts, both_ways, leb-true, ltb-true, not-true, or_from, or_parts}
+use Rattle.std.proofs.lemmas.Bool.{and_parts, both_ways, leb-true, ltb-true, or_from, or_parts}
 use Rattle.std.proofs.lemmas.List.Sums.{sum_by-cons}
 use Rattle.std.proofs.lemmas.Option.{same_Some}
 use Rattle.key_material.specs.declared.address.Address.{Address}
-use Rattle.mptcp_options.specs.declared.capable.CapableKeys.TheVariants.{WithData}
 use Rattle.mptcp_options.specs.declared.join.JoinForm.{JoinForm}
 use Rattle.mptcp_options.specs.declared.join.JoinForm.TheVariants as forms
 use Rattle.path_segments.specs.Heard.{HeardSegment}
@@ -16,7 +15,6 @@ use Rattle.path_segments.specs.Laws.{meant, meant_option}
 use Rattle.path_segments.specs.Options.{PlainOption}
 use Rattle.path_segments.specs.Spelled.{PlainSegment}
 use Rattle.path_segments.specs.declared.position.HeardPosition.TheVariants.{At}
-use Rattle.path_segments.specs.declared.segment.PathMapping.{PathMapping}
 use Rattle.path_segments.specs.declared.segment.PathMapping.TheVariants.{Bytes, End, Infinite}
 use Rattle.path_segments.specs.declared.segment.PathOption.TheVariants as options
 use Rattle.sides.specs.declared.side.Side.{Side}
@@ -25,7 +23,6 @@ use Rattle.sides.specs.Side.{peer}
 use Rattle.link_script.specs.Places.{same_side}
 use Rattle.link_model.specs.Steps.{after_delivery, arriving, is_due, without}
 use Rattle.link_model.specs.declared.flight.Flight.{Flight}
-use Rattle.dss_mapping.specs.declared.kept.KeptMapping.{KeptMapping}
 use Rattle.stream_lanes.specs.Words.{Every}
 use Rattle.subflow_send.specs.Records.{Record, SendState}
 use Rattle.subflow_send.specs.Rules.{ack_kind, newly_acknowledged, octets_between}
@@ -38,11 +35,10 @@ use Rattle.subflow_tcp.specs.States.{is_closed_to_segments, is_half_open}
 use Rattle.subflow_tcp.specs.declared.handshake.State.{State}
 use Rattle.subflow_tcp.specs.declared.handshake.State.TheVariants as phase
 use Rattle.subflow_tcp.specs.Taking.{arrival_of, kept_new}
-use Rattle.subflow_tcp.specs.declared.segments.Outgoing.{Outgoing}
 use Rattle.subflow_tcp.specs.declared.verdicts.Arrival.TheVariants.{Opened, Took}
 use Rattle.subflow_tcp.specs.declared.verdicts.Meaning.{Meaning}
 use Rattle.subflow_tcp.specs.declared.verdicts.Meaning.TheVariants as means
-use Rattle.actor_desk.specs.Words.{is_nil, pick, tail_of}
+use Rattle.actor_desk.specs.Words.{is_nil, tail_of}
 use Rattle.actor_desk.specs.declared.ask.Reply.{Reply}
 use Rattle.path_agenda.specs.Agenda.{emission, leaves}
 use Rattle.path_agenda.specs.declared.duty.Duty.{Duty}
@@ -60,20 +56,17 @@ use Rattle.path_core.specs.End.{PathEnd}
 use Rattle.path_core.specs.Events.{after_line, happens_if, next_event}
 use Rattle.path_core.specs.Judged.{is_forged, is_passed_over, join_judged, taken_as}
 use Rattle.path_core.specs.MpJoin.{is_joined, join_answer, join_asked, join_items, third_in}
-use Rattle.path_core.specs.OptionsIn.{edge_in_payload, has_data_ack, hint_of, is_plain_ack, items_in, items_of, octets_acked, options_heard}
-use Rattle.path_core.specs.Profile.{Profile}
+use Rattle.path_core.specs.OptionsIn.{edge_in_payload, has_data_ack, hint_of, items_in, items_of, octets_acked, options_heard}
 use Rattle.path_core.specs.Start.{waiting_path}
 use Rattle.path_core.specs.State.{PathState, at_tick, end_at, goes_on, with_agenda}
-use Rattle.path_core.specs.Steps.{begins_turn, next_round, settled, takes}
+use Rattle.path_core.specs.Steps.{begins_turn, next_round, takes}
 use Rattle.path_core.specs.Timer.{after_firing}
-use Rattle.path_core.specs.Treated.{Treated, nothing_treated}
+use Rattle.path_core.specs.Treated.{Treated}
 use Rattle.path_core.specs.Values.{Carried, as_arrived, values}
 use Rattle.path_core.specs.declared.events.Event.{Event}
 use Rattle.path_core.specs.declared.events.Event.TheVariants as happenings
-use Rattle.path_core.specs.declared.judged.Judged.{Judged}
 use Rattle.path_core.specs.declared.judged.Judged.TheVariants as judged
 use Rattle.world_laws.specs.Openings.{PathPlan, Start, path_begins}
-use Rattle.world_laws.specs.Writes.{copy_said}
 use Rattle.world_laws.proofs.Keys.AreDrawn.{is_past}
 use Rattle.world_laws.proofs.Keys.Held.{in_removed}
 use Rattle.world_laws.proofs.Lanes.Records.{every_first, every_rest}
@@ -82,11 +75,8 @@ use Rattle.world_laws.proofs.Whole.Ends.{MeansIs, is_infinite_item, means_so}
 use Rattle.world_laws.proofs.Worlds.Finding.{find_every, one_side}
 use Rattle.world_laws.proofs.Writes.Steps.{Lasts, begins_lasts, settled_lasts}
 use Rattle.whole_paths.specs.LastFin.{FinIsLast}
-use Rattle.whole_paths.specs.Mild.{EndsGoByMappings}
-use Rattle.whole_paths.proofs.Agendas.{own_end}
-use Rattle.whole_paths.proofs.Came.{AllRest, Recalls, Rests, answered_rest, at_end, begun_rests, calm, died_rests, fired_rests, held_send, passed_rest, said_of, side, stay}
+use Rattle.whole_paths.proofs.Came.{AllRest, Recalls, answered_rest, at_end, begun_rests, calm, died_rests, fired_rests, held_send, passed_rest, side, stay}
 use Rattle.whole_paths.proofs.Exchanges.{Shown}
-use Rattle.whole_paths.proofs.InTime.{is_event}
 use Rattle.whole_paths.proofs.JoinedCopies.{CopySays, IsLowAt, SaysEnough}
 use Rattle.whole_paths.proofs.JoinedCopies.{SaysEnough as enough}
 use Rattle.whole_paths.proofs.KeysStay.{KeysStay, answered_keyed, passed_keyed}

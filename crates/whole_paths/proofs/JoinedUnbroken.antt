@@ -1,7 +1,7 @@
 -- No end of a path that joins breaks, once both are past the handshake: what a duty makes of the agenda is the table that path 0 has, and the handshake
 -- alone resets an end for a reason, or refuses one (RFC 8684, sections 3.2 and 3.6).
-use Rattle.std.proofs.Common.{◌≡◌, refl, sym, subst, ap, ◌∙◌, ◌⊎◌, inl, inr, ⊎_elim, ℕ, zero, suc, ◌+◌, ◌<◌, ◌≤◌, arith, ◌==◌, nat_lt, nat_le, Bool, true, false, true≢false, not, ◌&&◌, ◌||◌, if◌then◌else◌, Option, Some, None, is_some, is_none, List, [], ◌∷◌, ◌++◌, length, map}
-use Rattle.std.specs.List.{list_any, slice_get}
+use Rattle.std.proofs.Common.{◌≡◌, refl, sym, subst, ap, ◌∙◌, ⊎_elim, ℕ, zero, suc, ◌+◌, ◌<◌, ◌≤◌, arith, ◌==◌, Bool, true, false, true≢false, not, ◌&&◌, ◌||◌, if◌then◌else◌, Option, Some, None, is_some, List, [], ◌∷◌, ◌++◌, length, map}
+use Rattle.std.specs.List.{list_any}
 use Rattle.std.proofs.lemmas.Bool.{and_parts, both_ways, or_cases, or_from, or_parts}
 use Rattle.std.proofs.lemmas.Option.{same_Some}
 use Rattle.path_segments.specs.Heard.{HeardSegment}
@@ -19,7 +19,6 @@ use Rattle.link_model.specs.declared.flight.Flight.{Flight}
 use Rattle.join_handshake.specs.declared.hearing.JoinSyn.{JoinSyn}
 use Rattle.dss_mapping.specs.declared.kept.KeptMapping.{KeptMapping}
 use Rattle.stream_lanes.specs.Words.{Every}
-use Rattle.stream_lanes.proofs.Lists.{in_map, in_set}
 use Rattle.subflow_tcp.specs.Expiring.{is_sixth}
 use Rattle.subflow_tcp.specs.Judging.{is_at, meaning_of}
 use Rattle.subflow_tcp.specs.States.{is_dead, is_half_open}
@@ -30,13 +29,12 @@ use Rattle.subflow_tcp.specs.declared.verdicts.Meaning.{Meaning}
 use Rattle.subflow_tcp.specs.declared.verdicts.Meaning.TheVariants as means
 use Rattle.actor_desk.specs.Books.{StampedBooks, books_in}
 use Rattle.actor_desk.specs.Desk.{SixBooks, reply_of}
-use Rattle.actor_desk.specs.Words.{pick, tail_of}
+use Rattle.actor_desk.specs.Words.{tail_of}
 use Rattle.actor_desk.specs.declared.ask.Ask.{Ask}
 use Rattle.actor_desk.specs.declared.ask.Ask.TheVariants as asks
 use Rattle.actor_desk.specs.declared.ask.Reply.{Reply}
-use Rattle.path_agenda.specs.Agenda.{breaks, emission, heard_and, leaves, payload_came, resets, rest_of_turn, start_of_turn, stops}
+use Rattle.path_agenda.specs.Agenda.{emission, heard_and, leaves, payload_came, rest_of_turn, start_of_turn}
 use Rattle.path_agenda.specs.Items.{keys_heard}
-use Rattle.path_agenda.specs.Words.{replaced}
 use Rattle.path_agenda.specs.declared.duty.Duty.{Duty}
 use Rattle.path_agenda.specs.declared.duty.Duty.TheVariants as duties
 use Rattle.path_agenda.specs.declared.duty.AskDuty.TheVariants as ask_duties
@@ -59,13 +57,11 @@ use Rattle.path_core.specs.Events.{after_line, happens_if, next_event}
 use Rattle.path_core.specs.Fallback.{fell_ask}
 use Rattle.path_core.specs.Judged.{is_forged, is_passed_over, join_judged, taken_as}
 use Rattle.path_core.specs.MpCapable.{is_opened_by_keys, is_opened_plainly, opened_ask}
-use Rattle.path_core.specs.MpJoin.{asked_at, is_joined, is_never, join_answer, join_asked, join_taken, joined_by, keys_begun, never_joined, opened_by, with_mode_refused}
-use Rattle.path_core.specs.Octets.{octets}
+use Rattle.path_core.specs.MpJoin.{asked_at, is_joined, is_never, join_answer, join_asked, join_taken, keys_begun, never_joined, opened_by, with_mode_refused}
 use Rattle.path_core.specs.OptionsIn.{has_data_ack, items_of, options_heard}
 use Rattle.path_core.specs.Standing.{ack_out_ask}
-use Rattle.path_core.specs.Start.{waiting_path}
 use Rattle.path_core.specs.State.{PathState, at_tick, end_at, goes_on, with_agenda}
-use Rattle.path_core.specs.Steps.{asks_first, begins_turn, next_round, settled, takes}
+use Rattle.path_core.specs.Steps.{asks_first, begins_turn, settled, takes}
 use Rattle.path_core.specs.Timer.{template_fired}
 use Rattle.path_core.specs.Treating.{item_ask, item_of}
 use Rattle.path_core.specs.Turns.{FirstStands}
@@ -74,25 +70,20 @@ use Rattle.path_core.specs.declared.events.Event.{Event}
 use Rattle.path_core.specs.declared.events.Event.TheVariants as happenings
 use Rattle.path_core.specs.declared.judged.Judged.{Judged}
 use Rattle.path_core.specs.declared.judged.Judged.TheVariants as judged
-use Rattle.world_laws.specs.declared.member.Member.TheVariants.{App, Path}
-use Rattle.world_laws.specs.Actors.{Actor, ActorCrew, member_asks, member_next, member_takes}
-use Rattle.world_laws.specs.Agreement.{EndsAgree, MappingsAgree}
+use Rattle.world_laws.specs.declared.member.Member.TheVariants.{Path}
+use Rattle.world_laws.specs.Agreement.{EndsAgree}
 use Rattle.world_laws.specs.Asking.{May, asking, may}
-use Rattle.world_laws.specs.Fresh.{shown_world}
-use Rattle.world_laws.specs.Members.{HoldsOfKind}
-use Rattle.world_laws.specs.Openings.{PathPlan, Start, opened_world, path_begins}
-use Rattle.world_laws.specs.Promises.{NothingWasRefused, tells_refusal}
+use Rattle.world_laws.specs.Promises.{tells_refusal}
 use Rattle.world_laws.specs.StampedBooks.{answer_to}
-use Rattle.world_laws.specs.Worlds.{WorldState, Turn, after_turn, asked, begins, crew_after, greatest, world_run}
+use Rattle.world_laws.specs.Worlds.{asked}
 use Rattle.world_laws.specs.Writes.{side_of}
 use Rattle.world_laws.proofs.Falls.FailedChecks.{fail_asks_so}
-use Rattle.world_laws.proofs.Keys.AreDrawn.{is_past}
 use Rattle.world_laws.proofs.Whole.Ends.{MeansIs, is_infinite_item, means_so}
 use Rattle.world_laws.proofs.Whole.Falls.{PathUpright}
 use Rattle.world_laws.proofs.Whole.Happening.{IsCalm}
 use Rattle.world_laws.proofs.Worlds.Finding.{find_every, one_side}
 use Rattle.world_laws.proofs.Writes.Asks.{asks_no_more}
-use Rattle.whole_paths.specs.AgendaSteps.{Follows, is_told}
+use Rattle.whole_paths.specs.AgendaSteps.{is_told}
 use Rattle.whole_paths.specs.AsFar.{stage}
 use Rattle.whole_paths.specs.Mapped.{EndsAreLive}
 use Rattle.whole_paths.specs.Mild.{is_harsh}
@@ -101,15 +92,15 @@ use Rattle.whole_paths.proofs.Breaking.{no_clash}
 use Rattle.whole_paths.proofs.InTime.{is_event}
 use Rattle.whole_paths.proofs.JoinedCopies.{CopySays, SaysEnough}
 use Rattle.whole_paths.proofs.JoinedCopies.{SaysEnough as enough}
-use Rattle.whole_paths.proofs.JoinedTreated.{AllTreat, TreatsWell}
-use Rattle.whole_paths.proofs.Knowing.{Live, answered_live}
+use Rattle.whole_paths.proofs.JoinedTreated.{AllTreat}
+use Rattle.whole_paths.proofs.Knowing.{answered_live}
 use Rattle.whole_paths.proofs.MappedCopies.{CopyMaps, MapsAll, PathMaps}
 use Rattle.whole_paths.proofs.MappedCopies.{MapsAll as maps}
 use Rattle.whole_paths.proofs.NeverUnmapped.{AllAt, Knows, Maps, begins_at, fired_unmapped, line_at, never_at, none_at, other_unmapped, piece_maps, taken_at}
 use Rattle.whole_paths.proofs.OnlyEvents.{follow_none}
 use Rattle.whole_paths.proofs.Settling.{sides}
-use Rattle.whole_paths.proofs.Unbroken.{Calm, Known, begins_calm, begun_calm, behind_calm, duty_calm, heard_calm, line_calm, no_plain_ack, settled_calm}
-use Rattle.whole_paths.proofs.Unmapped.{At, AtIf, answered_at, has_unmapped, settled_at}
+use Rattle.whole_paths.proofs.Unbroken.{Calm, Known, begun_calm, behind_calm, duty_calm, heard_calm, line_calm, no_plain_ack, settled_calm}
+use Rattle.whole_paths.proofs.Unmapped.{At, AtIf, answered_at, settled_at}
 
 -- ---- duties
 

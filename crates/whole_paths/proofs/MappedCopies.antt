@@ -37,14 +37,13 @@ use Rattle.path_agenda.specs.declared.heard.Heard.{Heard}
 use Rattle.path_agenda.specs.declared.heard.Heard.TheVariants as says
 use Rattle.path_agenda.specs.declared.notice.OwnNotice.{OwnNotice}
 use Rattle.path_agenda.specs.declared.notice.OwnNotice.TheVariants as notes
-use Rattle.path_store.specs.declared.infinite_mapping.InfiniteMapping.{InfiniteMapping}
 use Rattle.path_store.specs.declared.lines.LineAction.{LineAction}
 use Rattle.path_store.specs.declared.lines.LineAction.TheVariants as actions
 use Rattle.path_core.specs.Arrival.{copy_heard, heard_in}
 use Rattle.path_core.specs.Choices.{is_side_a}
 use Rattle.path_core.specs.DataFin.{is_data_fin_owed}
 use Rattle.path_core.specs.DssIn.{is_clash}
-use Rattle.path_core.specs.DssOut.{checksum_told, data_fin_mapping, fail_beside, fail_options, fin_options, first_piece_options, infinite_or, is_first_piece, mapped_options, owes_mapping, piece_mapping, plain_options}
+use Rattle.path_core.specs.DssOut.{checksum_told, data_fin_mapping, fail_beside, fail_options, fin_options, first_piece_options, infinite_or, is_first_piece, mapped_options, piece_mapping, plain_options}
 use Rattle.path_core.specs.Duties.{answered}
 use Rattle.path_core.specs.Emission.{first_record, first_unsent}
 use Rattle.path_core.specs.End.{PathEnd}
