@@ -336,3 +336,8 @@ pub mod ManyGoingOn
 pub mod ManyCourses
 pub mod ManyPaths
 pub mod ManyEnds
+pub mod Cuts
+pub mod GrantedPieces
+pub mod GrantedPositions
+pub mod NearRounds
+pub mod TakenPieces

@@ -205,3 +205,6 @@ pub mod ManyGoingOn
 pub mod ManyCourses
 pub mod ManyPaths
 pub mod ManyEnds
+pub mod GrantedPieces
+pub mod GrantedPositions
+pub mod NearRounds
