@@ -350,3 +350,8 @@ pub mod LivingPaths
 pub mod LooksFirst
 pub mod StandbyPaths
 pub mod StandbyRounds
+pub mod Cuts
+pub mod GrantedPieces
+pub mod GrantedPositions
+pub mod NearRounds
+pub mod TakenPieces

@@ -209,3 +209,6 @@ pub mod JoinedPaths
 pub mod LivingPaths
 pub mod StandbyPaths
 pub mod StandbyRounds
+pub mod GrantedPieces
+pub mod GrantedPositions
+pub mod NearRounds
