@@ -1,12 +1,12 @@
 -- Where the marks of a stream change: a place whose byte a path may still be granted, and behind which the next byte has another mark, is a cut for the
 -- path. What isn't written yet counts as free. A grant that isn't limited ends at a cut, which is none afterwards; one that is makes one at most; no other
 -- call of a send book makes one.
-use Rattle.std.proofs.Common.{◌≡◌, refl, sym, subst, ap, ◌∙◌, ◌⊎◌, inl, inr, ⊎_elim, ℕ, zero, suc, ◌+◌, ◌-◌, ◌==◌, ◌<◌, ◌≤◌, min, arith, Bool, true, false, true≢false, not, ◌&&◌, if◌then◌else◌, cond, nat_le, nat_lt, Option, Some, None, Result, Ok, Err, List, [], ◌∷◌, ◌++◌, length, drop, map, position, replicate, take}
-use Rattle.std.specs.List.{position_or_len, prefix_len, slice_get}
+use Rattle.std.proofs.Common.{◌≡◌, refl, sym, subst, ap, ◌∙◌, ◌⊎◌, inl, inr, ⊎_elim, ℕ, zero, suc, ◌+◌, ◌-◌, ◌<◌, ◌≤◌, min, arith, Bool, true, false, true≢false, not, ◌&&◌, Option, Some, None, List, [], ◌∷◌, ◌++◌, length, drop, map, replicate, take}
+use Rattle.std.specs.List.{slice_get}
 use Rattle.std.specs.Cmp.Lexicographic.{pointwise_decides}
 use Rattle.std.specs.Option.{option_map}
 use Rattle.std.proofs.Math.Bool.{beq}
-use Rattle.std.proofs.lemmas.Bool.{and_from, and_parts, both_ways, cases_eq, cases_lt, eq-eqb}
+use Rattle.std.proofs.lemmas.Bool.{and_from, and_parts, cases_eq, cases_lt, eq-eqb}
 use Rattle.std.proofs.lemmas.List.{length-append, length-drop, length-replicate}
 use Rattle.std.proofs.lemmas.Option.{same_Some, slice_get-map, slice_get_past, slice_get_within}
 use Rattle.send_book.specs.declared.mark.ByteMark.{ByteMark}
@@ -14,7 +14,7 @@ use Rattle.send_book.specs.declared.mark.ByteMark.TheVariants.{Acked, Held, Free
 use Rattle.send_book.specs.contracts.mark.ByteMarkPartialEq.TheImpl.{eq-value}
 use Rattle.send_book.specs.MarkEquality.{mark_exact}
 use Rattle.send_book.specs.Marks.{given, is_free_for, returned}
-use Rattle.send_book.specs.Tried.{contains, insert, no_paths}
+use Rattle.send_book.specs.Tried.{contains, no_paths}
 use Rattle.send_book.proofs.Lists.{slice_get-append_left, slice_get-append_right, slice_get-changed_above, slice_get-changed_below, slice_get-changed_inside, slice_get-drop, slice_get-replicate}
 use Rattle.send_book.proofs.PathSets.{contains-insert, contains-insert_more}
 use Rattle.stream_lanes.specs.Marks.{spent}

@@ -1,15 +1,15 @@
 -- Pieces are few: each one either is limited, or takes a cut away (proofs/Cuts). A limited one is a full segment, of which a path is granted as many as fit
 -- into the file; or it reaches as far as bytes may be granted, once until more may be.
-use Rattle.std.proofs.Common.{◌≡◌, refl, sym, subst, ap, ◌∙◌, ◌⊎◌, inl, inr, ⊎_elim, ℕ, zero, suc, ◌+◌, ◌-◌, ◌*◌, ◌/◌, ◌==◌, ◌<◌, ◌≤◌, min, max, arith, Bool, true, false, true≢false, not, ◌||◌, if◌then◌else◌, cond, nat_le, nat_lt, le_refl, Option, Some, None, Result, Ok, Err, List, [], ◌∷◌, ◌++◌, count_by, drop, length, map, position, replicate, sum_by, take}
+use Rattle.std.proofs.Common.{◌≡◌, refl, sym, subst, ap, ◌∙◌, ◌⊎◌, inl, inr, ⊎_elim, ℕ, zero, suc, ◌+◌, ◌-◌, ◌*◌, ◌/◌, ◌<◌, ◌≤◌, min, max, arith, Bool, true, false, true≢false, not, ◌||◌, if◌then◌else◌, cond, nat_le, nat_lt, le_refl, Option, Some, None, Result, Ok, Err, List, [], ◌∷◌, ◌++◌, count_by, drop, length, map, position, replicate, sum_by, take}
 use Rattle.octet_text.specs.Prefix.{IsPrefix}
 use Rattle.std.specs.List.{position_or_len, prefix_len, slice_get}
 use Rattle.std.specs.Option.{option_map}
-use Rattle.std.proofs.Math.Nat.{div-mul-le_self, mul-add, suc-mul, zero-div}
+use Rattle.std.proofs.Math.Nat.{div-mul-le_self, mul-add, suc-mul}
 use Rattle.std.proofs.lemmas.Bool.{both_ways, cases_eq, cases_lt, leb-false, lt-ltb, ltb-true}
-use Rattle.std.proofs.lemmas.List.{length-append, length-drop, length-map}
+use Rattle.std.proofs.lemmas.List.{length-append, length-drop}
 use Rattle.std.proofs.lemmas.List.Sums.{count_by-le-length, prefix_len-le-length, prefix_len_stops, sum_by-cons}
 use Rattle.std.proofs.lemmas.Nat.{le-div}
-use Rattle.std.proofs.lemmas.Option.{get_or_from_slice_get, same_Some, slice_get-map, slice_get_past}
+use Rattle.std.proofs.lemmas.Option.{get_or_from_slice_get, same_Some, slice_get-map}
 use Rattle.sides.specs.declared.side.Side.{Side}
 use Rattle.sides.specs.declared.side.Side.TheVariants.{A, B}
 use Rattle.send_book.specs.declared.call.SendCall.{SendCall}
@@ -27,9 +27,7 @@ use Rattle.send_book.proofs.Decisions.{MayTake, decision-MayTake, first_free-wit
 use Rattle.send_book.proofs.Lists.{slice_get-changed_inside, slice_get-drop, slice_get-prefix}
 use Rattle.send_book.proofs.PathSets.{contains-insert}
 use Rattle.stream_lanes.specs.Marks.{spent, spent_count}
-use Rattle.stream_lanes.specs.Words.{Every}
 use Rattle.stream_lanes.proofs.Lists.{in_map, in_set}
-use Rattle.stream_apps.specs.Starts.{fast_close_of}
 use Rattle.actor_desk.specs.Books.{books_in}
 use Rattle.actor_desk.specs.Desk.{SixBooks, after_ask, send_of}
 use Rattle.actor_desk.specs.Words.{pick}
@@ -39,10 +37,9 @@ use Rattle.actor_desk.specs.declared.ask.Ask.TheVariants as asks
 use Rattle.path_agenda.specs.declared.duty.Duty.{Duty}
 use Rattle.path_core.specs.Duties.{answered, ask_for}
 use Rattle.path_core.specs.Profile.{Profile}
-use Rattle.path_core.specs.Emission.{payload_size}
 use Rattle.path_core.specs.Start.{waiting_path}
 use Rattle.path_core.specs.State.{PathState, path_of}
-use Rattle.path_core.specs.Steps.{asks_first, begins_turn, next_round, takes}
+use Rattle.path_core.specs.Steps.{asks_first, next_round, takes}
 use Rattle.path_core.specs.Values.{Carried, values}
 use Rattle.world_laws.specs.declared.member.Member.TheVariants.{App, Path}
 use Rattle.world_laws.specs.Actors.{Actor, ActorCrew, member_asks, member_next, member_takes}
@@ -51,7 +48,7 @@ use Rattle.world_laws.specs.Promises.{HasRoom, written_by}
 use Rattle.world_laws.specs.RoundDone.{reached}
 use Rattle.world_laws.specs.RoundEnd.{asks_grant}
 use Rattle.world_laws.specs.StampedBooks.{answer_to}
-use Rattle.world_laws.specs.Worlds.{Turn, WorldState, after_turn, all_over, asked, begins, crew_after, greatest, world_run}
+use Rattle.world_laws.specs.Worlds.{Turn, WorldState, after_turn, begins, crew_after, greatest, world_run}
 use Rattle.world_laws.proofs.Rounds.Frame.{first_keeps, takes_keeps}
 use Rattle.world_laws.proofs.Weaving.Journals.{books_after}
 use Rattle.world_laws.proofs.Weaving.WholeRounds.{run_append}
@@ -63,7 +60,7 @@ use Rattle.whole_paths.specs.GrantedPieces.{PiecesAreFew, held, open_len, openin
 use Rattle.whole_paths.specs.Holders.{holds}
 use Rattle.whole_paths.specs.News.{one_if}
 use Rattle.whole_paths.proofs.BookNews.{spent_stays}
-use Rattle.whole_paths.proofs.Cuts.{Gives, cuts, cuts_acked, cuts_returned, cuts_written, next_of, no_more_given, one_fewer_given, one_more_given, own_given}
+use Rattle.whole_paths.proofs.Cuts.{Gives, cuts, cuts_acked, cuts_returned, cuts_written, no_more_given, one_fewer_given, one_more_given, own_given}
 use Rattle.whole_paths.proofs.GivenBack.{count_up}
 use Rattle.whole_paths.proofs.Holding.{app_never}
 use Rattle.whole_paths.proofs.MarkSteps.{AsksFor, held_before, mark_step, some_at}

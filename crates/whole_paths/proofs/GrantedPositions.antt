@@ -1,6 +1,5 @@
 -- What each path sent it was granted once, by the lanes.
-use Rattle.std.proofs.Common.{◌≡◌, refl, sym, subst, ap, ℕ, suc, ◌≤◌, arith, Bool, true, false, Option, List, length}
-use Rattle.sides.specs.declared.side.Side.{Side}
+use Rattle.std.proofs.Common.{◌≡◌, refl, sym, subst, ℕ, suc, ◌≤◌, arith, Bool, true, false, List}
 use Rattle.sides.specs.declared.side.Side.TheVariants.{A, B}
 use Rattle.stream_lanes.specs.Duo.{Duo}
 use Rattle.stream_lanes.specs.Holding.{Holds, LaneHolds}
@@ -9,7 +8,7 @@ use Rattle.stream_lanes.specs.Marks.{spent_count}
 use Rattle.stream_lanes.specs.View.{View}
 use Rattle.actor_desk.specs.Books.{books_in}
 use Rattle.path_store.specs.declared.granted_piece.GrantedPiece.{GrantedPiece}
-use Rattle.path_core.specs.State.{PathState, path_of}
+use Rattle.path_core.specs.State.{PathState}
 use Rattle.path_core.specs.Values.{Carried, values}
 use Rattle.world_laws.specs.Members.{HoldsOfKind}
 use Rattle.world_laws.specs.Openings.{Start, opened_world}

@@ -1,5 +1,5 @@
 -- Where a direction owes nothing each record is well, and its end is told soon.
-use Rattle.std.proofs.Common.{◌⊎◌, inl, inr, ⊎_elim, ◌≤◌, arith, List}
+use Rattle.std.proofs.Common.{◌⊎◌, inl, ⊎_elim, ◌≤◌, List}
 use Rattle.sides.specs.declared.side.Side.{Side}
 use Rattle.path_core.specs.State.{PathState, end_at}
 use Rattle.path_core.specs.Values.{Carried, values}

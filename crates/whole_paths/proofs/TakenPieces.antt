@@ -1,5 +1,5 @@
 -- A byte that was free for a path, and is tried by it, was granted to it in a piece: by a turn the path came to hold more bytes.
-use Rattle.std.proofs.Common.{◌≡◌, refl, sym, subst, ap, ◌∙◌, ◌⊎◌, inl, inr, ⊎_elim, ℕ, zero, suc, ◌+◌, ◌-◌, ◌<◌, ◌≤◌, ◌==◌, arith, Bool, true, false, true≢false, nat_lt, if◌then◌else◌, Option, Some, None, Result, Ok, Err, List, [], ◌∷◌, ◌++◌, count_by}
+use Rattle.std.proofs.Common.{◌≡◌, refl, sym, subst, ap, ◌∙◌, ⊎_elim, ℕ, zero, suc, ◌+◌, ◌-◌, ◌<◌, ◌≤◌, ◌==◌, arith, Bool, true, false, true≢false, nat_lt, if◌then◌else◌, Option, Some, Result, Ok, Err, List, [], ◌∷◌, ◌++◌}
 use Rattle.std.specs.List.{slice_get}
 use Rattle.std.proofs.lemmas.Bool.{cases_eq, cases_lt, eq-eqb, lt-ltb}
 use Rattle.sides.specs.declared.side.Side.{Side}
@@ -9,7 +9,7 @@ use Rattle.send_book.specs.declared.call.Span.{Span}
 use Rattle.send_book.specs.declared.call.Why.{Why}
 use Rattle.send_book.specs.declared.mark.ByteMark.{ByteMark}
 use Rattle.send_book.specs.declared.mark.ByteMark.TheVariants.{Acked, Held, Free}
-use Rattle.send_book.specs.Marks.{given, is_acked, is_free_for, is_held_by, returned}
+use Rattle.send_book.specs.Marks.{given, is_free_for, returned}
 use Rattle.send_book.specs.State.{Sending}
 use Rattle.send_book.specs.Steps.{after_call, decision, given_by}
 use Rattle.send_book.specs.Tried.{contains, insert, no_paths}
@@ -37,7 +37,7 @@ use Rattle.whole_paths.specs.News.{one_if}
 use Rattle.whole_paths.specs.Refusals.{IsLeft}
 use Rattle.whole_paths.specs.Refusals.{IsLeft as left_by}
 use Rattle.whole_paths.specs.Unstopped.{NothingIsStopped}
-use Rattle.whole_paths.proofs.BookNews.{AreAsFar, is_done, marks_as_far, spent_returned}
+use Rattle.whole_paths.proofs.BookNews.{AreAsFar, is_done, marks_as_far}
 use Rattle.whole_paths.proofs.GivenBack.{count_rises}
 use Rattle.whole_paths.proofs.GrantedPieces.{ask_book}
 use Rattle.whole_paths.proofs.MarkSteps.{MarkStep, mark_step, some_at}

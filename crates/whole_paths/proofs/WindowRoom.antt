@@ -24,7 +24,7 @@ use Rattle.whole_paths.specs.Mild.{IsMildStart}
 use Rattle.whole_paths.specs.News.{one_if}
 use Rattle.whole_paths.specs.Overruns.{StaysWithin}
 use Rattle.whole_paths.specs.PositionCounts.{CountsBytes}
-use Rattle.whole_paths.specs.WindowRoom.{EachWindowHasRoom, IsRoomy, LivingWindowsHaveRoom, OnePathIsRoomy, ShortFilesAreRoomy, UnfinishedWindowsHaveRoom}
+use Rattle.whole_paths.specs.WindowRoom.{EachWindowHasRoom, LivingWindowsHaveRoom, OnePathIsRoomy, ShortFilesAreRoomy, UnfinishedWindowsHaveRoom}
 use Rattle.whole_paths.proofs.EdgesStay.{sent_fin}
 use Rattle.whole_paths.proofs.Arrivals.{sender_of}
 use Rattle.whole_paths.proofs.Came.{what_is_acknowledged_came}

@@ -1,5 +1,5 @@
 -- How many positions an end sends: of each byte that its path was granted one, and those of its SYN and its FIN (RFC 9293, section 3.4).
-use Rattle.std.specs.Prelude.{ℕ, suc, ◌≤◌, ◌≡◌, Some, List, slice_get}
+use Rattle.std.specs.Prelude.{ℕ, suc, ◌≤◌, ◌≡◌, Some, slice_get}
 use Rattle.sides.specs.declared.side.Side.{Side}
 use Rattle.stream_lanes.specs.Marks.{spent_count}
 use Rattle.path_core.specs.State.{PathState, end_at, path_of}
