@@ -95,7 +95,7 @@ use Rattle.whole_paths.proofs.Finishing.{steps_push}
 use Rattle.whole_paths.proofs.FinishedThere.{what_is_finished_is_there}
 use Rattle.whole_paths.proofs.FirstSigns.{asks_for_its_end}
 use Rattle.whole_paths.proofs.GoingOn.{plain_none}
-use Rattle.whole_paths.proofs.HeardRemovals.{answered_sheds, comes_sheds, passed_sheds}
+use Rattle.whole_paths.proofs.HeardItems.{answered_sheds, comes_sheds, passed_sheds}
 use Rattle.whole_paths.proofs.InTime.{is_event}
 use Rattle.whole_paths.proofs.MappedCopies.{EndBehind, KindBehind, each_behind}
 use Rattle.whole_paths.proofs.Mild.{links_are_mild, mapping_is_kept}

@@ -108,7 +108,7 @@ module _ (start : Start) (mild : IsMildStart start) where
   far : (turns : List Turn) → IsAsFarAsOverValues start turns
   far turns = octets_are_as_far_as_values start turns mild.plain.size mild.fit
 
-  ended_on : (turns : List Turn) → (outcome_of (reached values start turns).crew ≡ Delivered) ⊎ AnEndDiedEarly values start turns
+  pub ended_on : (turns : List Turn) → (outcome_of (reached values start turns).crew ≡ Delivered) ⊎ AnEndDiedEarly values start turns
       → (outcome_of (reached octets start turns).crew ≡ Delivered) ⊎ AnEndDiedEarly octets start turns
   ended_on turns (inl delivered) = inl ((far turns).outcome ∙ delivered)
   ended_on turns (inr h) = inr (record {

@@ -2,6 +2,7 @@
 ghost use Rattle.path_core.specs.Octets.{octets};
 ghost use Rattle.path_core.specs.Values.{values};
 ghost use Rattle.whole_paths.specs.EdgeStands.{NothingIsTriedPastTheEdge, ShutEndsStayShut};
+ghost use Rattle.whole_paths.specs.FirstTexts.{FirstTextsDeliver, FirstTextsEnd, RegularFirstPathsTellNone};
 ghost use Rattle.whole_paths.specs.ManyCourses.{ManyPathsBringAll, ManyPathsDeliver, ServingPathsDeliver};
 ghost use Rattle.whole_paths.specs.ManyEnds.{FirstPathsEnd};
 ghost use Rattle.whole_paths.specs.ManyPaths.{FirstPathsDeliver};
@@ -75,4 +76,24 @@ pub fn first_paths_deliver()
 pub fn first_paths_end()
     ensures octets { FirstPathsEnd octets }
     ensures values { FirstPathsEnd values }
+{}
+
+/// A law: where no line of a mild script tells a priority of path 0, path 0 tells no side that it is a backup, over any number of paths (RFC 8684, sections
+/// 3.2 and 3.3.8).
+///
+/// The word `backup` in its own line does nothing: it is said by MP_JOINs alone, and path 0 sends none.
+pub fn regular_first_paths_tell_none()
+    ensures { RegularFirstPathsTellNone }
+{}
+
+/// A law: once path 0 is whole at the end of a round, and still whole when rounds enough have ended, both files are delivered, whatever becomes of any number
+/// of other paths, where no line tells a priority of path 0 (RFC 8684, sections 3.3.2 and 3.3.8).
+///
+/// But for the turns and for 'whole' this is said of the script's text: `first_paths_deliver`, since such a path 0 never stands by
+/// (`regular_first_paths_tell_none`). Without the second 'whole' both are delivered, or an end of path 0 died early (`ends`).
+pub fn first_texts_deliver()
+    ensures octets { FirstTextsDeliver octets }
+    ensures values { FirstTextsDeliver values }
+    ensures ends_octets { FirstTextsEnd octets }
+    ensures ends { FirstTextsEnd values }
 {}
