@@ -1,5 +1,4 @@
--- Where no line of the script lets a path die or takes the address of path 0 back, no side counts that address as removed: over values, by each
--- turn.
+-- Where no line of the script takes the address of path 0 back, no side counts that address as removed: over values, by each turn.
 use Rattle.whole_paths.proofs.HarmlessLines.{SparedMember, Spares, each_spared, next_spared, no_harm_comes, takes_spared}
 use Rattle.whole_paths.proofs.KeptBooks.{Keeps, call_keeps, look_spares, opening_keeps}
 use Rattle.whole_paths.proofs.NoRemovals.{SparesAsk, TakeNone, duty_asks, duty_none, event_none, settled_none, is_taking}
@@ -44,7 +43,7 @@ use Rattle.world_laws.specs.Worlds.{WorldState, Turn, begins, crew_after, greate
 use Rattle.world_laws.proofs.Rounds.Lifting.{opened_lifted}
 use Rattle.world_laws.proofs.Weaving.Journals.{books_after}
 use Rattle.world_laws.proofs.Worlds.Turns.{run_so}
-use Rattle.whole_paths.specs.Finish.{is_harmless_to_ends}
+use Rattle.whole_paths.specs.KeptAddresses.{spares_first}
 use Rattle.whole_paths.specs.MildDeaths.{IsTakenBack}
 
 -- the address of id 0 is taken back
@@ -179,7 +178,7 @@ run_clean = run_so values AllClean
       books = h.books;
     })
 
-opened_clean : (start : Start) → list_all is_harmless_to_ends start.lines ≡ true → AllClean (opened_world start)
+opened_clean : (start : Start) → list_all spares_first start.lines ≡ true → AllClean (opened_world start)
 opened_clean start harmless = record {
   crew = λ actor c there. (
     (each_spared values start [] harmless).each actor c there,
@@ -190,5 +189,5 @@ opened_clean start harmless = record {
 }
 
 -- no side counts it as removed
-pub first_address_is_kept : (start : Start) (turns : List Turn) → list_all is_harmless_to_ends start.lines ≡ true → (s : Side) → IsTakenBack 0 s (reached values start turns).books → ⊥
+pub first_address_is_kept : (start : Start) (turns : List Turn) → list_all spares_first start.lines ≡ true → (s : Side) → IsTakenBack 0 s (reached values start turns).books → ⊥
 first_address_is_kept start turns harmless s is = both_ways _ ((run_clean turns (opened_world start) (opened_clean start harmless)).books s).own is

@@ -46,6 +46,7 @@ pub mod FinWaits
 pub mod FinsHeard
 pub mod HarmlessDeaths
 pub mod HeardBelow
+pub mod HeardWanted
 pub mod HeardSaid
 pub mod KeptAddresses
 pub mod NoRemovals
@@ -60,6 +61,7 @@ pub mod NoticeWords
 pub mod UnsaidWords
 pub mod Debts
 pub mod FewLossesEnd
+pub mod FirstHere
 pub mod OpenCopies
 pub mod ComingCopies
 pub mod OwedGoes
@@ -206,6 +208,7 @@ pub mod Endings
 pub mod EndedStreams
 pub mod Ends
 pub mod EndsHeard
+pub mod LoneFirst
 pub mod EndsUntold
 pub mod Counted
 pub mod OpenCourses
@@ -278,6 +281,7 @@ pub mod EdgesStay
 pub mod KeysCome
 pub mod KnownWindows
 pub mod FirstWindows
+pub mod FirstAsks
 pub mod DebtKinds
 pub mod Directions
 pub mod ComesAgain
@@ -333,6 +337,9 @@ pub mod BackupAsks
 pub mod RegularPaths
 pub mod NoPriorities
 pub mod FirstTexts
+pub mod BegunTexts
+pub mod GoesOnLiving
+pub mod ShortRooms
 pub mod ManyWaits
 pub mod ManyGoingOn
 pub mod ManyCourses

@@ -41,7 +41,7 @@ use Rattle.path_core.specs.Judged.{taken_as}
 use Rattle.path_core.specs.MpJoin.{is_joined, is_never, join_begun, keys_begun, never_joined, opened_by}
 use Rattle.path_core.specs.OptionsIn.{options_heard}
 use Rattle.path_core.specs.Start.{first_turn, waiting_path}
-use Rattle.path_core.specs.State.{PathState, at_tick, end_at, goes_on, left, with_agenda}
+use Rattle.path_core.specs.State.{PathState, at_tick, end_at, goes_on, with_agenda}
 use Rattle.path_core.specs.Steps.{next_round, settled, takes}
 use Rattle.path_core.specs.Values.{Carried, values}
 use Rattle.path_core.specs.declared.events.Event.{Event}

@@ -8,6 +8,7 @@ use Rattle.sides.specs.declared.side.Side.TheVariants.{A, B}
 use Rattle.link_model.specs.Steps.{after_delivery, arriving}
 use Rattle.subflow_send.specs.Records.{Record}
 use Rattle.subflow_tcp.specs.Expiring.{is_sixth}
+use Rattle.subflow_tcp.specs.States.{is_dead}
 use Rattle.subflow_tcp.specs.declared.verdicts.Meaning.{Meaning}
 use Rattle.subflow_tcp.specs.declared.verdicts.Meaning.TheVariants as means
 use Rattle.actor_desk.specs.Words.{tail_of}
@@ -61,7 +62,7 @@ use Rattle.path_core.specs.declared.events.Event.TheVariants as happenings
 use Rattle.world_laws.specs.Writes.{side_of}
 use Rattle.whole_paths.specs.AgendaSteps.{Follows, is_told, Follows as follows}
 use Rattle.whole_paths.proofs.Agendas.{answered_follows}
-use Rattle.whole_paths.proofs.HarmlessLines.{is_harmful}
+use Rattle.whole_paths.proofs.HarmlessLines.{is_withdrawal}
 use Rattle.whole_paths.proofs.NoticeWords.{AreUnheard, Word, is_heard}
 use Rattle.whole_paths.proofs.KeptBooks.{Spares as SparesCall}
 use Rattle.whole_paths.proofs.Pieces.{is_event}
@@ -217,13 +218,13 @@ died_none true false = refl
 died_none false true = refl
 died_none false false = refl
 
-line_none : (action : LineAction) (p : PathState Carried) → is_harmful action ≡ false → TakeNone (after_line action p).agenda
-line_none actions.Die p spares = absurd (true≢false spares)
+line_none : (action : LineAction) (p : PathState Carried) → is_withdrawal action ≡ false → TakeNone (after_line action p).agenda
+line_none actions.Die p spares = died_none (is_dead p.a.tcp.state) (is_dead p.b.tcp.state)
 line_none (actions.Prio s backup) p spares = refl
 line_none (actions.Announce s id) p spares = refl
 line_none (actions.Withdraw s id) p spares = or_from (id == 0) _ spares refl
 
-pub event_none : (o : Option Event) (r : Reply) (p : PathState Carried) → ((line : LineLeft) → o ≡ Some (happenings.Takes line) → is_harmful line.action ≡ false) → TakeNone (happens_if values o r p).agenda
+pub event_none : (o : Option Event) (r : Reply) (p : PathState Carried) → ((line : LineLeft) → o ≡ Some (happenings.Takes line) → is_withdrawal line.action ≡ false) → TakeNone (happens_if values o r p).agenda
 event_none None r p spares = refl
 event_none (Some (happenings.Joins tick)) r p spares =
     let x : PathState Carried = record (at_tick tick p) { joined_at = None } in
