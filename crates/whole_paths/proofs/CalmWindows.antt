@@ -1,6 +1,5 @@
 -- What is owed stays told but for harms, which are counted; what a round leaves told is heard four rounds later.
-use Rattle.std.proofs.Common.{◌≡◌, refl, sym, subst, ap, ◌∙◌, ◌⊎◌, inl, inr, ⊎_elim, ◌+◌, ◌-◌, ◌<◌, ◌≤◌, ℕ, min, arith, Bool, true, false, List, [], ◌∷◌, ◌++◌, length}
-use Rattle.std.proofs.lemmas.Bool.{cases_lt}
+use Rattle.std.proofs.Common.{◌≡◌, refl, sym, subst, ap, ◌⊎◌, inl, inr, ⊎_elim, ◌+◌, ◌-◌, ◌<◌, ◌≤◌, ℕ, min, arith, Bool, true, false, List, [], ◌∷◌, ◌++◌, length}
 use Rattle.sides.specs.declared.side.Side.{Side}
 use Rattle.sides.specs.declared.side.Side.TheVariants.{A, B}
 use Rattle.actor_desk.specs.Words.{pick}
@@ -31,7 +30,7 @@ use Rattle.whole_paths.proofs.Directions.{harms_so}
 use Rattle.whole_paths.proofs.GoesOn.{goes_on_so}
 use Rattle.whole_paths.proofs.OpenTurns.{with_both}
 use Rattle.whole_paths.proofs.RecordWaits.{path_is}
-use Rattle.whole_paths.proofs.RoundSteps.{Between, between, far, one_between, open_last, then_between}
+use Rattle.whole_paths.proofs.RoundSteps.{Between, between, far, open_last}
 use Rattle.whole_paths.proofs.SegmentRounds.{stays_there}
 use Rattle.whole_paths.proofs.UnitRounds.{Parted, parted, rounds_of, well_after}
 use Rattle.whole_paths.proofs.WindowsAssured.{four_rounds_assure}

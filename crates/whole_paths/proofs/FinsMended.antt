@@ -80,7 +80,7 @@ module _ (start : Start) (plan : PathPlan) (one : BeginsWithOnePath start plan) 
   w = reached values start opens_so.before
 
   unclear : (t : Side) → (end_at t first).modes.clear ≡ true → ⊥
-  unclear A clear = both_ways first.b.modes.clear opens_so.unclear (b_is_clear_first start plan opens_so.before one.one one.mild first opens_so.here clear)
+  unclear A clear = both_ways first.b.modes.clear opens_so.unclear (b_is_clear_first start opens_so.before one.mild first opens_so.here clear)
   unclear B clear = both_ways first.b.modes.clear opens_so.unclear clear
 
   unsent_before : (b : Bool) → (end_at s first).sending.fin_sent ≡ b → b ≡ false

@@ -96,7 +96,7 @@ pub b_owes_none_first : BOwesNoneFirst
 b_owes_none_first start plan turns turn one p here unclear now = record {
   path = now.path;
   here = now.here;
-  owing = owes_none start plan (turns ++ turn ∷ []) one now.path now.here now.is_open (quiet_then start plan one.one one.mild turns turn p now.path here now.here unclear);
+  owing = owes_none start plan (turns ++ turn ∷ []) one now.path now.here now.is_open (quiet_then start one.mild turns turn p now.path here now.here unclear);
 }
 
 pub a_owes_records_first : AOwesRecordsFirst
@@ -104,7 +104,7 @@ a_owes_records_first start plan turns turn one p here unclear now lost well = re
   path = now.path;
   here = now.here;
   owing = owes_records start plan (turns ++ turn ∷ []) one now.path now.here now.is_open
-      (λ none. edge_then start plan one.one one.mild turns turn p now.path here now.here (record { living = now.is_open.living }) B unclear none) lost well;
+      (λ none. edge_then start one.mild turns turn p now.path here now.here (record { living = now.is_open.living }) B unclear none) lost well;
 }
 
 module _ (start : Start) (plan : PathPlan) (most : ℕ) (one : BeginsWithOnePath start plan) (turns : List Turn) (turn : Turn) (p : PathState Carried) (here : IsPathAt 0 (reached values start turns) p)

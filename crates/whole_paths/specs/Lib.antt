@@ -200,6 +200,7 @@ pub mod Backups
 pub mod Priorities
 pub mod BackupAsks
 pub mod RegularPaths
+pub mod FirstTexts
 pub mod ManyWaits
 pub mod ManyGoingOn
 pub mod ManyCourses

@@ -23,6 +23,11 @@ abbrev pub LivingWindowsHaveRoom : Type 0
 LivingWindowsHaveRoom = (start : Start) (plan : PathPlan) (turns : List Turn) → start.paths ≡ plan ∷ [] → IsMildStart start → (p : PathState Carried)
     → IsPathAt 0 (reached values start turns) p → ((s : Side) → is_dead (end_at s p).tcp.state ≡ false) → (s : Side) → LeavesRoomFor s p
 
+-- that is so at each moment of this connection's path 0
+abbrev pub LivesWithRoom : Start → Type 0
+LivesWithRoom start = (turns : List Turn) (p : PathState Carried) → IsPathAt 0 (reached values start turns) p → ((s : Side) → is_dead (end_at s p).tcp.state ≡ false)
+    → (s : Side) → LeavesRoomFor s p
+
 -- so where both are past the handshake, and B's may send a DSS
 abbrev pub EachWindowHasRoom : Type 0
 EachWindowHasRoom = (start : Start) (plan : PathPlan) (turns : List Turn) → BeginsWithOnePath start plan
