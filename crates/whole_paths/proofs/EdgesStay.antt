@@ -75,7 +75,7 @@ use Rattle.whole_paths.proofs.ClearFirst.{b_is_clear_first}
 use Rattle.whole_paths.proofs.Clearing.{none_other}
 use Rattle.whole_paths.proofs.EndsUntold.{a_is_told_no_end_before}
 use Rattle.whole_paths.proofs.Exchanges.{Shown, each_shown}
-use Rattle.whole_paths.proofs.FinishedThere.{what_is_finished_is_there}
+use Rattle.whole_paths.proofs.FinishedThere.{each_finished_is_there}
 use Rattle.whole_paths.proofs.Handshaking.{AllFar, living_before, next_far, takes_far}
 use Rattle.whole_paths.proofs.InTime.{is_event}
 use Rattle.whole_paths.proofs.OpenCourses.{IsFirstPath, each_first}
@@ -400,7 +400,7 @@ sent_fin phase.CloseWait unlike living = absurd (true≢false unlike)
 sent_fin phase.Dead unlike living = absurd (true≢false living)
 sent_fin _ unlike living = refl
 
-module _ (start : Start) (plan : PathPlan) (one : start.paths ≡ plan ∷ []) (mild : IsMildStart start) where
+module _ (start : Start) (mild : IsMildStart start) where
   module _ (turns : List Turn) (p : PathState Carried) (here : IsPathAt 0 (reached values start turns) p) where
     first : IsFirstPath start p
     first = subst (Of (IsFirstPath start)) here.is (each_first start turns mild.plain.size here.crew here.there)
@@ -415,9 +415,9 @@ module _ (start : Start) (plan : PathPlan) (one : start.paths ≡ plan ∷ []) (
 
     unsent : (t : Side) → IsAlive p → (end_at t p).modes.clear ≡ false → (end_at (peer t) p).tcp.send.finished ≡ true → ⊥
     unsent A alive unclear sent =
-        let all = subst (Of (FinishedIsThere (reached values start turns))) here.is (what_is_finished_is_there start plan turns one mild 2 here.crew here.there) B (finished_is_done B alive sent) in
-        let none = a_is_told_no_end_before start plan turns one mild p here unclear in let some = all.known in cc
-    unsent B alive unclear sent = both_ways p.b.modes.clear unclear (b_is_clear_first start plan turns one mild p here (who_is_done_is_clear start turns mild p here (finished_is_done A alive sent)))
+        let all = subst (Of (FinishedIsThere (reached values start turns))) here.is (each_finished_is_there start turns mild 2 here.crew here.there) B (finished_is_done B alive sent) in
+        let none = a_is_told_no_end_before start turns mild p here unclear in let some = all.known in cc
+    unsent B alive unclear sent = both_ways p.b.modes.clear unclear (b_is_clear_first start turns mild p here (who_is_done_is_clear start turns mild p here (finished_is_done A alive sent)))
 
     no_fin : After p
     no_fin = record { fin = λ alive t unclear. by alive t unclear (end_at (peer t) p).tcp.send.finished refl }
@@ -473,6 +473,6 @@ module _ (start : Start) (plan : PathPlan) (one : start.paths ≡ plan ∷ []) (
       by z Becomes.begins_anew alive still = next_low p t still (low (alive_before p z (next_far p) alive))
 
 pub nothing_comes_before : NothingComesBefore
-nothing_comes_before start plan turns one mild p here alive s unclear =
+nothing_comes_before start turns mild p here alive s unclear =
     let shown = subst (Of Shown) here.is (each_shown start turns mild.plain.size mild.fit 2 here.crew here.there) in
-    let some = shown.edge s in let low = (stays_at start plan one mild turns p here).low alive s unclear in omega (arith, some, low)
+    let some = shown.edge s in let low = (stays_at start mild turns p here).low alive s unclear in omega (arith, some, low)

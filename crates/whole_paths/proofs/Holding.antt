@@ -95,7 +95,7 @@ app_asks_none : (d : AppDuty) (a : AppState) → AsksNone (app_ask d a)
 app_asks_none AppDuty.Write a = tt
 app_asks_none _ a = tt
 
-app_never : (s : Side) (number : ℕ) (x : Ask) (a : AppState) (ds : List AppDuty) → app_asks_first ds a ≡ Some x → AsksBytes s number x → ⊥
+pub app_never : (s : Side) (number : ℕ) (x : Ask) (a : AppState) (ds : List AppDuty) → app_asks_first ds a ≡ Some x → AsksBytes s number x → ⊥
 app_never s number x a [] asking bytes = cc
 app_never s number x a (d ∷ ds) asking bytes = subst AsksNone (same_Some (app_ask d a) x asking ∙ bytes.is) (app_asks_none d a)
 

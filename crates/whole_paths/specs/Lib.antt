@@ -200,6 +200,7 @@ pub mod Backups
 pub mod Priorities
 pub mod BackupAsks
 pub mod RegularPaths
+pub mod FirstTexts
 pub mod ManyWaits
 pub mod ManyGoingOn
 pub mod ManyCourses
@@ -209,3 +210,6 @@ pub mod JoinedPaths
 pub mod LivingPaths
 pub mod StandbyPaths
 pub mod StandbyRounds
+pub mod GrantedPieces
+pub mod GrantedPositions
+pub mod NearRounds

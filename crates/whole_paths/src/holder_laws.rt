@@ -99,7 +99,7 @@ pub fn each_byte_counts()
 /// A law: in each round, in whatever order the actors go, where a path's turn is over, an end that may ask for bytes, with room in its window for a full
 /// segment, was granted what it might have taken as the round began, as far as the window reaches (RFC 8684, sections 3.3.5 and 3.3.8).
 ///
-/// Of each byte that was free for the path as the round began: something became of it, or of another byte of the stream (`each_byte_counts`); or the byte
+/// Of each byte that was free for the path as the round began: it was granted to a path since, or acknowledged (`what_is_taken_is_granted`); or the byte
 /// isn't before the edge of the window as the round began, and the end knows that the window is shut; or the path was on standby when it asked last. It is
 /// said of a side that isn't stopped, and whose stream isn't given to one path alone.
 pub fn who_asks_is_refused()
