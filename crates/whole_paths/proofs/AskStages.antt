@@ -499,7 +499,7 @@ open_goes six later (App a) n sound_p sound_q h = tt
 
 pub open_asks_are_answered : OpenAsksAreAnswered
 open_asks_are_answered = record {
-  begin = λ start turns mild actor c there. open_begins _ c.member (each_open_is_sound start turns mild actor c there) (sound_asks_are_answered.begin start turns mild actor c there);
-  goes_on = λ start turns turn mild actor c d was now.
-      open_goes _ _ c.member d.member (each_open_is_sound start turns mild actor c was) (sound_after start turns turn mild actor d now) (sound_asks_are_answered.goes_on start turns turn mild actor c d was now);
+  begin = λ start turns mild actor c there. open_begins (books_in (world_run values turns (opened_world start)).books) c.member (each_open_is_sound start turns mild actor c there) (sound_asks_are_answered.begin start turns mild actor c there);
+  goes_on = λ start turns turn mild actor c d was now. let w : WorldState Carried = world_run values turns (opened_world start) in
+      open_goes (books_in w.books) (books_in (after_turn values turn w).books) c.member d.member (each_open_is_sound start turns mild actor c was) (sound_after start turns turn mild actor d now) (sound_asks_are_answered.goes_on start turns turn mild actor c d was now);
 }

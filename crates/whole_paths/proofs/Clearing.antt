@@ -275,7 +275,7 @@ answer_clear None m = refl
 answer_clear (Some answer) m = refl
 
 -- nor by any copy but one that B takes, on a path that joins
-joined_clear : (joined : Bool) (told : List KeptMapping) (answer : Outgoing) (s : Side) (now : ℕ) (h : HeardSegment) (m : Meaning) (e : PathEnd) → is_taken m ≡ false
+pub joined_clear : (joined : Bool) (told : List KeptMapping) (answer : Outgoing) (s : Side) (now : ℕ) (h : HeardSegment) (m : Meaning) (e : PathEnd) → is_taken m ≡ false
     → (copy_judged joined told answer s now h m e).modes.clear ≡ e.modes.clear
 joined_clear false told answer s now h m e other = judged_clear told answer s now h m e
 joined_clear true told answer s now h means.Opens e other = refl
@@ -416,7 +416,7 @@ module _ {C : Type 0} where
 
   -- ---- events
 
-  goes_clear : (s t : Side) (f : PathEnd) (ds : List Duty) (p : PathState C) → f.modes.clear ≡ (end_at s p).modes.clear → (end_at t (goes_on s f ds p)).modes.clear ≡ (end_at t p).modes.clear
+  pub goes_clear : (s t : Side) (f : PathEnd) (ds : List Duty) (p : PathState C) → f.modes.clear ≡ (end_at s p).modes.clear → (end_at t (goes_on s f ds p)).modes.clear ≡ (end_at t p).modes.clear
   goes_clear A A f ds p is = is
   goes_clear A B f ds p is = refl
   goes_clear B A f ds p is = refl

@@ -22,7 +22,8 @@ use Rattle.world_laws.specs.Openings.{Start, opened_world}
 use Rattle.world_laws.specs.Worlds.{Turn, WorldState, world_run}
 use Rattle.world_laws.proofs.Joins.TokensAgree.{opened_met, run_met}
 use Rattle.world_laws.proofs.Keys.AreDrawn.{Deed, EndIs, ItemIs, Needs, Secrets, is_woken}
-use Rattle.world_laws.proofs.Keys.Held.{PairIs, PathIs, end_is, item_found, pair_found}
+use Rattle.world_laws.proofs.Keys.Held.{PairIs, PathIs, end_is, pair_found}
+use Rattle.world_laws.proofs.Keys.StepsKeep.{item_found}
 use Rattle.world_laws.proofs.Keys.ToldAreOwn.{MemberIs}
 
 -- it isn't a key of both sides

@@ -179,7 +179,7 @@ connected_stage phase.SynReceived is = absurd (true≢false (sym is))
 connected_stage phase.Dead is = absurd (true≢false (sym is))
 connected_stage _ is = (omega arith, omega arith)
 
-alive : (state : State) → stage state ≤ 6 → is_dead state ≡ false
+pub alive : (state : State) → stage state ≤ 6 → is_dead state ≡ false
 alive phase.Dead low = absurd (omega (arith, low))
 alive _ low = refl
 

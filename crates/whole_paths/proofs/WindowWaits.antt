@@ -76,7 +76,7 @@ module _ (number : ℕ) (Holds : PathState Carried → Type 0) (start : Start) w
       → (counted_at values start number turns < counted_at values start number (turns ++ turn ∷ [])) ⊎ Halts (books_in v.books) s after.path
 
   -- and it is sound then
-  abbrev HoldsOfSound : Type 0
+  abbrev pub HoldsOfSound : Type 0
   HoldsOfSound = (v : List Turn) (p : PathState Carried) → IsPathAt number (reached values start v) p → Holds p → IsSound p
 
 module _ (number : ℕ) (Holds : PathState Carried → Type 0) (start : Start) (sound : HoldsOfSound number Holds start) (Halts : Halt) (Goes : List Turn → Type 0) (of_shut : IsOfShutEnds Halts)
