@@ -81,6 +81,11 @@ pub mod Hearing
 pub mod Hears
 pub mod InRounds
 pub mod InTime
+pub mod JoinedEnds
+pub mod JoinedKeys
+pub mod JoinedThirds
+pub mod OpenJoins
+pub mod SoundCourses
 pub mod Keeping
 pub mod Keyed
 pub mod KeysStay

@@ -59,6 +59,16 @@ module _ (number : ℕ) where
       → ticks_for 61100 (suc (most_of_all start + harms_at start number (before ++ more))) + 300 < 100 * rounds_in more
       → outcome_of (reached values start (before ++ more)).crew ≡ Delivered
 
+-- whichever path it is
+abbrev pub EachPathBringsAll : Type 0
+EachPathBringsAll = (number : ℕ) → PathBringsAll number
+
+abbrev pub EachPathDelivers : Type 0
+EachPathDelivers = (number : ℕ) → PathDelivers number
+
+abbrev pub EachServingPathDelivers : Type 0
+EachServingPathDelivers = (number : ℕ) → ServingPathDelivers number
+
 -- of path 0
 abbrev pub ManyPathsBringAll : Type 0
 ManyPathsBringAll = PathBringsAll 0

@@ -21,6 +21,10 @@ module _ {C : Type 0} (k : Codec C) where
       → patience_of_all script file_a file_b (harmed k number turns (opened script file_a file_b)) ≤ rounds_in more
       → (outcome_of (run_of k script file_a file_b turns).crew ≡ Delivered) ⊎ AnEndDiedEarlyAt number k (start_of script file_a file_b) turns
 
+  -- whichever path it is
+  abbrev pub EachWholePathEnds : Type 0
+  EachWholePathEnds = (number : ℕ) → DeliversOrDiesAt number
+
   -- path 0
   abbrev pub FirstPathsEnd : Type 0
   FirstPathsEnd = DeliversOrDiesAt 0

@@ -35,6 +35,10 @@ module _ {C : Type 0} (k : Codec C) where
       → patience_of_all script file_a file_b (harmed k number turns (opened script file_a file_b)) ≤ rounds_in more
       → outcome_of (run_of k script file_a file_b turns).crew ≡ Delivered
 
+  -- whichever path it is
+  abbrev pub EachWholePathDelivers : Type 0
+  EachWholePathDelivers = (number : ℕ) → DeliversAt number
+
   -- of path 0
   abbrev pub FirstPathsDeliver : Type 0
   FirstPathsDeliver = DeliversAt 0

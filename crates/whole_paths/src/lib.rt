@@ -220,6 +220,7 @@ pub use laws::writers_go_on;
 pub use many_laws::each_missing_byte_is_waited_for;
 pub use many_laws::first_paths_deliver;
 pub use many_laws::first_paths_end;
+pub use many_laws::joined_ends_know_their_peers;
 pub use many_laws::many_paths_bring_all;
 pub use many_laws::shut_ends_are_awaited;
 pub use many_laws::shut_ends_stay_shut;

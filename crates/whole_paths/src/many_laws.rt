@@ -2,6 +2,7 @@
 ghost use Rattle.path_core.specs.Octets.{octets};
 ghost use Rattle.path_core.specs.Values.{values};
 ghost use Rattle.whole_paths.specs.EdgeStands.{NothingIsTriedPastTheEdge, ShutEndsStayShut};
+ghost use Rattle.whole_paths.specs.JoinedEnds.{JoinedEndsKnowTheirPeers};
 ghost use Rattle.whole_paths.specs.ManyCourses.{ManyPathsBringAll, ManyPathsDeliver, ServingPathsDeliver};
 ghost use Rattle.whole_paths.specs.ManyEnds.{FirstPathsEnd};
 ghost use Rattle.whole_paths.specs.ManyPaths.{FirstPathsDeliver};
@@ -35,6 +36,14 @@ pub fn shut_ends_stay_shut()
 /// edge: probes ask for the window meanwhile. Path 0 is open, and it doesn't stand by.
 pub fn shut_ends_are_awaited()
     ensures { ShutEndsAreAwaited }
+{}
+
+/// A law: each end of a path that joined has the other end's key as soon as it has begun, and as long as it lives; and it owes no third MP_JOIN once it may
+/// send a DSS (RFC 8684, section 3.2).
+///
+/// It may send one from where it is past the handshake on. The links may do anything.
+pub fn joined_ends_know_their_peers()
+    ensures { JoinedEndsKnowTheirPeers }
 {}
 
 /// A law: where not all bytes are acknowledged as a round is over that a side had written as it began, its end of path 0 waits for a record, an answer, a
