@@ -225,7 +225,7 @@ only_owes w e f owes x is = sym (unwritten w.owes_third e.modes.owes_third f.mod
 
 plain_owes : (s : Side) (w : Writes) (p q : PathState Carried) → w.own.owes_third ≡ false → w.other.owes_third ≡ false → OnlyAt s w p q → NoneOwesMore p q
 plain_owes s w p q own other x =
-    let both = both_ends OwesNoMore s w p q (λ e f only. only_owes w.own e f own only) (λ e f only. only_owes w.other e f other only) x in elim [ A ↦ both.0 | B ↦ both.1 ]
+    let both = both_ends (λ e f. OwesNoMore e f) s w p q (λ e f only. only_owes w.own e f own only) (λ e f only. only_owes w.other e f other only) x in elim [ A ↦ both.0 | B ↦ both.1 ]
 
 goes_owes : (s : Side) (f : PathEnd) (ds : List Duty) (p : PathState Carried) → OwesNoMore (end_at s p) f → NoneOwesMore p (goes_on s f ds p)
 goes_owes A f ds p x A = x
@@ -237,7 +237,7 @@ passed_owes : (d : Duty) (p : PathState Carried) → NoneOwesMore p (passed d p)
 passed_owes (duties.Step step_duties.Events) p = λ t is. is
 passed_owes (duties.Step (step_duties.Heard s index)) p =
     let e : PathEnd = end_at s p in
-    goes_owes s (item_passed s (item_of index e) e) p.agenda p (item_so (OwesNoMore e) s (item_of index e) e (λ is. is) (λ is. absurd (true≢false (sym is))) (λ next is. is) (λ is. is) (λ is. is) (λ place is. is))
+    goes_owes s (item_passed s (item_of index e) e) p.agenda p (item_so (λ f. OwesNoMore e f) s (item_of index e) e (λ is. is) (λ is. absurd (true≢false (sym is))) (λ next is. is) (λ is. is) (λ is. is) (λ place is. is))
 passed_owes (duties.Ask ask_duties.JoinAgain) p = λ t is. is
 passed_owes (duties.Send (send_duties.Update s)) p = λ t is. is
 passed_owes (duties.Silent (silent_duties.Timer s)) p = plain_owes s (writes (duties.Silent (silent_duties.Timer s))) p _ refl refl (passes_no_more (duties.Silent (silent_duties.Timer s)) p)

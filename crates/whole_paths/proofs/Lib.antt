@@ -82,6 +82,7 @@ pub mod Hears
 pub mod InRounds
 pub mod InTime
 pub mod JoinedEnds
+pub mod JoinedFinite
 pub mod JoinedKeys
 pub mod JoinedThirds
 pub mod OpenJoins

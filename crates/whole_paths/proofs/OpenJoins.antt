@@ -20,15 +20,15 @@ use Rattle.whole_paths.proofs.RecordWaits.{living_open}
 use Rattle.whole_paths.proofs.SoundCourses.{BothEndsOpen, OfPaths, OpenJoinsAreSound}
 
 -- of each path that joined, at every moment
-abbrev OfEachJoin : Start → (PathState Carried → Type 0) → Type 0
+abbrev pub OfEachJoin : Start → (PathState Carried → Type 0) → Type 0
 OfEachJoin start P = (turns : List Turn) (actor : ℕ) (c : ActorCrew Carried) → slice_get (reached values start turns).crew actor ≡ Some c → OfPaths (λ p. is_joined p.profile ≡ true → P p) c.member
 
 -- nothing breaks it once both ends are past the handshake
-abbrev IsUnbrokenPast : PathState Carried → Type 0
+abbrev pub IsUnbrokenPast : PathState Carried → Type 0
 IsUnbrokenPast p = ((s : Side) → 3 ≤ stage (end_at s p).tcp.state) → IsUnbroken p
 
 -- and no end receives by an infinite mapping
-abbrev IsFinite : PathState Carried → Type 0
+abbrev pub IsFinite : PathState Carried → Type 0
 IsFinite p = (s : Side) → (end_at s p).modes.peer_infinite ≡ None
 
 pub open_joins_are_sound : (start : Start) → OfEachJoin start IsUnbrokenPast → OfEachJoin start IsFinite → OpenJoinsAreSound start
