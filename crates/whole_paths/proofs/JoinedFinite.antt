@@ -1,6 +1,7 @@
 -- No end of a path that joined receives by an infinite mapping, where none is ever told it.
-use Rattle.std.proofs.Common.{◌≡◌, refl, sym, subst, ap, ◌∙◌, ⊎_elim, ℕ, ◌+◌, Bool, true, false, true≢false, if◌then◌else◌, Option, Some, None, IfSome, List, [], ◌∷◌, ◌++◌}
-use Rattle.std.specs.List.{slice_get}
+use Rattle.std.proofs.Common.{◌≡◌, refl, sym, subst, ap, ◌∙◌, ℕ, zero, suc, ◌+◌, Bool, true, false, true≢false, if◌then◌else◌, Option, Some, None, IfSome, List, [], ◌∷◌, ◌++◌}
+use Rattle.std.specs.List.{list_any, slice_get}
+use Rattle.std.proofs.lemmas.Bool.{or_parts}
 use Rattle.std.proofs.lemmas.List.{append-nil, append_assoc}
 use Rattle.std.proofs.lemmas.Option.{same_Some}
 use Rattle.sides.specs.declared.side.Side.{Side}
@@ -19,6 +20,7 @@ use Rattle.path_agenda.specs.declared.heard.Heard.{Heard}
 use Rattle.path_agenda.specs.declared.heard.Heard.TheVariants as says
 use Rattle.path_agenda.specs.declared.keys.KeyPair.{KeyPair}
 use Rattle.path_store.specs.declared.infinite_mapping.InfiniteMapping.{InfiniteMapping}
+use Rattle.path_core.specs.Choices.{item_at}
 use Rattle.path_core.specs.Breaking.{answered_break}
 use Rattle.path_core.specs.DssIn.{is_clash}
 use Rattle.path_core.specs.Duties.{answered, passed}
@@ -43,6 +45,7 @@ use Rattle.world_laws.specs.Writes.{EndView, EndWrites, Only, OnlyAt, Writes, si
 use Rattle.world_laws.proofs.Falls.FailedChecks.{fail_answered_so}
 use Rattle.world_laws.proofs.Rounds.Lifting.{opened_lifted}
 use Rattle.world_laws.proofs.Weaving.WholeRounds.{run_append}
+use Rattle.world_laws.proofs.Whole.Ends.{is_infinite_item}
 use Rattle.world_laws.proofs.Writes.Ends.{item_so}
 use Rattle.world_laws.proofs.Writes.Paths.{passes_no_more, writes_no_more}
 use Rattle.world_laws.proofs.Writes.Steps.{Lasts, begins_lasts, both_ends, settled_lasts, unwritten}
@@ -202,5 +205,31 @@ module _ (start : Start) (actor : ℕ) (told : OfEachJoin start IsToldNoInfinite
       first number plan A = refl
       first number plan B = refl
 
-pub joined_ends_are_finite : (start : Start) → OfEachJoin start IsToldNoInfinite → OfEachJoin start IsFinite
-joined_ends_are_finite start told turns actor c there = run_on start actor told [] turns (opened_on start actor told) c there
+-- ---- by the list of what was said
+
+tells : (item : Heard) → is_infinite_item item ≡ false → TellsNoInfinite item
+tells (says.InfiniteMapping place position) is = true≢false is
+tells _ is = tt
+
+none_at : (index : ℕ) (items : List Heard) → list_any is_infinite_item items ≡ false → IfSome (item_at index items) TellsNoInfinite
+none_at index [] none = tt
+none_at zero (item ∷ items) none = tells item (or_parts (is_infinite_item item) (list_any is_infinite_item items) none).0
+none_at (suc index) (item ∷ items) none = none_at index items (or_parts (is_infinite_item item) (list_any is_infinite_item items) none).1
+
+-- no item of what an end was told is an infinite mapping
+abbrev pub HasNoInfiniteItem : PathState Carried → Type 0
+HasNoInfiniteItem p = (s : Side) → list_any is_infinite_item (end_at s p).treated.items ≡ false
+
+told_none : (start : Start) → OfEachJoin start HasNoInfiniteItem → OfEachJoin start IsToldNoInfinite
+told_none start none turns actor c there = by c.member (none turns actor c there)
+  where
+    one : (b : Bool) (o : Option Heard) → IfSome o TellsNoInfinite → IfSome (if b then None else o) TellsNoInfinite
+    one true o h = tt
+    one false o h = h
+
+    by : (m : Actor Carried) → OfPaths (λ p. is_joined p.profile ≡ true → HasNoInfiniteItem p) m → Told m
+    by (App a) h = tt
+    by (Path p) h = λ joined s index. one (end_at s p).modes.identity (item_at index (end_at s p).treated.items) (none_at index (end_at s p).treated.items (h joined s))
+
+pub joined_ends_are_finite : (start : Start) → OfEachJoin start HasNoInfiniteItem → OfEachJoin start IsFinite
+joined_ends_are_finite start none turns actor c there = run_on start actor (told_none start none) [] turns (opened_on start actor (told_none start none)) c there

@@ -75,12 +75,32 @@ module _ (number : ℕ) (brings : PathBringsAll number) where
     ends_so : Ends
     ends_so = ⊎_elim delivered ended (all_there_or (reached values start (before ++ first)))
 
+  abbrev EndsSo : Start → List Turn → Type 0
+  EndsSo start turns = (outcome_of (reached values start turns).crew ≡ Delivered) ⊎ AnEndDiedEarlyAt number values start turns
+
+  -- from when the path is whole
+  pub served_path_ends : (start : Start) (mild : IsMildStart start) (buffer : 32 ≤ start.buffer) (before more : List Turn) (most : ℕ) → AreLawful values more (reached values start before)
+      → length (before ++ more) < 2 ^ 64 - 1 → IsWhole number (reached values start before) → ((ts us : List Turn) → ts ++ us ≡ before ++ more → ServesAt number (reached values start ts))
+      → harms_at start number (before ++ more) ≤ most → ticks_for 61100 (suc (most_of_all start + most)) + 300 < 100 * rounds_in more
+      → EndsSo start (before ++ more)
+  served_path_ends start mild buffer before more most lawful short first serves few ticks = subst (EndsSo start) whole_is
+      (ends_so start mild buffer before parts.first parts.rest most
+      (subst (λ ts. AreLawful values ts (reached values start before)) parts.is lawful)
+      (subst (λ ts. length ts < 2 ^ 64 - 1) (sym whole_is) short) first (λ ts us is. serves ts us (is ∙ whole_is))
+      (let same = ap (harms_at start number) whole_is in omega (arith, same, few)) (let three = parts.last in omega (arith, three)) (let all = parts.all in omega (arith, all, ticks)))
+    where
+      parts : LastRounds 3 more
+      parts = last_rounds 3 more (omega (arith, ticks))
+
+      whole_is : before ++ (parts.first ++ parts.rest) ≡ before ++ more
+      whole_is = ap (λ ts. before ++ ts) (sym parts.is)
+
   pub delivers_or_dies_at : DeliversOrDiesAt values number
-  delivers_or_dies_at script file_a file_b before more mild brief lawful first serves many = subst Ends whole_is
-      (ends_so start (starts_mildly script file_a file_b mild) (let least = mild.ranges.buffer.least in omega (arith, least)) begun parts.first parts.rest most
-      (lawful_parts begun (parts.first ++ parts.rest) (opened_world start) (subst (λ ts. AreLawful values ts (opened_world start)) (sym whole_is) lawful)).1
-      (subst (λ ts. length ts < 2 ^ 64 - 1) (sym whole_is) brief.few) first (λ ts us is. serves ts us (is ∙ whole_is))
-      (let same = ap (harms_at start number) whole_is in omega (arith, same)) (let three = parts.last in omega (arith, three)) (let all = parts.all in omega (arith, all, ticks)))
+  delivers_or_dies_at script file_a file_b before more mild brief lawful first serves many = subst (EndsSo start) same_turns
+      (served_path_ends start (starts_mildly script file_a file_b mild) (let least = mild.ranges.buffer.least in omega (arith, least)) begun more most
+      (lawful_parts begun more (opened_world start) (subst (λ ts. AreLawful values ts (opened_world start)) (sym same_turns) lawful)).1
+      (subst (λ ts. length ts < 2 ^ 64 - 1) (sym same_turns) brief.few) first (λ ts us is. serves ts us (is ∙ same_turns))
+      (let all = ap (harms_at start number) same_turns in omega (arith, all)) (rounds_so (ticks_for 61100 (suc (most_of_all start + most))) (rounds_in more) many))
     where
       start : Start
       start = start_of script file_a file_b
@@ -91,17 +111,8 @@ module _ (number : ℕ) (brings : PathBringsAll number) where
       most : ℕ
       most = harms_at start number (before ++ Turn.Round ∷ more)
 
-      ticks : ticks_for 61100 (suc (most_of_all start + most)) + 300 < 100 * rounds_in more
-      ticks = rounds_so (ticks_for 61100 (suc (most_of_all start + most))) (rounds_in more) many
-
-      parts : LastRounds 3 more
-      parts = last_rounds 3 more (omega (arith, ticks))
-
-      whole_is : begun ++ (parts.first ++ parts.rest) ≡ before ++ Turn.Round ∷ more
-      whole_is = ap (λ ts. begun ++ ts) (sym parts.is) ∙ append_assoc before (Turn.Round ∷ []) more
-
-      Ends : List Turn → Type 0
-      Ends ts = (outcome_of (reached values start ts).crew ≡ Delivered) ⊎ AnEndDiedEarlyAt number values start ts
+      same_turns : begun ++ more ≡ before ++ Turn.Round ∷ more
+      same_turns = append_assoc before (Turn.Round ∷ []) more
 
   -- ---- over octets
 
@@ -109,10 +120,10 @@ module _ (number : ℕ) (brings : PathBringsAll number) where
     far : (turns : List Turn) → IsAsFarAsOverValues start turns
     far turns = octets_are_as_far_as_values start turns mild.plain.size mild.fit
 
-    ended_on : (turns : List Turn) → (outcome_of (reached values start turns).crew ≡ Delivered) ⊎ AnEndDiedEarlyAt number values start turns
+    pub ended_at : (turns : List Turn) → (outcome_of (reached values start turns).crew ≡ Delivered) ⊎ AnEndDiedEarlyAt number values start turns
         → (outcome_of (reached octets start turns).crew ≡ Delivered) ⊎ AnEndDiedEarlyAt number octets start turns
-    ended_on turns (inl delivered) = inl ((far turns).outcome ∙ delivered)
-    ended_on turns (inr h) = inr (record {
+    ended_at turns (inl delivered) = inl ((far turns).outcome ∙ delivered)
+    ended_at turns (inr h) = inr (record {
       first = h.first;
       rest = h.rest;
       is = h.is;
@@ -125,12 +136,22 @@ module _ (number : ℕ) (brings : PathBringsAll number) where
       let starts = starts_mildly script file_a file_b mild in
       let whole = far (start_of script file_a file_b) starts (before ++ Turn.Round ∷ more) in
       let begun = far (start_of script file_a file_b) starts (before ++ Turn.Round ∷ []) in
-      ended_on (start_of script file_a file_b) starts (before ++ Turn.Round ∷ more)
+      ended_at (start_of script file_a file_b) starts (before ++ Turn.Round ∷ more)
       (delivers_or_dies_at script file_a file_b before more mild brief (whole.lawful.0 lawful) ((begun.whole number).0 first)
-      (λ ts us is. serves_back (start_of script file_a file_b) ts starts (serves ts us is))
+      (λ ts us is. serves_back number (start_of script file_a file_b) ts starts (serves ts us is))
       (subst (λ n. patience_of_all script file_a file_b n ≤ rounds_in more) (whole.harms number) many))
 
 -- ---- path 0
+
+pub served_paths_end : (start : Start) (mild : IsMildStart start) (buffer : 32 ≤ start.buffer) (before more : List Turn) (most : ℕ) → AreLawful values more (reached values start before)
+    → length (before ++ more) < 2 ^ 64 - 1 → IsWhole 0 (reached values start before) → ((ts us : List Turn) → ts ++ us ≡ before ++ more → ServesAt 0 (reached values start ts))
+    → harms_at start 0 (before ++ more) ≤ most → ticks_for 61100 (suc (most_of_all start + most)) + 300 < 100 * rounds_in more
+    → (outcome_of (reached values start (before ++ more)).crew ≡ Delivered) ⊎ AnEndDiedEarlyAt 0 values start (before ++ more)
+served_paths_end = served_path_ends 0 many_paths_bring_all
+
+pub ended_on : (start : Start) → IsMildStart start → (turns : List Turn) → (outcome_of (reached values start turns).crew ≡ Delivered) ⊎ AnEndDiedEarlyAt 0 values start turns
+    → (outcome_of (reached octets start turns).crew ≡ Delivered) ⊎ AnEndDiedEarlyAt 0 octets start turns
+ended_on = ended_at 0 many_paths_bring_all
 
 pub first_paths_end : FirstPathsEnd values
 first_paths_end = delivers_or_dies_at 0 many_paths_bring_all
