@@ -85,18 +85,19 @@ only_same w e f none x = unwritten w.peer_infinite e.modes.peer_infinite f.modes
 
 -- ---- a path
 
-abbrev AllSame : PathState Carried → PathState Carried → Type 0
-AllSame p q = (t : Side) → SameMapping (end_at t p) (end_at t q)
+record AllSame (p q : PathState Carried) : Type 0 where
+  same : (t : Side) → SameMapping (end_at t p) (end_at t q)
 
 plain : (s : Side) (w : Writes) (p q : PathState Carried) → w.own.peer_infinite ≡ false → w.other.peer_infinite ≡ false → OnlyAt s w p q → AllSame p q
 plain s w p q own other x =
-    let both = both_ends (λ e f. SameMapping e f) s w p q (λ e f only. only_same w.own e f own only) (λ e f only. only_same w.other e f other only) x in elim [ A ↦ both.0 | B ↦ both.1 ]
+    let both = both_ends (λ e f. SameMapping e f) s w p q (λ e f only. only_same w.own e f own only) (λ e f only. only_same w.other e f other only) x in record { same = elim [ A ↦ both.0 | B ↦ both.1 ] }
 
 side : (s : Side) (e : PathEnd) (p q : PathState Carried) → q.a ≡ (goes_on s e [] p).a → q.b ≡ (goes_on s e [] p).b → SameMapping (end_at s p) e → AllSame p q
-side A e p q a b same A = ap (λ (f : PathEnd). f.modes.peer_infinite) a ∙ same
-side A e p q a b same B = ap (λ (f : PathEnd). f.modes.peer_infinite) b
-side B e p q a b same A = ap (λ (f : PathEnd). f.modes.peer_infinite) a
-side B e p q a b same B = ap (λ (f : PathEnd). f.modes.peer_infinite) b ∙ same
+side A e p q a b same = record { same = elim [ A ↦ ap (λ (f : PathEnd). f.modes.peer_infinite) a ∙ same | B ↦ ap (λ (f : PathEnd). f.modes.peer_infinite) b ] }
+side B e p q a b same = record { same = elim [ A ↦ ap (λ (f : PathEnd). f.modes.peer_infinite) a | B ↦ ap (λ (f : PathEnd). f.modes.peer_infinite) b ∙ same ] }
+
+rest : (p q : PathState Carried) → q.a ≡ p.a → q.b ≡ p.b → AllSame p q
+rest p q a b = record { same = elim [ A ↦ ap (λ (f : PathEnd). f.modes.peer_infinite) a | B ↦ ap (λ (f : PathEnd). f.modes.peer_infinite) b ] }
 
 either : (b : Bool) (q r p : PathState Carried) → AllSame p q → AllSame p r → AllSame p (if b then q else r)
 either true q r p x y = x
@@ -113,10 +114,10 @@ thing_same s (says.InfiniteMapping place position) r p none = absurd none
 thing_same s (says.Keys own peer) r p none = side s _ p _ refl refl (keys_same r _ (end_at s p).modes)
 thing_same s (says.Notice notice) r p none = side s _ p _ refl refl refl
 thing_same s says.Fail r p none = fail_answered_so (λ q. AllSame p q) s r p (side s _ p _ refl refl refl) (side s _ p _ refl refl (fell_same (falls.FailHeard false) r (end_at s p).modes))
-thing_same s _ r p none = λ t. refl
+thing_same s _ r p none = rest p _ refl refl
 
 item_same : (s : Side) (o : Option Heard) (r : Reply) (p : PathState Carried) → IfSome o TellsNoInfinite → AllSame p (answered_item values s o r p)
-item_same s None r p none = λ t. refl
+item_same s None r p none = rest p _ refl refl
 item_same s (Some item) r p none = thing_same s item r p none
 
 answered_same : (d : Duty) (r : Reply) (p : PathState Carried) → IsToldNoInfinite p → AllSame p (answered values d r p)
@@ -124,10 +125,8 @@ answered_same (duties.Step (step_duties.Heard s index)) r p told = item_same s (
 answered_same d r p told = plain (side_of d) (writes d) p (answered values d r p) refl refl (writes_no_more values d r p)
 
 goes_same : (s : Side) (f : PathEnd) (ds : List Duty) (p : PathState Carried) → SameMapping (end_at s p) f → AllSame p (goes_on s f ds p)
-goes_same A f ds p x A = x
-goes_same A f ds p x B = refl
-goes_same B f ds p x A = refl
-goes_same B f ds p x B = x
+goes_same A f ds p x = record { same = elim [ A ↦ x | B ↦ refl ] }
+goes_same B f ds p x = record { same = elim [ A ↦ refl | B ↦ x ] }
 
 passed_same : (d : Duty) (p : PathState Carried) → AllSame p (passed d p)
 passed_same (duties.Step (step_duties.Heard s index)) p =
@@ -136,8 +135,8 @@ passed_same d p = plain (side_of d) (writes d) p (passed d p) refl refl (passes_
 
 lasts : Lasts AllSame
 lasts = record {
-  agenda = λ ds p t. refl;
-  chains = λ p q r x y t. y t ∙ x t;
+  agenda = λ ds p. rest p _ refl refl;
+  chains = λ p q r x y. record { same = λ t. y.same t ∙ x.same t };
   passes = passed_same;
 }
 
@@ -145,9 +144,9 @@ takes_same : (r : Reply) (p : PathState Carried) → IsToldNoInfinite p → AllS
 takes_same r p told = by p.agenda
   where
     by : (ds : List Duty) → AllSame p (takes values r (with_agenda ds p))
-    by [] = λ t. refl
+    by [] = rest p _ refl refl
     by (d ∷ ds) = let x : PathState Carried = with_agenda (d ∷ ds) p in let q : PathState Carried = answered values d r x in
-        λ t. settled_lasts AllSame lasts q.agenda q t ∙ answered_same d r x told t
+        let first = answered_same d r x told in let then_on = settled_lasts AllSame lasts q.agenda q in record { same = λ t. then_on.same t ∙ first.same t }
 
 next_same : (p : PathState Carried) → AllSame p (next_round p)
 next_same p = begins_lasts AllSame lasts (record p { clock = p.until; until = p.until + 100 })
@@ -167,11 +166,11 @@ module _ (start : Start) (actor : ℕ) (told : OfEachJoin start IsToldNoInfinite
   actor_takes : (r : Reply) (m : Actor Carried) → Told m → Finite m → Finite (member_takes values r m)
   actor_takes r (App a) told h = tt
   actor_takes r (Path p) told h = λ later s. let joined : is_joined p.profile ≡ true = ap is_joined (sym (takes_frames values r p).profile) ∙ later in
-      takes_same r p (told joined) s ∙ h joined s
+      (takes_same r p (told joined)).same s ∙ h joined s
 
   actor_next : (m : Actor Carried) → is_over m ≡ true → Finite m → Finite (member_next m)
   actor_next (App a) over h = tt
-  actor_next (Path p) over h = λ later s. next_same p s ∙ h (ap is_joined (sym (next_frames p over).profile) ∙ later) s
+  actor_next (Path p) over h = λ later s. (next_same p).same s ∙ h (ap is_joined (sym (next_frames p over).profile) ∙ later) s
 
   abbrev AtActor : WorldState Carried → Type 0
   AtActor w = (c : ActorCrew Carried) → slice_get w.crew actor ≡ Some c → Finite c.member
@@ -199,7 +198,7 @@ module _ (start : Start) (actor : ℕ) (told : OfEachJoin start IsToldNoInfinite
 
   opened_on : AtActor (opened_world start)
   opened_on c there = (opened_lifted (λ c. Finite c.member) start tt tt
-      (λ number plan there joined s. begins_lasts AllSame lasts (waiting_path (path_begins start number plan) start.lines) s ∙ first number plan s)).each actor c there
+      (λ number plan there joined s. (begins_lasts AllSame lasts (waiting_path (path_begins start number plan) start.lines)).same s ∙ first number plan s)).each actor c there
     where
       first : (number : ℕ) (plan : PathPlan) → IsFinite (waiting_path (path_begins start number plan) start.lines)
       first number plan A = refl

@@ -31,13 +31,13 @@ use Rattle.path_agenda.specs.declared.duty.AskDuty.TheVariants as ask_duties
 use Rattle.path_agenda.specs.declared.duty.SendDuty.TheVariants as send_duties
 use Rattle.path_agenda.specs.declared.duty.SilentDuty.TheVariants as silent_duties
 use Rattle.path_agenda.specs.declared.duty.StepDuty.TheVariants as step_duties
+use Rattle.path_agenda.specs.Items.{keys_heard}
 use Rattle.path_agenda.specs.declared.heard.Heard.{Heard}
 use Rattle.path_agenda.specs.declared.heard.Heard.TheVariants as says
 use Rattle.path_agenda.specs.declared.keys.KeyPair.{KeyPair}
 use Rattle.path_store.specs.declared.lines.LineAction.{LineAction}
 use Rattle.path_store.specs.declared.lines.LineAction.TheVariants as actions
-use Rattle.path_core.specs.Addresses.{with_priority}
-use Rattle.path_core.specs.Arrival.{copy_heard, copy_judged, heard_in, judged_in, reset_for, with_payload}
+use Rattle.path_core.specs.Arrival.{copy_heard, copy_judged, heard_in, judged_in, reset_for, template_of, with_payload}
 use Rattle.path_core.specs.Breaking.{answered_break}
 use Rattle.path_core.specs.DssIn.{held_of, is_clash}
 use Rattle.path_core.specs.Duties.{answered, passed}
@@ -47,7 +47,7 @@ use Rattle.path_core.specs.Fallback.{fell_in, mode_in}
 use Rattle.path_core.specs.Judged.{taken_as}
 use Rattle.path_core.specs.MpCapable.{answered_opened}
 use Rattle.path_core.specs.MpJoin.{is_joined, is_never, join_begun, keys_begun, never_joined, opened_by}
-use Rattle.path_core.specs.OptionsIn.{options_heard}
+use Rattle.path_core.specs.OptionsIn.{items_of, options_heard}
 use Rattle.path_core.specs.Start.{waiting_path}
 use Rattle.path_core.specs.State.{PathState, at_tick, end_at, goes_on, with_agenda}
 use Rattle.path_core.specs.Steps.{next_round, takes}
@@ -71,7 +71,7 @@ use Rattle.world_laws.proofs.Writes.Ends.{item_so}
 use Rattle.world_laws.proofs.Writes.Paths.{passes_no_more, writes_no_more}
 use Rattle.world_laws.proofs.Writes.Steps.{Lasts, begins_lasts, both_ends, settled_lasts, unwritten}
 use Rattle.whole_paths.specs.AsFar.{stage}
-use Rattle.whole_paths.proofs.Clearing.{AllClear, always_clears, died_clear, goes_clear, joined_clear, opened_clear, passed_same, same_clear}
+use Rattle.whole_paths.proofs.Clearing.{AllClear, always_clears, died_clear, joined_clear, opened_clear, passed_same, same_clear}
 use Rattle.whole_paths.proofs.Duties.{answered_steps, passed_steps}
 use Rattle.whole_paths.proofs.Flying.{next_frames, takes_frames}
 use Rattle.whole_paths.proofs.Harmed.{none_stays}
@@ -122,33 +122,39 @@ module _ {C : Type 0} where
   abbrev Unclear : PathState C → PathState C → Type 0
   Unclear p q = (t : Side) → StaysUnclear (end_at t p) (end_at t q)
 
-  all_same : (p q : PathState C) → ((t : Side) → (end_at t q).modes.clear ≡ (end_at t p).modes.clear) → Unclear p q
-  all_same p q same t = same_unclear (end_at t p) (end_at t q) (same t)
+  record SameClear (p q : PathState C) : Type 0 where
+    same : (t : Side) → (end_at t q).modes.clear ≡ (end_at t p).modes.clear
+
+  all_same : (p q : PathState C) → SameClear p q → Unclear p q
+  all_same p q h t = same_unclear (end_at t p) (end_at t q) (h.same t)
+
+  rest : (p q : PathState C) → q.a ≡ p.a → q.b ≡ p.b → SameClear p q
+  rest p q a b = record { same = elim [ A ↦ ap (λ (f : PathEnd). f.modes.clear) a | B ↦ ap (λ (f : PathEnd). f.modes.clear) b ] }
 
   -- where one end changes
-  side_same : (s : Side) (e : PathEnd) (p q : PathState C) → q.a ≡ (goes_on s e [] p).a → q.b ≡ (goes_on s e [] p).b → e.modes.clear ≡ (end_at s p).modes.clear → (t : Side) → (end_at t q).modes.clear ≡ (end_at t p).modes.clear
-  side_same A e p q a b same A = ap (λ (f : PathEnd). f.modes.clear) a ∙ same
-  side_same A e p q a b same B = ap (λ (f : PathEnd). f.modes.clear) b
-  side_same B e p q a b same A = ap (λ (f : PathEnd). f.modes.clear) a
-  side_same B e p q a b same B = ap (λ (f : PathEnd). f.modes.clear) b ∙ same
+  side_same : (s : Side) (e : PathEnd) (p q : PathState C) → q.a ≡ (goes_on s e [] p).a → q.b ≡ (goes_on s e [] p).b → e.modes.clear ≡ (end_at s p).modes.clear → SameClear p q
+  side_same A e p q a b same = record { same = elim [ A ↦ ap (λ (f : PathEnd). f.modes.clear) a ∙ same | B ↦ ap (λ (f : PathEnd). f.modes.clear) b ] }
+  side_same B e p q a b same = record { same = elim [ A ↦ ap (λ (f : PathEnd). f.modes.clear) a | B ↦ ap (λ (f : PathEnd). f.modes.clear) b ∙ same ] }
 
-  either : (b : Bool) (q r p : PathState C) (t : Side) → (end_at t q).modes.clear ≡ (end_at t p).modes.clear → (end_at t r).modes.clear ≡ (end_at t p).modes.clear → (end_at t (if b then q else r)).modes.clear ≡ (end_at t p).modes.clear
-  either true q r p t x y = x
-  either false q r p t x y = y
+  either : (b : Bool) (q r p : PathState C) → SameClear p q → SameClear p r → SameClear p (if b then q else r)
+  either true q r p x y = x
+  either false q r p x y = y
 
   -- ---- events
 
-  begun_same : (r : Reply) (dead living : List Duty) (p : PathState C) (t : Side) → (end_at t (join_begun r dead living p)).modes.clear ≡ (end_at t p).modes.clear
-  begun_same r dead living p t =
-      either (is_never r) (goes_on A (never_joined r (end_at A p)) dead p) (goes_on A (opened_by (keys_begun r) (end_at A p)) living p) p t
-      (goes_clear A t (never_joined r (end_at A p)) dead p refl) (goes_clear A t (opened_by (keys_begun r) (end_at A p)) living p (opened_clear (keys_begun r) (end_at A p)))
+  begun_same : (r : Reply) (dead living : List Duty) (p : PathState C) → SameClear p (join_begun r dead living p)
+  begun_same r dead living p =
+      either (is_never r) (goes_on A (never_joined r (end_at A p)) dead p) (goes_on A (opened_by (keys_begun r) (end_at A p)) living p) p
+      (side_same A (never_joined r (end_at A p)) p _ refl refl refl) (side_same A (opened_by (keys_begun r) (end_at A p)) p _ refl refl (opened_clear (keys_begun r) (end_at A p)))
 
-  line_same : (action : LineAction) (p : PathState C) (t : Side) → (end_at t (after_line action p)).modes.clear ≡ (end_at t p).modes.clear
-  line_same actions.Die p A = died_clear (is_dead p.a.tcp.state) p.a
-  line_same actions.Die p B = died_clear (is_dead p.b.tcp.state) p.b
-  line_same (actions.Prio s backup) p t = goes_clear s t (with_priority backup (end_at s p)) (emission s) p refl
-  line_same (actions.Announce s id) p t = refl
-  line_same (actions.Withdraw s id) p t = refl
+  line_same : (action : LineAction) (p : PathState C) → SameClear p (after_line action p)
+  line_same actions.Die p = record { same = elim [ A ↦ died_clear (is_dead p.a.tcp.state) p.a | B ↦ died_clear (is_dead p.b.tcp.state) p.b ] }
+  line_same (actions.Prio s backup) p = side_same s _ p _ refl refl refl
+  line_same (actions.Announce s id) p = rest p _ refl refl
+  line_same (actions.Withdraw s id) p = rest p _ refl refl
+
+  from_there : (p q r : PathState C) → q.a ≡ p.a → q.b ≡ p.b → SameClear q r → SameClear p r
+  from_there p q r a b h = record { same = elim [ A ↦ h.same A ∙ ap (λ (f : PathEnd). f.modes.clear) a | B ↦ h.same B ∙ ap (λ (f : PathEnd). f.modes.clear) b ] }
 
   goes_unclear : (s : Side) (f : PathEnd) (ds : List Duty) (p : PathState C) → StaysUnclear (end_at s p) f → Unclear p (goes_on s f ds p)
   goes_unclear A f ds p x A = x
@@ -157,60 +163,62 @@ module _ {C : Type 0} where
   goes_unclear B f ds p x B = x
 
   heard_unclear : (s : Side) (o : Option HeardSegment) (p : PathState C) → Unclear p (copy_heard s o p)
-  heard_unclear s None p = all_same p (copy_heard s None p) (λ t. refl)
+  heard_unclear s None p = all_same p (copy_heard s None p) (rest p _ refl refl)
   heard_unclear s (Some heard) p =
       let e : PathEnd = end_at s p in let h : HeardSegment = options_heard e heard in let joined : Bool = is_joined p.profile in
-      goes_unclear s (copy_judged joined (held_of p.profile s h) (reset_for p.profile s h) s p.clock h (taken_as (judged_in joined s h e)) e) _ p
+      goes_unclear s (copy_judged joined (held_of p.profile s h) (reset_for p.profile s h) s p.clock h (taken_as (judged_in joined s h e)) e)
+      (template_of joined s (items_of joined s h) (judged_in joined s h e)) p
       (copy_unclear joined (held_of p.profile s h) (reset_for p.profile s h) s p.clock h (taken_as (judged_in joined s h e)) e)
 
 -- ---- a path's duties
 
 happens_unclear : (o : Option Event) (r : Reply) (p : PathState Carried) → Unclear p (happens_if values o r p)
-happens_unclear None r p = all_same p (happens_if values None r p) (λ t. refl)
-happens_unclear (Some (happenings.Joins tick)) r p = all_same p (happens_if values (Some (happenings.Joins tick)) r p) (λ t. begun_same r (leaves A) (emission A) (record (at_tick tick p) { joined_at = None }) t)
-happens_unclear (Some (happenings.Takes line)) r p = all_same p (happens_if values (Some (happenings.Takes line)) r p) (λ t. line_same line.action (record (at_tick line.tick p) { lines = tail_of p.lines }) t)
+happens_unclear None r p = all_same p (happens_if values None r p) (rest p _ refl refl)
+happens_unclear (Some (happenings.Joins tick)) r p =
+    let q : PathState Carried = record (at_tick tick p) { joined_at = None } in all_same p (happens_if values (Some (happenings.Joins tick)) r p) (from_there p q _ refl refl (begun_same r (leaves A) (emission A) q))
+happens_unclear (Some (happenings.Takes line)) r p =
+    let q : PathState Carried = record (at_tick line.tick p) { lines = tail_of p.lines } in all_same p (happens_if values (Some (happenings.Takes line)) r p) (from_there p q _ refl refl (line_same line.action q))
 happens_unclear (Some (happenings.Arrives due)) r p = heard_unclear due.to (heard_in values due.to (arriving due p.link) p) (record (at_tick due.tick p) { link = after_delivery due p.link })
-happens_unclear (Some (happenings.Fires s tick)) r p = all_same p (happens_if values (Some (happenings.Fires s tick)) r p) (λ t. side_same s _ p (happens_if values (Some (happenings.Fires s tick)) r p) refl refl refl t)
+happens_unclear (Some (happenings.Fires s tick)) r p = all_same p (happens_if values (Some (happenings.Fires s tick)) r p) (side_same s _ p _ refl refl refl)
 
-break_same : (s : Side) (reason : ℕ) (r : Reply) (p : PathState Carried) (t : Side) → (end_at t (answered_break values s reason r p)).modes.clear ≡ (end_at t p).modes.clear
-break_same s reason r p t = either (end_at s p).treated.asked _ _ p t (side_same s _ p _ refl refl refl t) (side_same s _ p _ refl refl refl t)
+break_same : (s : Side) (reason : ℕ) (r : Reply) (p : PathState Carried) → SameClear p (answered_break values s reason r p)
+break_same s reason r p = either (end_at s p).treated.asked _ _ p (side_same s _ p _ refl refl refl) (side_same s _ p _ refl refl refl)
 
-thing_same : (s : Side) (item : Heard) (r : Reply) (p : PathState Carried) (t : Side) → TellsNoKeys item → (end_at t (answered_heard values s item r p)).modes.clear ≡ (end_at t p).modes.clear
-thing_same s (says.DataAck next window) r p t none = side_same s _ p _ refl refl refl t
-thing_same s (says.Mapping fin) r p t none =
-    either (is_clash (end_at s p)) _ _ p t (break_same s 1 r p t) (side_same s _ p _ refl refl (fell_clear falls.MappingHeard r (end_at s p).modes) t)
-thing_same s (says.DataFin place) r p t none = side_same s _ p _ refl refl (fell_clear falls.MappingHeard r (end_at s p).modes) t
-thing_same s (says.InfiniteMapping place position) r p t none =
-    let e = end_at s p in side_same s _ p _ refl refl (infinite_came_so (λ f. f.modes.clear ≡ e.modes.clear) place position r e (λ other. mode_clear r e.modes)) t
-thing_same s (says.Keys own peer) r p t none = absurd none
-thing_same s (says.Notice notice) r p t none = side_same s _ p _ refl refl refl t
-thing_same s says.Fail r p t none =
-    fail_answered_so (λ q. (end_at t q).modes.clear ≡ (end_at t p).modes.clear) s r p (side_same s _ p _ refl refl refl t) (side_same s _ p _ refl refl (fell_clear (falls.FailHeard false) r (end_at s p).modes) t)
-thing_same s _ r p t none = refl
+thing_same : (s : Side) (item : Heard) (r : Reply) (p : PathState Carried) → TellsNoKeys item → SameClear p (answered_heard values s item r p)
+thing_same s (says.DataAck next window) r p none = side_same s _ p _ refl refl refl
+thing_same s (says.Mapping fin) r p none = either (is_clash (end_at s p)) _ _ p (break_same s 1 r p) (side_same s _ p _ refl refl (fell_clear falls.MappingHeard r (end_at s p).modes))
+thing_same s (says.DataFin place) r p none = side_same s _ p _ refl refl (fell_clear falls.MappingHeard r (end_at s p).modes)
+thing_same s (says.InfiniteMapping place position) r p none =
+    let e = end_at s p in side_same s _ p _ refl refl (infinite_came_so (λ f. f.modes.clear ≡ e.modes.clear) place position r e (λ other. mode_clear r e.modes))
+thing_same s (says.Keys own peer) r p none = absurd none
+thing_same s (says.Notice notice) r p none = side_same s _ p _ refl refl refl
+thing_same s says.Fail r p none =
+    fail_answered_so (SameClear p) s r p (side_same s _ p _ refl refl refl) (side_same s _ p _ refl refl (fell_clear (falls.FailHeard false) r (end_at s p).modes))
+thing_same s _ r p none = rest p _ refl refl
 
-item_same : (s : Side) (o : Option Heard) (r : Reply) (p : PathState Carried) (t : Side) → IfSome o TellsNoKeys → (end_at t (answered_item values s o r p)).modes.clear ≡ (end_at t p).modes.clear
-item_same s None r p t none = refl
-item_same s (Some item) r p t none = thing_same s item r p t none
+item_same : (s : Side) (o : Option Heard) (r : Reply) (p : PathState Carried) → IfSome o TellsNoKeys → SameClear p (answered_item values s o r p)
+item_same s None r p none = rest p _ refl refl
+item_same s (Some item) r p none = thing_same s item r p none
 
-opened_same : (s : Side) (o : Option KeyPair) (r : Reply) (p : PathState Carried) (t : Side) → o ≡ None → (end_at t (answered_opened s o r p)).modes.clear ≡ (end_at t p).modes.clear
-opened_same s None r p t none = side_same s _ p _ refl refl (fell_clear falls.PlainHandshake r (end_at s p).modes) t
-opened_same s (Some keys) r p t none = cc
+opened_same : (s : Side) (o : Option KeyPair) (r : Reply) (p : PathState Carried) → o ≡ None → SameClear p (answered_opened s o r p)
+opened_same s None r p none = side_same s _ p _ refl refl (fell_clear falls.PlainHandshake r (end_at s p).modes)
+opened_same s (Some keys) r p none = cc
 
 answered_unclear : (d : Duty) (r : Reply) (p : PathState Carried) → HasJoinedKeys p → Unclear p (answered values d r p)
 answered_unclear (duties.Step step_duties.Events) r p keys = happens_unclear (next_event p) r p
 answered_unclear (duties.Step (step_duties.Heard s index)) r p keys =
-    all_same p (answered values (duties.Step (step_duties.Heard s index)) r p) (λ t. item_same s (item_of index (end_at s p)) r p t (keys.items s index))
+    all_same p (answered values (duties.Step (step_duties.Heard s index)) r p) (item_same s (item_of index (end_at s p)) r p (keys.items s index))
 answered_unclear (duties.Ask (ask_duties.Opened s)) r p keys =
-    all_same p (answered values (duties.Ask (ask_duties.Opened s)) r p) (λ t. opened_same s _ r p t (keys.pair s))
-answered_unclear d r p keys = all_same p (answered values d r p) (λ t. same_clear t d p (answered values d r p) refl (writes_no_more values d r p) refl)
+    all_same p (answered values (duties.Ask (ask_duties.Opened s)) r p) (opened_same s (keys_heard (end_at s p).treated.items) r p (keys.pair s))
+answered_unclear d r p keys = all_same p (answered values d r p) (record { same = λ t. same_clear t d p (answered values d r p) refl (writes_no_more values d r p) refl })
 
 item_unclear : (s : Side) (o : Option Heard) (e : PathEnd) → StaysUnclear e (item_passed s o e)
 item_unclear s o e = item_so (StaysUnclear e) s o e (same_unclear e e refl) (record { clear = λ is. inr (inl refl) }) (λ next. same_unclear e _ refl) (same_unclear e _ refl) (same_unclear e _ refl) (λ place. same_unclear e _ refl)
 
 passed_unclear : (d : Duty) (p : PathState Carried) → Unclear p (passed d p)
 passed_unclear (duties.Step (step_duties.Heard s index)) p = goes_unclear s (item_passed s (item_of index (end_at s p)) (end_at s p)) p.agenda p (item_unclear s (item_of index (end_at s p)) (end_at s p))
-passed_unclear (duties.Ask (ask_duties.Opened s)) p = all_same p p (λ t. refl)
-passed_unclear d p = all_same p (passed d p) (λ t. passed_same t d p refl)
+passed_unclear (duties.Ask (ask_duties.Opened s)) p = all_same p p (rest p p refl refl)
+passed_unclear d p = all_same p (passed d p) (record { same = λ t. passed_same t d p refl })
 
 -- ---- what is passed lets no end owe it anew
 
