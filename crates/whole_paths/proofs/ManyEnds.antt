@@ -132,12 +132,12 @@ module _ (number : ℕ) (brings : PathBringsAll number) where
     })
 
   pub delivers_or_dies_at_in_octets : DeliversOrDiesAt octets number
-  delivers_or_dies_at_in_octets script file_a file_b before more mild brief lawful first serves many =
+  delivers_or_dies_at_in_octets script file_a file_b before more mild brief going first serves many =
       let starts = starts_mildly script file_a file_b mild in
       let whole = far (start_of script file_a file_b) starts (before ++ Turn.Round ∷ more) in
       let begun = far (start_of script file_a file_b) starts (before ++ Turn.Round ∷ []) in
       ended_at (start_of script file_a file_b) starts (before ++ Turn.Round ∷ more)
-      (delivers_or_dies_at script file_a file_b before more mild brief (whole.lawful.0 lawful) ((begun.whole number).0 first)
+      (delivers_or_dies_at script file_a file_b before more mild brief (whole.lawful.0 going) ((begun.whole number).0 first)
       (λ ts us is. serves_back number (start_of script file_a file_b) ts starts (serves ts us is))
       (subst (λ n. patience_of_all script file_a file_b n ≤ rounds_in more) (whole.harms number) many))
 

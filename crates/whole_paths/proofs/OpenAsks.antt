@@ -25,6 +25,7 @@ use Rattle.world_laws.proofs.Worlds.CastLifting.{each_actor}
 use Rattle.world_laws.proofs.Worlds.Casts.{Cast, world_of}
 use Rattle.whole_paths.specs.DataAcksExchanged.{IsAwry}
 use Rattle.whole_paths.specs.DataAcksExchanged.{IsAwry as awry}
+use Rattle.whole_paths.specs.Finish.{IsPathAt}
 use Rattle.whole_paths.specs.Mild.{EndsGoByMappings, HasKeys, IsNeverBroken, IsMildStart, MappingIsKept, is_harsh}
 use Rattle.whole_paths.specs.OpenAsks.{EndsHardlyGoAwry, HardlyGoesAwry, IsHardlyAwry, OpenEndsHardlyGoAwry}
 use Rattle.whole_paths.specs.OpenAsks.{IsHardlyAwry as hardly}
