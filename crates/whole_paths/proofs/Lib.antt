@@ -81,6 +81,7 @@ pub mod Hearing
 pub mod Hears
 pub mod InRounds
 pub mod InTime
+pub mod EachPath
 pub mod JoinedEnds
 pub mod JoinedFinite
 pub mod JoinedKeys
@@ -342,3 +343,10 @@ pub mod ManyGoingOn
 pub mod ManyCourses
 pub mod ManyPaths
 pub mod ManyEnds
+pub mod JoinedLow
+pub mod JoinedCopies
+pub mod JoinedTreated
+pub mod JoinedUnbroken
+pub mod ByPaths
+pub mod OnlyEvents
+pub mod JoinedPaths
