@@ -15,6 +15,9 @@ use Rattle.actor_desk.specs.declared.ask.Reply.{Reply}
 use Rattle.actor_desk.specs.declared.ask.Reply.TheVariants as replies
 use Rattle.path_agenda.specs.declared.duty.Duty.{Duty}
 use Rattle.path_agenda.specs.declared.duty.Duty.TheVariants as duties
+use Rattle.path_agenda.specs.declared.duty.AskDuty.TheVariants as ask_duties
+use Rattle.path_agenda.specs.declared.duty.SendDuty.TheVariants as send_duties
+use Rattle.path_agenda.specs.declared.duty.SilentDuty.TheVariants as silent_duties
 use Rattle.path_agenda.specs.declared.duty.StepDuty.TheVariants as step_duties
 use Rattle.path_agenda.specs.declared.heard.Heard.{Heard}
 use Rattle.path_agenda.specs.declared.heard.Heard.TheVariants as says
@@ -122,6 +125,9 @@ item_same s (Some item) r p none = thing_same s item r p none
 
 answered_same : (d : Duty) (r : Reply) (p : PathState Carried) → IsToldNoInfinite p → AllSame p (answered values d r p)
 answered_same (duties.Step (step_duties.Heard s index)) r p told = item_same s (item_of index (end_at s p)) r p (told s index)
+answered_same (duties.Ask ask_duties.JoinAgain) r p told = plain A (writes (duties.Ask ask_duties.JoinAgain)) p _ refl refl (writes_no_more values (duties.Ask ask_duties.JoinAgain) r p)
+answered_same (duties.Send (send_duties.Update s)) r p told = side s _ p _ refl refl refl
+answered_same (duties.Silent d) r p told = rest p _ refl refl
 answered_same d r p told = plain (side_of d) (writes d) p (answered values d r p) refl refl (writes_no_more values d r p)
 
 goes_same : (s : Side) (f : PathEnd) (ds : List Duty) (p : PathState Carried) → SameMapping (end_at s p) f → AllSame p (goes_on s f ds p)
@@ -131,6 +137,9 @@ goes_same B f ds p x = record { same = elim [ A ↦ refl | B ↦ x ] }
 passed_same : (d : Duty) (p : PathState Carried) → AllSame p (passed d p)
 passed_same (duties.Step (step_duties.Heard s index)) p =
     let e : PathEnd = end_at s p in goes_same s (item_passed s (item_of index e) e) p.agenda p (item_so (λ f. SameMapping e f) s (item_of index e) e refl refl (λ next. refl) refl refl (λ place. refl))
+passed_same (duties.Ask ask_duties.JoinAgain) p = rest p _ refl refl
+passed_same (duties.Send (send_duties.Update s)) p = rest p _ refl refl
+passed_same (duties.Silent (silent_duties.Timer s)) p = plain s (writes (duties.Silent (silent_duties.Timer s))) p _ refl refl (passes_no_more (duties.Silent (silent_duties.Timer s)) p)
 passed_same d p = plain (side_of d) (writes d) p (passed d p) refl refl (passes_no_more d p)
 
 lasts : Lasts AllSame
@@ -149,7 +158,7 @@ takes_same r p told = by p.agenda
         let first = answered_same d r x told in let then_on = settled_lasts AllSame lasts q.agenda q in record { same = λ t. then_on.same t ∙ first.same t }
 
 next_same : (p : PathState Carried) → AllSame p (next_round p)
-next_same p = begins_lasts AllSame lasts (record p { clock = p.until; until = p.until + 100 })
+next_same p = let h = begins_lasts AllSame lasts (record p { clock = p.until; until = p.until + 100 }) in record { same = λ t. h.same t }
 
 -- ---- each path that joined, at every moment
 
