@@ -10,7 +10,6 @@ use Rattle.link_model.specs.declared.flight.Flight.{Flight}
 use Rattle.link_script.specs.declared.script.ScriptLine.{ScriptLine}
 use Rattle.link_model.specs.Fate.{is_altered, is_stripped}
 use Rattle.link_model.specs.Steps.{due_of, next_number, segments_sent}
-use Rattle.stream_lanes.specs.Words.{Every}
 use Rattle.reassembly_book.specs.State.{received}
 use Rattle.subflow_send.specs.Records.{Record}
 use Rattle.path_segments.specs.Spelled.{PlainSegment}
@@ -25,7 +24,6 @@ use Rattle.path_core.specs.Emission.{ack_resent}
 use Rattle.path_core.specs.End.{PathEnd}
 use Rattle.path_core.specs.Events.{next_event}
 use Rattle.path_core.specs.Looking.{first_sends, segment_sent}
-use Rattle.path_core.specs.MpJoin.{is_joined}
 use Rattle.path_core.specs.State.{PathState, end_at}
 use Rattle.path_core.specs.Values.{Carried, values}
 use Rattle.path_core.specs.declared.events.Event.TheVariants as happenings

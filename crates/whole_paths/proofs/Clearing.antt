@@ -54,7 +54,7 @@ use Rattle.path_core.specs.Timer.{after_firing, template_fired}
 use Rattle.path_core.specs.declared.events.Event.{Event}
 use Rattle.path_core.specs.declared.events.Event.TheVariants as happenings
 use Rattle.world_laws.specs.declared.member.Member.TheVariants.{App, Path}
-use Rattle.world_laws.specs.Actors.{Actor, ActorCrew, is_over, member_next, member_takes}
+use Rattle.world_laws.specs.Actors.{Actor, ActorCrew, member_next, member_takes}
 use Rattle.world_laws.specs.Members.{HoldsOfKind}
 use Rattle.world_laws.specs.Openings.{PathPlan, Start, opened_world, path_begins}
 use Rattle.world_laws.specs.StampedBooks.{answer_to}

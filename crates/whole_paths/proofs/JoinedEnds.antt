@@ -1,6 +1,5 @@
 -- Each end of a path that joined has the other's key, and owes no third MP_JOIN once it may send a DSS.
-use Rattle.std.proofs.Common.{◌≡◌, refl, ℕ, ◌≤◌, arith, nat_le, Bool, true, false, Some, List}
-use Rattle.std.specs.List.{slice_get}
+use Rattle.std.proofs.Common.{◌≡◌, refl, ◌≤◌, arith, nat_le, Bool, true, false}
 use Rattle.std.proofs.lemmas.Bool.{both_ways, leb-false, leb-true}
 use Rattle.sides.specs.declared.side.Side.{Side}
 use Rattle.path_core.specs.End.{PathEnd}
@@ -8,11 +7,11 @@ use Rattle.path_core.specs.MpJoin.{is_joined}
 use Rattle.path_core.specs.State.{PathState, end_at}
 use Rattle.path_core.specs.Values.{Carried, values}
 use Rattle.world_laws.specs.declared.member.Member.TheVariants.{App, Path}
-use Rattle.world_laws.specs.Actors.{Actor, ActorCrew}
+use Rattle.world_laws.specs.Actors.{Actor}
 use Rattle.world_laws.specs.Members.{HoldsOfKind}
 use Rattle.whole_paths.specs.AsFar.{stage}
 use Rattle.whole_paths.specs.JoinedEnds.{JoinedEndsKnowTheirPeers, KnowsItsPeer}
-use Rattle.whole_paths.proofs.Clearing.{AllClear, Clearing, Clears, always_clears}
+use Rattle.whole_paths.proofs.Clearing.{Clearing, Clears, always_clears}
 use Rattle.whole_paths.proofs.JoinedKeys.{HasJoinedKeys, joined_ends_have_keys}
 use Rattle.whole_paths.proofs.JoinedThirds.{BothOweUnclear, OwesUnclear, joined_ends_owe_unclear}
 

@@ -1,5 +1,5 @@
 -- An end of a path that joined owes no third MP_JOIN once it may send a DSS (RFC 8684, section 3.2).
-use Rattle.std.proofs.Common.{◌≡◌, refl, sym, subst, ap, ◌∙◌, ◌⊎◌, inl, inr, ⊎_elim, ℕ, ◌+◌, ◌≤◌, arith, Bool, true, false, true≢false, if◌then◌else◌, ◌||◌, Option, Some, None, IfSome, List, [], ◌∷◌, ◌++◌, le_refl}
+use Rattle.std.proofs.Common.{◌≡◌, refl, sym, subst, ap, ◌∙◌, ◌⊎◌, inl, inr, ⊎_elim, ℕ, ◌+◌, ◌≤◌, arith, Bool, true, false, true≢false, if◌then◌else◌, Option, Some, None, IfSome, List, [], ◌∷◌, ◌++◌}
 use Rattle.std.specs.List.{slice_get}
 use Rattle.std.proofs.lemmas.Bool.{both_ways, or_cases}
 use Rattle.std.proofs.lemmas.List.{append-nil, append_assoc}
@@ -18,13 +18,12 @@ use Rattle.subflow_tcp.specs.declared.verdicts.Meaning.{Meaning}
 use Rattle.subflow_tcp.specs.declared.verdicts.Meaning.TheVariants as means
 use Rattle.subflow_tcp.specs.State.{EndState}
 use Rattle.subflow_tcp.specs.States.{is_dead, is_half_open}
-use Rattle.actor_desk.specs.Books.{StampedBooks}
-use Rattle.actor_desk.specs.Words.{is_nil, tail_of}
+use Rattle.actor_desk.specs.Words.{tail_of}
 use Rattle.actor_desk.specs.declared.ask.Reply.{Reply}
 use Rattle.actor_desk.specs.declared.ask.Reply.TheVariants as replies
 use Rattle.dss_mapping.specs.declared.kept.KeptMapping.{KeptMapping}
 use Rattle.subflow_tcp.specs.declared.segments.Outgoing.{Outgoing}
-use Rattle.path_agenda.specs.Agenda.{emission, leaves, start_of_turn}
+use Rattle.path_agenda.specs.Agenda.{emission, leaves}
 use Rattle.path_agenda.specs.declared.duty.Duty.{Duty}
 use Rattle.path_agenda.specs.declared.duty.Duty.TheVariants as duties
 use Rattle.path_agenda.specs.declared.duty.AskDuty.TheVariants as ask_duties
@@ -62,7 +61,7 @@ use Rattle.world_laws.specs.Members.{HoldsOfKind}
 use Rattle.world_laws.specs.Openings.{PathPlan, Start, opened_world, path_begins}
 use Rattle.world_laws.specs.RoundDone.{reached}
 use Rattle.world_laws.specs.StampedBooks.{answer_to}
-use Rattle.world_laws.specs.Worlds.{Turn, WorldState, after_turn, world_run}
+use Rattle.world_laws.specs.Worlds.{Turn, WorldState, after_turn}
 use Rattle.world_laws.specs.Writes.{EndView, EndWrites, Only, OnlyAt, Writes, side_of, writes}
 use Rattle.world_laws.proofs.Falls.FailedChecks.{fail_answered_so, infinite_came_so}
 use Rattle.world_laws.proofs.Rounds.Lifting.{opened_lifted}
@@ -76,7 +75,6 @@ use Rattle.whole_paths.proofs.Duties.{answered_steps, passed_steps}
 use Rattle.whole_paths.proofs.Flying.{next_frames, takes_frames}
 use Rattle.whole_paths.proofs.Harmed.{none_stays}
 use Rattle.whole_paths.proofs.JoinedKeys.{HasJoinedKeys, TellsNoKeys, joined_ends_have_keys}
-use Rattle.whole_paths.proofs.Settling.{sides}
 use Rattle.whole_paths.proofs.Thirds.{Third, answered_third}
 use Rattle.whole_paths.proofs.Turns.{turn_by}
 use Rattle.whole_paths.proofs.Waiting.{path_far}

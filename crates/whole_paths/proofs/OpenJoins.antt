@@ -1,5 +1,5 @@
 -- A path that joined is sound where both its ends are open, as long as nothing breaks it.
-use Rattle.std.proofs.Common.{◌≡◌, ℕ, ◌≤◌, true, false, None, Some, List}
+use Rattle.std.proofs.Common.{◌≡◌, ℕ, ◌≤◌, true, None, Some, List}
 use Rattle.std.specs.List.{slice_get}
 use Rattle.sides.specs.declared.side.Side.{Side}
 use Rattle.path_core.specs.MpJoin.{is_joined}
@@ -14,7 +14,7 @@ use Rattle.whole_paths.specs.AsFar.{stage}
 use Rattle.whole_paths.specs.JoinedEnds.{KnowsItsPeer}
 use Rattle.whole_paths.specs.Mild.{IsUnbroken}
 use Rattle.whole_paths.specs.Straying.{IsSound}
-use Rattle.whole_paths.proofs.Clearing.{AllClear, Clearing, always_clears, never_refuses}
+use Rattle.whole_paths.proofs.Clearing.{Clearing, always_clears, never_refuses}
 use Rattle.whole_paths.proofs.JoinedEnds.{joined_ends_know_their_peers}
 use Rattle.whole_paths.proofs.RecordWaits.{living_open}
 use Rattle.whole_paths.proofs.SoundCourses.{BothEndsOpen, OfPaths, OpenJoinsAreSound}

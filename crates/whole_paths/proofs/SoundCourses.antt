@@ -1,5 +1,5 @@
 -- Between two moments at which a path is whole nothing breaks it, by each turn between them, and its ends are open.
-use Rattle.std.proofs.Common.{◌≡◌, refl, sym, subst, ap, ◌∙◌, ℕ, zero, suc, ◌+◌, ◌-◌, ◌^◌, ◌<◌, ◌≤◌, arith, Bool, true, false, Some, List, [], ◌∷◌, ◌++◌}
+use Rattle.std.proofs.Common.{◌≡◌, refl, sym, subst, ap, ◌∙◌, ℕ, zero, suc, ◌+◌, ◌-◌, ◌^◌, ◌<◌, ◌≤◌, arith, Bool, true, false, Some, List, ◌++◌}
 use Rattle.std.specs.List.{slice_get}
 use Rattle.std.proofs.lemmas.Option.{same_Some}
 use Rattle.sides.specs.declared.side.Side.{Side}
@@ -15,7 +15,6 @@ use Rattle.world_laws.specs.RoundDone.{reached}
 use Rattle.world_laws.specs.Worlds.{Turn, WorldState, world_run}
 use Rattle.world_laws.proofs.Weaving.WholeRounds.{run_append}
 use Rattle.whole_paths.specs.AsFar.{IsActorAsFar, IsPathAsFar, stage}
-use Rattle.whole_paths.specs.Exchanges.{IsFaithful, LetsThrough}
 use Rattle.whole_paths.specs.Finish.{IsPathAt, IsWhole}
 use Rattle.whole_paths.specs.GoingOn.{IsEndOpen}
 use Rattle.whole_paths.specs.Mild.{IsMildStart, LinkIsMild}

@@ -1,5 +1,5 @@
 -- Where both ends of a path are open, nearly nothing leads an exchange of a mild connection astray.
-use Rattle.std.proofs.Common.{◌≡◌, refl, sym, subst, ap, ◌∙◌, inl, inr, ⊎_elim, arith, ℕ, ◌≤◌, Bool, true, false, true≢false, not, ◌&&◌, ◌==◌, Some, None, is_some, List, [], ◌∷◌, ◌++◌}
+use Rattle.std.proofs.Common.{◌≡◌, refl, sym, subst, ap, ◌∙◌, inl, inr, ⊎_elim, arith, ℕ, ◌≤◌, Bool, true, false, true≢false, not, ◌&&◌, ◌==◌, Some, is_some, List, [], ◌∷◌, ◌++◌}
 use Rattle.std.specs.List.{list_any, slice_get}
 use Rattle.std.proofs.lemmas.Bool.{both_ways}
 use Rattle.std.proofs.lemmas.Option.{same_Some}

@@ -5,7 +5,7 @@ use Rattle.std.proofs.lemmas.Bool.{cases_lt}
 use Rattle.sides.specs.declared.side.Side.{Side}
 use Rattle.sides.specs.Side.{peer}
 use Rattle.subflow_send.specs.Records.{Record}
-use Rattle.subflow_tcp.specs.States.{is_closed_to_segments, is_dead}
+use Rattle.subflow_tcp.specs.States.{is_closed_to_segments}
 use Rattle.actor_desk.specs.Books.{books_in}
 use Rattle.actor_desk.specs.Desk.{send_of, SixBooks}
 use Rattle.actor_desk.specs.declared.ask.Note.{Note}
@@ -40,7 +40,7 @@ use Rattle.whole_paths.specs.Serving.{ServesAt}
 use Rattle.whole_paths.specs.Straying.{IsOpen, IsSound}
 use Rattle.whole_paths.specs.Timers.{TimersAreNear}
 use Rattle.whole_paths.specs.WindowsHeard.{IsOpenTo}
-use Rattle.whole_paths.specs.WindowWaits.{AwaitsAWindowAt, HasAShutWindowAt, IsWindowAwaited, WindowsAreAwaitedAlways, ShutEndsAreAwaited, WindowsAreAwaitedAt, DoesNotStandBy}
+use Rattle.whole_paths.specs.WindowWaits.{AwaitsAWindowAt, HasAShutWindowAt, IsWindowAwaited, WindowsAreAwaitedAlways, ShutEndsAreAwaited, WindowsAreAwaitedAt}
 use Rattle.whole_paths.proofs.Awaited.{each_window_comes}
 use Rattle.whole_paths.proofs.Counted.{by_news, what_holds_up_counts}
 use Rattle.whole_paths.proofs.Exchanges.{OfPaths, Shown, each_shown}
