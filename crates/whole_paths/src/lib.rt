@@ -32,93 +32,239 @@ mod opening_laws;
 mod patience_laws;
 mod window_laws;
 
-pub use debt_laws::{
-    checked_records_are_passed_whole, debts_go_on, directions_are_mended, directions_go_on,
-    each_grant_is_full, few_as_it_opens_are_few, fins_are_heard, fins_are_mended, fins_stand_on,
-    harms_alone_are_owed, lost_records_are_awaited, lost_records_are_first, lost_records_are_mended,
-    numbers_agree, opens_quietly, paths_open_by_clearing, records_are_passed_whole,
-    what_is_reached_is_first, what_runs_out_is_mended, who_stalls_is_shut,
-};
-pub use delivery_laws::{
-    a_segment_is_read, a_unit_is_made, all_comes_up_to_lost, an_end_is_told,
-    answers_are_awaited_always, b_is_clear_first, b_is_idle_before, bare_segments_are_taken,
-    data_fins_come_soon, each_answer_comes_soon, each_first_sign_comes, each_record_stays_well,
-    each_round_writes_and_reads, each_window_has_room, fins_are_last, first_records_are_passed,
-    first_signs_are_awaited, four_rounds_clear, harms_alone_lose_records, harms_use_lines,
-    heard_lies_below, lossy_lanes_finish, mild_links_change_nothing, mild_paths_are_never_stopped,
-    mild_scripts_end_as_they_begin, mild_scripts_keep_mapping, mild_scripts_never_break,
-    mild_scripts_tell_keys, no_end_overruns, no_round_counts, nothing_comes_before,
-    octets_are_passed, octets_finish_as_values_do, one_path_ends, open_asks_are_answered,
-    open_asks_go_on, open_ends_hardly_go_awry, open_ends_hardly_stray, openings_are_awaited,
-    positions_are_acked_as_bytes, positions_count_bytes, records_are_awaited_always,
-    records_are_sent_in_order, records_come_in_time, senders_are_awaited, shut_windows_have_room,
-    shut_windows_open_in_time, the_first_piece_waits, ways_stay, well_octets_come,
-    what_ended_is_acknowledged, what_has_room_is_sent, what_holds_up_counts,
-    what_is_awaited_is_there, what_is_finished_is_there, what_is_heard_was_said,
-    what_is_left_is_data, what_is_outstanding_is_awaited, what_is_owed_goes,
-    what_is_there_is_delivered, what_is_unsent_waits_for_room, what_rises_is_owed,
-    who_halts_goes_on_halting, who_is_told_has_all, who_is_told_stays_told,
-    who_waits_for_nothing_goes_on, whole_paths_deliver, whole_paths_stay_whole,
-    whole_records_are_passed, windows_are_awaited_always, windows_come_soon,
-};
-pub use expiry_laws::{
-    each_rise_ends_the_row, few_losses_finish, first_addresses_stay, harmless_ends_die_of_expiries,
-    mild_ends_die_of_expiries,
-};
-pub use holder_laws::{
-    backups_are_said, each_byte_counts, each_missing_byte_is_held, holders_let_go, holders_live,
-    living_paths_live, paths_are_counted, paths_go_on, priorities_come_by_lines,
-    regular_paths_deliver, returns_are_awaited_always, standby_is_for_another,
-    what_is_given_back_counts, what_is_missing_is_awaited, what_is_tried_is_awaited,
-    who_asks_is_refused, who_heard_of_no_backup_tells_none, who_is_no_backup_serves,
-    who_says_a_priority_notes_it, who_serves_asks_so, who_stood_by_was_served,
-};
-pub use laws::{
-    a_copy_leaves_by_arriving, clear_ends_are_past, copies_arrive_as_sent,
-    each_acknowledgement_counts, each_acknowledgement_is_said, each_ask_is_answered,
-    each_confirmation_counts, each_copy_is_answered_at_once, each_copy_that_comes_counts,
-    each_data_ack_counts, each_data_ack_is_up_to_date, each_data_fin_counts,
-    each_expiry_sends_all_again, each_fin_is_passed, each_first_piece_comes, each_gain_counts,
-    each_handshake_counts, each_news_counts, each_piece_comes_in_order, each_probe_is_answered,
-    each_record_goes_alone, each_record_is_acknowledged, each_segment_has_a_data_ack,
-    each_segment_says_what_came, each_segment_shows_keys, each_segment_uses_a_line_or_comes,
-    each_syn_ack_is_answered, each_syn_comes, each_timer_runs_for_a_second,
-    each_turn_sends_one_at_most, each_window_comes, each_window_counts, ends_are_known,
-    ends_are_sent, ends_die_of_their_causes, ends_go_by_the_handshake, ends_know_what_was,
-    ends_open_by_copies, events_come_in_order, expiries_alone_count, mappings_are_whole,
-    news_is_bounded, news_never_falls, no_side_is_stopped, no_timer_is_put_off, nothing_goes_back,
-    nothing_is_overdue, timers_run_on, timers_run_out, what_came_was_sent, what_comes_is_kept,
-    what_is_acknowledged_came, what_is_asked_comes, what_is_in_hand_is_acknowledged,
-    what_is_in_order_is_passed, what_is_left_is_past_the_edge, what_is_owed_comes,
-    what_is_owed_has_a_data_ack, what_is_passed_is_received, what_is_sent_comes_soon,
-    what_is_taken_is_offered, what_is_told_is_known, what_runs_out_goes_again, what_waits_comes,
-    what_waits_is_kept, what_wants_an_answer_is_owed_one, what_was_granted_is_acknowledged,
-    what_was_written_is_acknowledged, who_heard_the_end_knows_it, who_is_done_may_ask,
-    who_waits_has_a_timer, writers_go_on,
-};
-pub use many_laws::{
-    begun_texts_end, each_missing_byte_is_waited_for, each_regular_path_delivers,
-    each_whole_path_delivers, each_whole_path_ends, few_losses_end_no_first, first_paths_deliver,
-    first_paths_end, first_paths_open, first_texts_deliver, first_texts_finish, first_texts_go_on,
-    joined_ends_know_their_peers, joined_paths_never_break, many_paths_bring_all,
-    regular_first_paths_tell_none, shut_ends_are_awaited, shut_ends_stay_shut,
-    what_is_wanted_is_told,
-};
-pub use near_laws::{
-    paths_send_what_is_granted, pieces_are_few, what_is_taken_is_granted,
-    what_is_well_is_acknowledged, windows_have_room,
-};
-pub use opening_laws::{
-    a_has_the_key_first, each_first_piece_comes_soon, each_sign_piece_comes,
-    each_syn_ack_is_answered_soon, each_syn_comes_soon, nothing_comes_early_by_text,
-    paths_open_owing_few, paths_open_owing_records, records_are_full, syns_are_few,
-    what_fits_is_written_at_once,
-};
-pub use patience_laws::{
-    few_texts_deliver, patient_paths_deliver, patient_texts_deliver,
-};
-pub use window_laws::{
-    each_turn_asks_its_window, fitting_files_are_never_shut, probes_go_again,
-    what_comes_opens_the_window, what_is_owed_is_told, what_is_told_goes_on, what_is_told_is_taken,
-    who_asks_owes, windows_are_assured,
-};
+pub use debt_laws::checked_records_are_passed_whole;
+pub use debt_laws::debts_go_on;
+pub use debt_laws::directions_are_mended;
+pub use debt_laws::directions_go_on;
+pub use debt_laws::each_grant_is_full;
+pub use debt_laws::few_as_it_opens_are_few;
+pub use debt_laws::fins_are_heard;
+pub use debt_laws::fins_are_mended;
+pub use debt_laws::fins_stand_on;
+pub use debt_laws::harms_alone_are_owed;
+pub use debt_laws::lost_records_are_awaited;
+pub use debt_laws::lost_records_are_first;
+pub use debt_laws::lost_records_are_mended;
+pub use debt_laws::numbers_agree;
+pub use debt_laws::opens_quietly;
+pub use debt_laws::paths_open_by_clearing;
+pub use debt_laws::records_are_passed_whole;
+pub use debt_laws::what_is_reached_is_first;
+pub use debt_laws::what_runs_out_is_mended;
+pub use debt_laws::who_stalls_is_shut;
+pub use delivery_laws::a_segment_is_read;
+pub use delivery_laws::a_unit_is_made;
+pub use delivery_laws::all_comes_up_to_lost;
+pub use delivery_laws::an_end_is_told;
+pub use delivery_laws::answers_are_awaited_always;
+pub use delivery_laws::b_is_clear_first;
+pub use delivery_laws::b_is_idle_before;
+pub use delivery_laws::bare_segments_are_taken;
+pub use delivery_laws::data_fins_come_soon;
+pub use delivery_laws::each_answer_comes_soon;
+pub use delivery_laws::each_first_sign_comes;
+pub use delivery_laws::each_record_stays_well;
+pub use delivery_laws::each_round_writes_and_reads;
+pub use delivery_laws::each_window_has_room;
+pub use delivery_laws::fins_are_last;
+pub use delivery_laws::first_records_are_passed;
+pub use delivery_laws::first_signs_are_awaited;
+pub use delivery_laws::four_rounds_clear;
+pub use delivery_laws::harms_alone_lose_records;
+pub use delivery_laws::harms_use_lines;
+pub use delivery_laws::heard_lies_below;
+pub use delivery_laws::lossy_lanes_finish;
+pub use delivery_laws::mild_links_change_nothing;
+pub use delivery_laws::mild_paths_are_never_stopped;
+pub use delivery_laws::mild_scripts_end_as_they_begin;
+pub use delivery_laws::mild_scripts_keep_mapping;
+pub use delivery_laws::mild_scripts_never_break;
+pub use delivery_laws::mild_scripts_tell_keys;
+pub use delivery_laws::no_end_overruns;
+pub use delivery_laws::no_round_counts;
+pub use delivery_laws::nothing_comes_before;
+pub use delivery_laws::octets_are_passed;
+pub use delivery_laws::octets_finish_as_values_do;
+pub use delivery_laws::one_path_ends;
+pub use delivery_laws::open_asks_are_answered;
+pub use delivery_laws::open_asks_go_on;
+pub use delivery_laws::open_ends_hardly_go_awry;
+pub use delivery_laws::open_ends_hardly_stray;
+pub use delivery_laws::openings_are_awaited;
+pub use delivery_laws::positions_are_acked_as_bytes;
+pub use delivery_laws::positions_count_bytes;
+pub use delivery_laws::records_are_awaited_always;
+pub use delivery_laws::records_are_sent_in_order;
+pub use delivery_laws::records_come_in_time;
+pub use delivery_laws::senders_are_awaited;
+pub use delivery_laws::shut_windows_have_room;
+pub use delivery_laws::shut_windows_open_in_time;
+pub use delivery_laws::the_first_piece_waits;
+pub use delivery_laws::ways_stay;
+pub use delivery_laws::well_octets_come;
+pub use delivery_laws::what_ended_is_acknowledged;
+pub use delivery_laws::what_has_room_is_sent;
+pub use delivery_laws::what_holds_up_counts;
+pub use delivery_laws::what_is_awaited_is_there;
+pub use delivery_laws::what_is_finished_is_there;
+pub use delivery_laws::what_is_heard_was_said;
+pub use delivery_laws::what_is_left_is_data;
+pub use delivery_laws::what_is_outstanding_is_awaited;
+pub use delivery_laws::what_is_owed_goes;
+pub use delivery_laws::what_is_there_is_delivered;
+pub use delivery_laws::what_is_unsent_waits_for_room;
+pub use delivery_laws::what_rises_is_owed;
+pub use delivery_laws::who_halts_goes_on_halting;
+pub use delivery_laws::who_is_told_has_all;
+pub use delivery_laws::who_is_told_stays_told;
+pub use delivery_laws::who_waits_for_nothing_goes_on;
+pub use delivery_laws::whole_paths_deliver;
+pub use delivery_laws::whole_paths_stay_whole;
+pub use delivery_laws::whole_records_are_passed;
+pub use delivery_laws::windows_are_awaited_always;
+pub use delivery_laws::windows_come_soon;
+pub use expiry_laws::each_rise_ends_the_row;
+pub use expiry_laws::few_losses_finish;
+pub use expiry_laws::first_addresses_stay;
+pub use expiry_laws::harmless_ends_die_of_expiries;
+pub use expiry_laws::mild_ends_die_of_expiries;
+pub use holder_laws::backups_are_said;
+pub use holder_laws::each_byte_counts;
+pub use holder_laws::each_missing_byte_is_held;
+pub use holder_laws::holders_let_go;
+pub use holder_laws::holders_live;
+pub use holder_laws::living_paths_live;
+pub use holder_laws::paths_are_counted;
+pub use holder_laws::paths_go_on;
+pub use holder_laws::priorities_come_by_lines;
+pub use holder_laws::regular_paths_deliver;
+pub use holder_laws::returns_are_awaited_always;
+pub use holder_laws::standby_is_for_another;
+pub use holder_laws::what_is_given_back_counts;
+pub use holder_laws::what_is_missing_is_awaited;
+pub use holder_laws::what_is_tried_is_awaited;
+pub use holder_laws::who_asks_is_refused;
+pub use holder_laws::who_heard_of_no_backup_tells_none;
+pub use holder_laws::who_is_no_backup_serves;
+pub use holder_laws::who_says_a_priority_notes_it;
+pub use holder_laws::who_serves_asks_so;
+pub use holder_laws::who_stood_by_was_served;
+pub use laws::a_copy_leaves_by_arriving;
+pub use laws::clear_ends_are_past;
+pub use laws::copies_arrive_as_sent;
+pub use laws::each_acknowledgement_counts;
+pub use laws::each_acknowledgement_is_said;
+pub use laws::each_ask_is_answered;
+pub use laws::each_confirmation_counts;
+pub use laws::each_copy_is_answered_at_once;
+pub use laws::each_copy_that_comes_counts;
+pub use laws::each_data_ack_counts;
+pub use laws::each_data_ack_is_up_to_date;
+pub use laws::each_data_fin_counts;
+pub use laws::each_expiry_sends_all_again;
+pub use laws::each_fin_is_passed;
+pub use laws::each_first_piece_comes;
+pub use laws::each_gain_counts;
+pub use laws::each_handshake_counts;
+pub use laws::each_news_counts;
+pub use laws::each_piece_comes_in_order;
+pub use laws::each_probe_is_answered;
+pub use laws::each_record_goes_alone;
+pub use laws::each_record_is_acknowledged;
+pub use laws::each_segment_has_a_data_ack;
+pub use laws::each_segment_says_what_came;
+pub use laws::each_segment_shows_keys;
+pub use laws::each_segment_uses_a_line_or_comes;
+pub use laws::each_syn_ack_is_answered;
+pub use laws::each_syn_comes;
+pub use laws::each_timer_runs_for_a_second;
+pub use laws::each_turn_sends_one_at_most;
+pub use laws::each_window_comes;
+pub use laws::each_window_counts;
+pub use laws::ends_are_known;
+pub use laws::ends_are_sent;
+pub use laws::ends_die_of_their_causes;
+pub use laws::ends_go_by_the_handshake;
+pub use laws::ends_know_what_was;
+pub use laws::ends_open_by_copies;
+pub use laws::events_come_in_order;
+pub use laws::expiries_alone_count;
+pub use laws::mappings_are_whole;
+pub use laws::news_is_bounded;
+pub use laws::news_never_falls;
+pub use laws::no_side_is_stopped;
+pub use laws::no_timer_is_put_off;
+pub use laws::nothing_goes_back;
+pub use laws::nothing_is_overdue;
+pub use laws::timers_run_on;
+pub use laws::timers_run_out;
+pub use laws::what_came_was_sent;
+pub use laws::what_comes_is_kept;
+pub use laws::what_is_acknowledged_came;
+pub use laws::what_is_asked_comes;
+pub use laws::what_is_in_hand_is_acknowledged;
+pub use laws::what_is_in_order_is_passed;
+pub use laws::what_is_left_is_past_the_edge;
+pub use laws::what_is_owed_comes;
+pub use laws::what_is_owed_has_a_data_ack;
+pub use laws::what_is_passed_is_received;
+pub use laws::what_is_sent_comes_soon;
+pub use laws::what_is_taken_is_offered;
+pub use laws::what_is_told_is_known;
+pub use laws::what_runs_out_goes_again;
+pub use laws::what_waits_comes;
+pub use laws::what_waits_is_kept;
+pub use laws::what_wants_an_answer_is_owed_one;
+pub use laws::what_was_granted_is_acknowledged;
+pub use laws::what_was_written_is_acknowledged;
+pub use laws::who_heard_the_end_knows_it;
+pub use laws::who_is_done_may_ask;
+pub use laws::who_waits_has_a_timer;
+pub use laws::writers_go_on;
+pub use many_laws::begun_texts_end;
+pub use many_laws::each_missing_byte_is_waited_for;
+pub use many_laws::each_regular_path_delivers;
+pub use many_laws::each_whole_path_delivers;
+pub use many_laws::each_whole_path_ends;
+pub use many_laws::few_losses_end_no_first;
+pub use many_laws::first_paths_deliver;
+pub use many_laws::first_paths_end;
+pub use many_laws::first_paths_open;
+pub use many_laws::first_texts_deliver;
+pub use many_laws::first_texts_finish;
+pub use many_laws::first_texts_go_on;
+pub use many_laws::joined_ends_know_their_peers;
+pub use many_laws::joined_paths_never_break;
+pub use many_laws::many_paths_bring_all;
+pub use many_laws::regular_first_paths_tell_none;
+pub use many_laws::shut_ends_are_awaited;
+pub use many_laws::shut_ends_stay_shut;
+pub use many_laws::what_is_wanted_is_told;
+pub use near_laws::paths_send_what_is_granted;
+pub use near_laws::pieces_are_few;
+pub use near_laws::what_is_taken_is_granted;
+pub use near_laws::what_is_well_is_acknowledged;
+pub use near_laws::windows_have_room;
+pub use opening_laws::a_has_the_key_first;
+pub use opening_laws::each_first_piece_comes_soon;
+pub use opening_laws::each_sign_piece_comes;
+pub use opening_laws::each_syn_ack_is_answered_soon;
+pub use opening_laws::each_syn_comes_soon;
+pub use opening_laws::nothing_comes_early_by_text;
+pub use opening_laws::paths_open_owing_few;
+pub use opening_laws::paths_open_owing_records;
+pub use opening_laws::records_are_full;
+pub use opening_laws::syns_are_few;
+pub use opening_laws::what_fits_is_written_at_once;
+pub use patience_laws::few_texts_deliver;
+pub use patience_laws::patient_paths_deliver;
+pub use patience_laws::patient_texts_deliver;
+pub use window_laws::each_turn_asks_its_window;
+pub use window_laws::fitting_files_are_never_shut;
+pub use window_laws::probes_go_again;
+pub use window_laws::what_comes_opens_the_window;
+pub use window_laws::what_is_owed_is_told;
+pub use window_laws::what_is_told_goes_on;
+pub use window_laws::what_is_told_is_taken;
+pub use window_laws::who_asks_owes;
+pub use window_laws::windows_are_assured;
