@@ -4,7 +4,7 @@ use Rattle.path_core.specs.Values.{values}
 use Rattle.world_laws.specs.Openings.{Start}
 use Rattle.whole_paths.specs.ManyCourses.{EachPathBringsAll, EachPathDelivers, EachServingPathDelivers}
 use Rattle.whole_paths.specs.ManyEnds.{EachWholePathEnds}
-use Rattle.whole_paths.specs.ManyPaths.{EachWholePathDelivers}
+use Rattle.whole_paths.specs.ManyPaths.{EachPathTakesOver, EachWholePathDelivers}
 use Rattle.whole_paths.specs.Mild.{IsMildStart}
 use Rattle.whole_paths.specs.RegularPaths.{EachRegularPathDelivers}
 use Rattle.whole_paths.specs.Straying.{IsSound}
@@ -12,7 +12,7 @@ use Rattle.whole_paths.proofs.JoinedFinite.{joined_ends_are_finite}
 use Rattle.whole_paths.proofs.JoinedPaths.{joined_ends_are_told_no_infinite, joined_paths_never_break}
 use Rattle.whole_paths.proofs.ManyCourses.{path_brings_all, path_delivers, serving_path_delivers}
 use Rattle.whole_paths.proofs.ManyEnds.{delivers_or_dies_at, delivers_or_dies_at_in_octets}
-use Rattle.whole_paths.proofs.ManyPaths.{delivers_at, delivers_at_in_octets}
+use Rattle.whole_paths.proofs.ManyPaths.{delivers_at, delivers_at_in_octets, takes_over_at, takes_over_at_in_octets}
 use Rattle.whole_paths.proofs.OpenJoins.{open_joins_are_sound}
 use Rattle.whole_paths.proofs.RegularPaths.{regular_delivers_at, regular_delivers_at_in_octets}
 use Rattle.whole_paths.proofs.SoundCourses.{OpenJoinsAreSound, sound_along}
@@ -30,6 +30,12 @@ pub each_serving_path_delivers : EachServingPathDelivers
 each_serving_path_delivers number = serving_path_delivers number IsSound (λ start mild turns p here h. h) (λ start mild. sound_along number start mild (joins start mild))
 
 -- ---- by scripts
+
+pub each_path_takes_over : EachPathTakesOver values
+each_path_takes_over number = takes_over_at number (each_serving_path_delivers number)
+
+pub each_path_takes_over_in_octets : EachPathTakesOver octets
+each_path_takes_over_in_octets number = takes_over_at_in_octets number (each_serving_path_delivers number)
 
 pub each_whole_path_delivers : EachWholePathDelivers values
 each_whole_path_delivers number = delivers_at number (each_serving_path_delivers number)

@@ -14,7 +14,7 @@ use Rattle.path_core.specs.Values.{Carried, values}
 use Rattle.world_laws.specs.Openings.{Start, opened_world}
 use Rattle.world_laws.specs.Promises.{arrived_at, written_by}
 use Rattle.world_laws.specs.RoundDone.{reached}
-use Rattle.world_laws.specs.RoundNumbers.{BeginsRound}
+use Rattle.world_laws.specs.RoundNumbers.{BeginsRound, last_on_standby, steps_since}
 use Rattle.world_laws.specs.Worlds.{Turn, WorldState, world_run, AreLawful}
 use Rattle.world_laws.proofs.Promises.Made.{keep_their_word}
 use Rattle.world_laws.proofs.Weaving.WholeRounds.{run_append}
@@ -45,7 +45,7 @@ use Rattle.whole_paths.proofs.Courses.{round_next, round_step}
 use Rattle.whole_paths.proofs.Delivery.{what_is_there_stays, all_there_is_delivered}
 use Rattle.whole_paths.proofs.ManyWaits.{counts_too, each_missing_byte, news_up}
 use Rattle.whole_paths.proofs.OpenCourses.{holds_along, lawful_parts}
-use Rattle.whole_paths.proofs.Serving.{who_serves_asks_so}
+use Rattle.whole_paths.proofs.Serving.{who_serves_since_asks_so}
 use Rattle.whole_paths.proofs.OpenAsks.{open_sound}
 use Rattle.whole_paths.proofs.RecordWaits.{records_are_awaited}
 use Rattle.whole_paths.proofs.ReturnWaits.{returns_are_awaited_always}
@@ -63,16 +63,39 @@ use Rattle.whole_paths.specs.SentByTurns.{SentAtMost}
 abbrev at : Start → List Turn → WorldState Carried
 at start turns = reached values start turns
 
--- what is waited for on the path of a number
-data IsAwaited (number : ℕ) (start : Start) (n x : ℕ) (turns : List Turn) : Type 0 where
-  turn : (rounds : ℕ) → is_about_to start number n rounds turns → round_end values start turns + 100 * rounds + 60800 ≤ x → IsAwaited number start n x turns
-  byte : (by : ℕ) → by ≤ x → WaitsForAByte number start by turns → IsAwaited number start n x turns
+-- ---- rounds
 
-module _ (number : ℕ) (Holds : PathState Carried → Type 0) (start : Start) (mild : IsMildStart start) (sound : HoldsOfSound number Holds start) (buffer : 32 ≤ start.buffer) (most : ℕ) where
+append_cancel : (xs ys zs : List Turn) → xs ++ ys ≡ xs ++ zs → ys ≡ zs
+append_cancel [] ys zs is = is
+append_cancel (x ∷ xs) ys zs is = append_cancel xs ys zs (let rest : xs ++ ys ≡ xs ++ zs = cc in rest)
+
+no_round : (order : List ℕ) (ys zs : List Turn) → steps_of order ≡ ys ++ Turn.Round ∷ zs → ⊥
+no_round [] [] zs is = cc
+no_round [] (y ∷ ys) zs is = cc
+no_round (actor ∷ order) [] zs is = cc
+no_round (actor ∷ order) (y ∷ ys) zs is = no_round order ys zs (let rest : steps_of order ≡ ys ++ Turn.Round ∷ zs = cc in rest)
+
+-- the turns before some steps end behind each beginning of a round
+round_in : (xs : List Turn) (order : List ℕ) (ys zs : List Turn) → xs ++ steps_of order ≡ ys ++ Turn.Round ∷ zs → (rest : List Turn) × (xs ≡ ys ++ Turn.Round ∷ rest)
+round_in [] order ys zs is = absurd (no_round order ys zs is)
+round_in (x ∷ xs) order [] zs is = (xs, let first : x ≡ Turn.Round = cc in ap (λ y. y ∷ xs) first)
+round_in (x ∷ xs) order (y ∷ ys) zs is =
+    let first : x ≡ y = cc in let rest : xs ++ steps_of order ≡ ys ++ Turn.Round ∷ zs = cc in let found = round_in xs order ys zs rest in
+    (found.0, ap (λ z. z ∷ xs) first ∙ ap (λ zs. y ∷ zs) found.1)
+
+-- what is waited for on the path of a number; a round began behind these first turns
+data IsAwaited (number : ℕ) (start : Start) (before : List Turn) (n x : ℕ) (turns : List Turn) : Type 0 where
+  turn : (rounds : ℕ) → is_about_to start number n rounds turns → round_end values start turns + 100 * rounds + 60800 ≤ x
+      → (passed later : List Turn) → turns ≡ (before ++ passed) ++ Turn.Round ∷ later → IsAwaited number start before n x turns
+  byte : (by : ℕ) → by ≤ x → WaitsForAByte number start by turns → IsAwaited number start before n x turns
+
+module _ (number : ℕ) (Holds : PathState Carried → Type 0) (start : Start) (mild : IsMildStart start) (sound : HoldsOfSound number Holds start) (buffer : 32 ≤ start.buffer) (most : ℕ) (before : List Turn) where
   -- this holds of it, and it is in use
   record HoldsInUse (turns : List Turn) : Type 0 where
     opened : IsNowAt number Holds (at start turns)
-    used : IsInUse number start turns
+    used : IsInUse number start before turns
+    passed : List Turn
+    is_passed : turns ≡ before ++ passed
 
   abbrev StepsSo : List Turn → List Turn → Type 0
   StepsSo v u = StepsOn values start (harms_at start number) (counted_with start number) HoldsInUse most v u
@@ -107,7 +130,7 @@ module _ (number : ℕ) (Holds : PathState Carried → Type 0) (start : Start) (
   -- ---- the first of two rounds
 
   module _ (since : List Turn) (order : List ℕ) (u : List Turn) (begin : BeginsRound values start (at start since)) (step : RoundsSo (since ++ steps_of order) u) (s : Side)
-      (never : IsAllThere s (at start since) → ⊥) where
+      (never : IsAllThere s (at start since) → ⊥) (passed : List Turn) (from : since ≡ before ++ passed) where
     abbrev v : List Turn
     v = since ++ steps_of order
 
@@ -125,6 +148,9 @@ module _ (number : ℕ) (Holds : PathState Carried → Type 0) (start : Start) (
 
     abbrev Next : Type 0
     Next = (count since < count u) ⊎ (WaitsForAByte number start (round_end values start v + 60800) u ⊎ is_about_to start number (count since) 1 u)
+
+    stood : last_on_standby s false (steps_since (2 + number) was w) ≡ false
+    stood = subst (λ ts. last_on_standby s false (steps_since (2 + number) (at start ts) w) ≡ false) (sym from) (step.before.used.asked passed (steps_of order) (ap (λ ts. ts ++ steps_of order) from) s)
 
     rises_so : count since < count v → Next
     rises_so more = inl (let on = subst (λ ts. count v ≤ count ts) (sym step.is) (of_counts.counts v (Turn.Round ∷ [])) in omega (arith, more, on))
@@ -180,7 +206,7 @@ module _ (number : ℕ) (Holds : PathState Carried → Type 0) (start : Start) (
       may_so : Next
       may_so = ⊎_elim
           (λ less. ⊎_elim (λ more. inl more) (λ h. inr (inl h))
-          (each_missing_byte number Holds start mild sound most since order u mild buffer begin opens step.before.used.serves s (step.before.used.asked was s) may less))
+          (each_missing_byte number Holds start mild sound most since order u mild buffer begin opens step.before.used.serves s stood may less))
           (λ all. ⊎_elim (λ h. inr (inl (waits.piece h))) (λ room. records_so (omega (arith, all)) room (end_at s p).tcp.send.records refl)
           (records_wait.room v u opens sender))
           (cases_lt (acked_len (written_by s w).marks) (length (written_by s was).written))
@@ -222,9 +248,10 @@ module _ (number : ℕ) (Holds : PathState Carried → Type 0) (start : Start) (
 
   -- ---- all waits
 
-  on_so : (n x : ℕ) (v u : List Turn) → StepsSo v u → n ≤ count v → IsAwaited number start n x v → (n < count u) ⊎ IsAwaited number start n x u
-  on_so n x v u step low (turn rounds h soon) = inr (subst (λ t. IsAwaited number start n x t) (sym step.is)
-      (turn rounds (paths.on n rounds v step.actor h) (let same = round_step values start v step.actor in omega (arith, same, soon))))
+  on_so : (n x : ℕ) (v u : List Turn) → StepsSo v u → n ≤ count v → IsAwaited number start before n x v → (n < count u) ⊎ IsAwaited number start before n x u
+  on_so n x v u step low (turn rounds h soon passed later is) = inr (subst (λ t. IsAwaited number start before n x t) (sym step.is)
+      (turn rounds (paths.on n rounds v step.actor h) (let same = round_step values start v step.actor in omega (arith, same, soon)) passed (later ++ Turn.Step step.actor ∷ [])
+      (ap (λ ts. ts ++ Turn.Step step.actor ∷ []) is ∙ append_assoc (before ++ passed) (Turn.Round ∷ later) (Turn.Step step.actor ∷ []))))
   on_so n x v u step low (byte by soon h) = ⊎_elim (λ more. inl (omega (arith, low, more))) (λ still. inr (byte by soon still)) (byte_on by v u step h)
 
   module _ (v u : List Turn) (step : RoundsSo v u) where
@@ -234,35 +261,40 @@ module _ (number : ℕ) (Holds : PathState Carried → Type 0) (start : Start) (
     next_end : round_end values start u ≡ round_end values start v + 100
     next_end = subst (λ t. round_end values start t ≡ round_end values start v + 100) (sym step.is) (round_next values start v step.over)
 
-    turn_so : (n x rounds : ℕ) → is_about_to start number n rounds v → round_end values start v + 100 * rounds + 60800 ≤ x → (n < count u) ⊎ IsAwaited number start n x u
-    turn_so n x rounds (this_round s since order left is num begin never) soon = ⊎_elim
+    turn_so : (n x rounds : ℕ) → is_about_to start number n rounds v → round_end values start v + 100 * rounds + 60800 ≤ x → (passed later : List Turn) → v ≡ (before ++ passed) ++ Turn.Round ∷ later
+        → (n < count u) ⊎ IsAwaited number start before n x u
+    turn_so n x rounds (this_round s since order left is num begin never) soon passed later began = ⊎_elim
         (λ more. inl (omega (arith, num, more)))
         (λ rest. inr (⊎_elim
         (λ h. byte (round_end values start v + 60800) (omega (arith, soon)) (subst (λ ts. WaitsForAByte number start (round_end values start ts + 60800) u) (sym is) h))
-        (λ on. turn 1 (subst (λ m. is_about_to start number m 1 u) num on) (let next = next_end in omega (arith, next, left, soon)))
+        (λ on. turn 1 (subst (λ m. is_about_to start number m 1 u) num on) (let next = next_end in omega (arith, next, left, soon)) (passed ++ Turn.Round ∷ later) []
+        (step.is ∙ ap (λ ts. ts ++ Turn.Round ∷ []) (began ∙ append_assoc before passed (Turn.Round ∷ later))))
         rest))
-        (first_so since order u begin (subst (λ ts. RoundsSo ts u) is step) s never _ refl)
-    turn_so n x rounds (next_round s since more order left is num begin unclosed all) soon =
+        (first_so since order u begin (subst (λ ts. RoundsSo ts u) is step) s never (passed ++ Turn.Round ∷ found.0) (found.1 ∙ append_assoc before passed (Turn.Round ∷ found.0)) _ refl)
+      where
+        found : (rest : List Turn) × (since ≡ (before ++ passed) ++ Turn.Round ∷ rest)
+        found = round_in since order (before ++ passed) later (sym is ∙ began)
+    turn_so n x rounds (next_round s since more order left is num begin unclosed all) soon passed later began =
         inl (let grows = paths.next n v step.over (next_round s since more order refl is num begin unclosed all) in let on = up in omega (arith, grows, on))
 
-    next_so : (n x : ℕ) → n ≤ count v → IsAwaited number start n x v → (n < count u) ⊎ IsAwaited number start n x u
-    next_so n x low (turn rounds h soon) = turn_so n x rounds h soon
+    next_so : (n x : ℕ) → n ≤ count v → IsAwaited number start before n x v → (n < count u) ⊎ IsAwaited number start before n x u
+    next_so n x low (turn rounds h soon passed later began) = turn_so n x rounds h soon passed later began
     next_so n x low (byte by soon h) = ⊎_elim (λ more. inl (omega (arith, low, more))) (λ still. inr (byte by soon still)) (byte_next by v u step h)
 
-    due_so : (n x : ℕ) → n ≤ count v → IsAwaited number start n x v → x < round_end values start v → n < count u
-    due_so n x low (turn rounds h soon) late = absurd (omega (arith, soon, late))
+    due_so : (n x : ℕ) → n ≤ count v → IsAwaited number start before n x v → x < round_end values start v → n < count u
+    due_so n x low (turn rounds h soon passed later began) late = absurd (omega (arith, soon, late))
     due_so n x low (byte by soon h) late = let more = byte_due by v u step h (omega (arith, soon, late)) in omega (arith, low, more)
 
     begun : at start u ≡ world_run values (Turn.Round ∷ []) (at start v)
     begun = ap (at start) step.is ∙ run_append values v (Turn.Round ∷ []) (opened_world start)
 
-    begins_so : AllIsThere (at start u) ⊎ IsAwaited number start (count u) (round_end values start v + 61100) u
-    begins_so = ⊎_elim (λ all. inl all) (λ h. inr (turn 2 h (let next = next_end in omega (arith, next)))) (paths.begins u (BeginsRound.Next v step.over begun))
+    begins_so : AllIsThere (at start u) ⊎ IsAwaited number start before (count u) (round_end values start v + 61100) u
+    begins_so = ⊎_elim (λ all. inl all) (λ h. inr (turn 2 h (let next = next_end in omega (arith, next)) step.before.passed [] (step.is ∙ ap (λ ts. ts ++ Turn.Round ∷ []) step.before.is_passed))) (paths.begins u (BeginsRound.Next v step.over begun))
 
   lasts : (turns : List Turn) (t : Turn) → AllIsThere (at start turns) → AllIsThere (at start (turns ++ t ∷ []))
   lasts turns t over = record { of = λ s. what_is_there_stays start turns (t ∷ []) mild s (over.of s) }
 
-  waits_by_count : WaitsByCount values start (harms_at start number) (counted_with start number) HoldsInUse most 61100 (λ turns. AllIsThere (at start turns)) (IsAwaited number start)
+  waits_by_count : WaitsByCount values start (harms_at start number) (counted_with start number) HoldsInUse most 61100 (λ turns. AllIsThere (at start turns)) (IsAwaited number start before)
   waits_by_count = record {
     over_on = λ v u step over. subst (λ ts. AllIsThere (at start ts)) (sym step.is) (lasts v (Turn.Step step.actor) over);
     over_next = λ v u step over. subst (λ ts. AllIsThere (at start ts)) (sym step.is) (lasts v Turn.Round over);
@@ -278,17 +310,33 @@ sent_few : (number : ℕ) (start : Start) (turns : List Turn) → length turns <
 sent_few number start turns short last s =
     let sent = subst (SentAtMost (length turns)) last.here.is (each_turn_sends_one_at_most values start turns (2 + number) last.here.crew last.here.there) s in omega (arith, sent, short)
 
+-- where it stands by at no moment from there on it is in use
+pub in_use : (number : ℕ) (start : Start) (before more : List Turn) → ((ts us : List Turn) → ts ++ us ≡ more → ServesAt number (at start (before ++ ts))) → (ts us : List Turn) → ts ++ us ≡ more
+    → IsInUse number start before (before ++ ts)
+in_use number start before more serves ts us is = record { serves = serves ts us is; asked = asked_so }
+  where
+    asked_so : (since later : List Turn) → before ++ ts ≡ (before ++ since) ++ later → (s : Side) → last_on_standby s false (steps_since (2 + number) (at start (before ++ since)) (at start (before ++ ts))) ≡ false
+    asked_so since later same s =
+        subst (λ xs. last_on_standby s false (steps_since (2 + number) (at start (before ++ since)) (at start xs)) ≡ false) (sym same)
+        (who_serves_since_asks_so start number (before ++ since) later
+        (λ xs ys so. subst (λ zs. ServesAt number (at start zs)) (sym (append_assoc before since xs))
+        (serves (since ++ xs) (ys ++ us)
+        (append_assoc since xs (ys ++ us) ∙ ap (λ zs. since ++ zs) (sym (append_assoc xs ys us) ∙ ap (λ zs. zs ++ us) so) ∙ sym (append_assoc since later us) ∙ ap (λ zs. zs ++ us) (sym whole) ∙ is))) s)
+      where
+        whole : ts ≡ since ++ later
+        whole = append_cancel before ts (since ++ later) (same ∙ append_assoc before since later)
+
 -- This is known of each moment at which a path of the number is open between two at which it is whole.
 module _ (number : ℕ) (Holds : PathState Carried → Type 0) (sound : (start : Start) → IsMildStart start → HoldsOfSound number Holds start)
     (along : (start : Start) → IsMildStart start → (before more : List Turn) → IsWhole number (at start before) → (last : IsWhole number (at start (before ++ more)))
     → ((s : Side) → segments_sent s last.path.link < 2 ^ 64 - 1) → (ts us : List Turn) → ts ++ us ≡ more → IsNowAt number Holds (at start (before ++ ts))) where
   pub path_brings_all : PathBringsAll number
   path_brings_all start before more most mild buffer h enough =
-      counted_courses_end values start (harms_at start number) (counted_with start number) (HoldsInUse number Holds start mild (sound start mild) buffer most) most 61100 (most_of_all start + most)
-      (λ turns. AllIsThere (at start turns)) (IsAwaited number start)
-      (waits_by_count number Holds start mild (sound start mild) buffer most) (counts start mild).harms (counts start mild).counts (λ turns low. (counts start mild).few most turns low)
+      counted_courses_end values start (harms_at start number) (counted_with start number) (HoldsInUse number Holds start mild (sound start mild) buffer most before) most 61100 (most_of_all start + most)
+      (λ turns. AllIsThere (at start turns)) (IsAwaited number start before)
+      (waits_by_count number Holds start mild (sound start mild) buffer most before) (counts start mild).harms (counts start mild).counts (λ turns low. (counts start mild).few most turns low)
       before more h.lawful
-      (λ ts us is. record { opened = along start mild before more h.first h.last (sent_few number start (before ++ more) h.short h.last) ts us is; used = h.used ts us is }) h.few enough
+      (λ ts us is. record { opened = along start mild before more h.first h.last (sent_few number start (before ++ more) h.short h.last) ts us is; used = h.used ts us is; passed = ts; is_passed = refl }) h.few enough
     where
       counts : (start : Start) → IsMildStart start → CountsOfPaths start number
       counts start mild = paths_are_counted start number mild.plain mild.fit
@@ -331,19 +379,14 @@ module _ (number : ℕ) (Holds : PathState Carried → Type 0) (sound : (start :
       parts : LastRounds 3 more
       parts = last_rounds 3 more (omega (arith, enough))
 
-  -- where its ends stand by at no moment
+  -- where its ends stand by at no moment from there on
   pub serving_path_delivers : ServingPathDelivers number
   serving_path_delivers start before more mild buffer h enough = path_delivers start before more (harms_at start number (before ++ more)) mild buffer (record {
     lawful = h.lawful;
     short = h.short;
     first = h.first;
     last = h.last;
-    used = λ ts us is. (
-        let all : (before ++ ts) ++ us ≡ before ++ more = append_assoc before ts us ∙ ap (λ xs. before ++ xs) is in
-        record {
-          serves = h.serves (before ++ ts) us all;
-          asked = λ begun s. who_serves_asks_so start number (before ++ ts) (λ xs ys same. h.serves xs (ys ++ us) (sym (append_assoc xs ys us) ∙ ap (λ zs. zs ++ us) same ∙ all)) begun s;
-        });
+    used = λ ts us is. in_use number start before more h.serves ts us is;
     few = omega arith;
   }) enough
 

@@ -22,18 +22,17 @@ use Rattle.whole_paths.specs.Rounds.{ticks_for}
 use Rattle.whole_paths.specs.Serving.{ServesAt}
 use Rattle.whole_paths.proofs.CountedCourses.{paths_are_counted}
 use Rattle.whole_paths.proofs.Delivery.{all_there_is_delivered}
-use Rattle.whole_paths.proofs.ManyCourses.{many_paths_bring_all}
+use Rattle.whole_paths.proofs.ManyCourses.{in_use, many_paths_bring_all}
 use Rattle.whole_paths.proofs.ManyPaths.{rounds_so, serves_back, starts_mildly}
 use Rattle.whole_paths.proofs.OpenCourses.{lawful_parts}
 use Rattle.whole_paths.proofs.OverOctets.{octets_are_as_far_as_values, there_by_books}
-use Rattle.whole_paths.proofs.Serving.{who_serves_asks_so}
 use Rattle.whole_paths.proofs.StayingWhole.{whole_paths_stay_whole}
 use Rattle.whole_paths.proofs.ThereInTime.{LastRounds, all_there_or, last_rounds}
 
 module _ (number : ℕ) (brings : PathBringsAll number) where
   module _ (start : Start) (mild : IsMildStart start) (buffer : 32 ≤ start.buffer) (before first rest : List Turn) (most : ℕ)
       (going : AreLawful values (first ++ rest) (reached values start before)) (short : length (before ++ (first ++ rest)) < 2 ^ 64 - 1) (whole : IsWhole number (reached values start before))
-      (serves : (ts us : List Turn) → ts ++ us ≡ before ++ (first ++ rest) → ServesAt number (reached values start ts)) (few : harms_at start number (before ++ (first ++ rest)) ≤ most)
+      (serves : (ts us : List Turn) → ts ++ us ≡ first ++ rest → ServesAt number (reached values start (before ++ ts))) (few : harms_at start number (before ++ (first ++ rest)) ≤ most)
       (three : 3 ≤ rounds_in rest) (enough : ticks_for 61100 (suc (most_of_all start + most)) < 100 * rounds_in first) where
     abbrev Ends : Type 0
     Ends = (outcome_of (reached values start (before ++ (first ++ rest))).crew ≡ Delivered) ⊎ AnEndDiedEarlyAt number values start (before ++ (first ++ rest))
@@ -57,12 +56,7 @@ module _ (number : ℕ) (brings : PathBringsAll number) where
       short = (let long = ap length same in let sum = length-append (before ++ first) rest in omega (arith, long, sum, short));
       first = whole;
       last = last;
-      used = λ ts us is. (
-          let all : (before ++ ts) ++ (us ++ rest) ≡ before ++ (first ++ rest) = append_assoc before ts (us ++ rest) ∙ ap (λ xs. before ++ xs) (sym (append_assoc ts us rest) ∙ ap (λ xs. xs ++ rest) is) in
-          record {
-            serves = serves (before ++ ts) (us ++ rest) all;
-            asked = λ begun s. who_serves_asks_so start number (before ++ ts) (λ xs ys eq. serves xs (ys ++ (us ++ rest)) (sym (append_assoc xs ys (us ++ rest)) ∙ ap (λ zs. zs ++ (us ++ rest)) eq ∙ all)) begun s;
-          });
+      used = λ ts us is. in_use number start before (first ++ rest) serves ts (us ++ rest) (sym (append_assoc ts us rest) ∙ ap (λ xs. xs ++ rest) is);
       few = (let up = (paths_are_counted start number mild.plain mild.fit).harms (before ++ first) rest in let all = ap (harms_at start number) same in omega (arith, few, up, all));
     }
 
@@ -80,13 +74,13 @@ module _ (number : ℕ) (brings : PathBringsAll number) where
 
   -- from when the path is whole
   pub served_path_ends : (start : Start) (mild : IsMildStart start) (buffer : 32 ≤ start.buffer) (before more : List Turn) (most : ℕ) → AreLawful values more (reached values start before)
-      → length (before ++ more) < 2 ^ 64 - 1 → IsWhole number (reached values start before) → ((ts us : List Turn) → ts ++ us ≡ before ++ more → ServesAt number (reached values start ts))
+      → length (before ++ more) < 2 ^ 64 - 1 → IsWhole number (reached values start before) → ((ts us : List Turn) → ts ++ us ≡ more → ServesAt number (reached values start (before ++ ts)))
       → harms_at start number (before ++ more) ≤ most → ticks_for 61100 (suc (most_of_all start + most)) + 300 < 100 * rounds_in more
       → EndsSo start (before ++ more)
   served_path_ends start mild buffer before more most lawful short first serves few ticks = subst (EndsSo start) whole_is
       (ends_so start mild buffer before parts.first parts.rest most
       (subst (λ ts. AreLawful values ts (reached values start before)) parts.is lawful)
-      (subst (λ ts. length ts < 2 ^ 64 - 1) (sym whole_is) short) first (λ ts us is. serves ts us (is ∙ whole_is))
+      (subst (λ ts. length ts < 2 ^ 64 - 1) (sym whole_is) short) first (λ ts us is. serves ts us (is ∙ sym parts.is))
       (let same = ap (harms_at start number) whole_is in omega (arith, same, few)) (let three = parts.last in omega (arith, three)) (let all = parts.all in omega (arith, all, ticks)))
     where
       parts : LastRounds 3 more
@@ -99,7 +93,7 @@ module _ (number : ℕ) (brings : PathBringsAll number) where
   delivers_or_dies_at script file_a file_b before more mild brief lawful first serves many = subst (EndsSo start) same_turns
       (served_path_ends start (starts_mildly script file_a file_b mild) (let least = mild.ranges.buffer.least in omega (arith, least)) begun more most
       (lawful_parts begun more (opened_world start) (subst (λ ts. AreLawful values ts (opened_world start)) (sym same_turns) lawful)).1
-      (subst (λ ts. length ts < 2 ^ 64 - 1) (sym same_turns) brief.few) first (λ ts us is. serves ts us (is ∙ same_turns))
+      (subst (λ ts. length ts < 2 ^ 64 - 1) (sym same_turns) brief.few) first (λ ts us is. serves (begun ++ ts) us (append_assoc begun ts us ∙ ap (λ xs. begun ++ xs) is ∙ same_turns))
       (let all = ap (harms_at start number) same_turns in omega (arith, all)) (rounds_so (ticks_for 61100 (suc (most_of_all start + most))) (rounds_in more) many))
     where
       start : Start
@@ -147,7 +141,8 @@ pub served_paths_end : (start : Start) (mild : IsMildStart start) (buffer : 32 �
     → length (before ++ more) < 2 ^ 64 - 1 → IsWhole 0 (reached values start before) → ((ts us : List Turn) → ts ++ us ≡ before ++ more → ServesAt 0 (reached values start ts))
     → harms_at start 0 (before ++ more) ≤ most → ticks_for 61100 (suc (most_of_all start + most)) + 300 < 100 * rounds_in more
     → (outcome_of (reached values start (before ++ more)).crew ≡ Delivered) ⊎ AnEndDiedEarlyAt 0 values start (before ++ more)
-served_paths_end = served_path_ends 0 many_paths_bring_all
+served_paths_end start mild buffer before more most lawful short first serves few ticks =
+    served_path_ends 0 many_paths_bring_all start mild buffer before more most lawful short first (λ ts us is. serves (before ++ ts) us (append_assoc before ts us ∙ ap (λ xs. before ++ xs) is)) few ticks
 
 pub ended_on : (start : Start) → IsMildStart start → (turns : List Turn) → (outcome_of (reached values start turns).crew ≡ Delivered) ⊎ AnEndDiedEarlyAt 0 values start turns
     → (outcome_of (reached octets start turns).crew ≡ Delivered) ⊎ AnEndDiedEarlyAt 0 octets start turns

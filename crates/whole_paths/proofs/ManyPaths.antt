@@ -14,7 +14,7 @@ use Rattle.world_laws.proofs.Joins.OverOctets.{same_end_at}
 use Rattle.world_laws.proofs.Promises.Made.{run_fresh}
 use Rattle.whole_paths.specs.CountedCourses.{harms_at}
 use Rattle.whole_paths.specs.Finish.{IsPathAt, IsWhole, rounds_in}
-use Rattle.whole_paths.specs.ManyPaths.{DeliversAt, FirstPathsDeliver, IsMildScript, patience_of_all}
+use Rattle.whole_paths.specs.ManyPaths.{DeliversAt, FirstPathsDeliver, IsMildScript, TakesOverAt, patience_of_all}
 use Rattle.whole_paths.specs.ManyCourses.{ServingPathDelivers}
 use Rattle.whole_paths.specs.Mild.{IsMildStart}
 use Rattle.whole_paths.specs.OverOctets.{IsAsFarAsOverValues}
@@ -43,15 +43,15 @@ serves_back number start turns mild h p here s =
 -- ---- a path of this number
 
 module _ (number : ℕ) (serving : ServingPathDelivers number) where
-  pub delivers_at : DeliversAt values number
-  delivers_at script file_a file_b before more mild brief lawful first last serves many =
-      subst Delivers same (λ whole all enough. serving start begun more (starts_mildly script file_a file_b mild) (let least = mild.ranges.buffer.least in omega (arith, least)) (record {
+  pub takes_over_at : TakesOverAt values number
+  takes_over_at script file_a file_b before more mild brief lawful first last serves many =
+      subst Delivers same (λ whole enough. serving start begun more (starts_mildly script file_a file_b mild) (let least = mild.ranges.buffer.least in omega (arith, least)) (record {
         lawful = (lawful_parts begun more (opened_world start) (subst (λ ts. AreLawful values ts (opened_world start)) (sym same) lawful)).1;
         short = subst (λ ts. length ts < 2 ^ 64 - 1) (sym same) brief.few;
         first = first;
         last = whole;
-        serves = all;
-      }) (rounds_so _ (rounds_in more) enough)) last serves many
+        serves = λ ts us is. subst (λ xs. ServesAt number (reached values start xs)) (sym (append_assoc before (Turn.Round ∷ []) ts)) (serves ts us is);
+      }) (rounds_so _ (rounds_in more) enough)) last many
     where
       start : Start
       start = start_of script file_a file_b
@@ -63,15 +63,14 @@ module _ (number : ℕ) (serving : ServingPathDelivers number) where
       same = append_assoc before (Turn.Round ∷ []) more
 
       Delivers : List Turn → Type 0
-      Delivers turns = IsWhole number (reached values start turns) → ((ts us : List Turn) → ts ++ us ≡ turns → ServesAt number (reached values start ts))
-          → patience_of_all script file_a file_b (harms_at start number turns) ≤ rounds_in more → outcome_of (reached values start turns).crew ≡ Delivered
+      Delivers turns = IsWhole number (reached values start turns) → patience_of_all script file_a file_b (harms_at start number turns) ≤ rounds_in more → outcome_of (reached values start turns).crew ≡ Delivered
 
-  pub delivers_at_in_octets : DeliversAt octets number
-  delivers_at_in_octets script file_a file_b before more mild brief lawful first last serves many =
+  pub takes_over_at_in_octets : TakesOverAt octets number
+  takes_over_at_in_octets script file_a file_b before more mild brief lawful first last serves many =
       let whole = far (before ++ Turn.Round ∷ more) in
       let begun = far (before ++ Turn.Round ∷ []) in
-      whole.outcome ∙ delivers_at script file_a file_b before more mild brief (whole.lawful.0 lawful) ((begun.whole number).0 first) ((whole.whole number).0 last)
-      (λ ts us is. serves_back number start ts (starts_mildly script file_a file_b mild) (serves ts us is))
+      whole.outcome ∙ takes_over_at script file_a file_b before more mild brief (whole.lawful.0 lawful) ((begun.whole number).0 first) ((whole.whole number).0 last)
+      (λ ts us is. serves_back number start (before ++ Turn.Round ∷ ts) (starts_mildly script file_a file_b mild) (serves ts us is))
       (subst (λ n. patience_of_all script file_a file_b n ≤ rounds_in more) (whole.harms number) many)
     where
       start : Start
@@ -79,6 +78,15 @@ module _ (number : ℕ) (serving : ServingPathDelivers number) where
 
       far : (turns : List Turn) → IsAsFarAsOverValues start turns
       far turns = let starts = starts_mildly script file_a file_b mild in octets_are_as_far_as_values start turns starts.plain.size starts.fit
+
+  -- where it stands by at no moment at all
+  pub delivers_at : DeliversAt values number
+  delivers_at script file_a file_b before more mild brief lawful first last serves many =
+      takes_over_at script file_a file_b before more mild brief lawful first last (λ ts us is. serves (before ++ Turn.Round ∷ ts) us (append_assoc before (Turn.Round ∷ ts) us ∙ ap (λ zs. before ++ Turn.Round ∷ zs) is)) many
+
+  pub delivers_at_in_octets : DeliversAt octets number
+  delivers_at_in_octets script file_a file_b before more mild brief lawful first last serves many =
+      takes_over_at_in_octets script file_a file_b before more mild brief lawful first last (λ ts us is. serves (before ++ Turn.Round ∷ ts) us (append_assoc before (Turn.Round ∷ ts) us ∙ ap (λ zs. before ++ Turn.Round ∷ zs) is)) many
 
 -- ---- path 0
 

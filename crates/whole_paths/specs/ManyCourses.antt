@@ -17,10 +17,12 @@ use Rattle.whole_paths.specs.Rounds.{ticks_for}
 use Rattle.whole_paths.specs.Serving.{ServesAt}
 
 module _ (number : ℕ) (start : Start) where
-  -- The path of this number stands by at neither end after these turns, nor did it when it asked for bytes last, however many of its steps are left out.
-  pub record IsInUse (turns : List Turn) : Type 0 where
+  -- The path of this number stands by at neither end after these turns, of which the first ones are left out; nor did it when it asked for bytes last, in
+  -- however many of the last turns.
+  pub record IsInUse (before turns : List Turn) : Type 0 where
     pub serves : ServesAt number (reached values start turns)
-    pub asked : (begun : WorldState Carried) (s : Side) → last_on_standby s false (steps_since (2 + number) begun (reached values start turns)) ≡ false
+    pub asked : (since later : List Turn) → turns ≡ (before ++ since) ++ later → (s : Side)
+        → last_on_standby s false (steps_since (2 + number) (reached values start (before ++ since)) (reached values start turns)) ≡ false
 
   module _ (before more : List Turn) where
     -- It is whole, and in use by each of these lawful turns, in fewer than 2^64 - 1; and no more than so many segments of it are harmed.
@@ -29,16 +31,16 @@ module _ (number : ℕ) (start : Start) where
       pub short : length (before ++ more) < 2 ^ 64 - 1
       pub first : IsWhole number (reached values start before)
       pub last : IsWhole number (reached values start (before ++ more))
-      pub used : (ts us : List Turn) → ts ++ us ≡ more → IsInUse (before ++ ts)
+      pub used : (ts us : List Turn) → ts ++ us ≡ more → IsInUse before (before ++ ts)
       pub few : harms_at start number (before ++ more) ≤ most
 
-    -- It is whole by each of these lawful turns, and its ends stand by at no moment of the connection.
+    -- It is whole by each of these lawful turns, and its ends stand by at no moment from there on, whatever they did before.
     pub record NeverStandsBy : Type 0 where
       pub lawful : AreLawful values more (reached values start before)
       pub short : length (before ++ more) < 2 ^ 64 - 1
       pub first : IsWhole number (reached values start before)
       pub last : IsWhole number (reached values start (before ++ more))
-      pub serves : (ts us : List Turn) → ts ++ us ≡ before ++ more → ServesAt number (reached values start ts)
+      pub serves : (ts us : List Turn) → ts ++ us ≡ more → ServesAt number (reached values start (before ++ ts))
 
 -- of the path of this number
 module _ (number : ℕ) where
@@ -53,7 +55,7 @@ module _ (number : ℕ) where
   PathDelivers = (start : Start) (before more : List Turn) (most : ℕ) → IsMildStart start → 32 ≤ start.buffer → StaysInUse number start before more most
       → ticks_for 61100 (suc (most_of_all start + most)) + 300 < 100 * rounds_in more → outcome_of (reached values start (before ++ more)).crew ≡ Delivered
 
-  -- so they are where its ends stand by at no moment
+  -- so they are where its ends stand by at no moment from there on
   abbrev pub ServingPathDelivers : Type 0
   ServingPathDelivers = (start : Start) (before more : List Turn) → IsMildStart start → 32 ≤ start.buffer → NeverStandsBy number start before more
       → ticks_for 61100 (suc (most_of_all start + harms_at start number (before ++ more))) + 300 < 100 * rounds_in more

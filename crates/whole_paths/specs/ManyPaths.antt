@@ -35,7 +35,19 @@ module _ {C : Type 0} (k : Codec C) where
       → patience_of_all script file_a file_b (harmed k number turns (opened script file_a file_b)) ≤ rounds_in more
       → outcome_of (run_of k script file_a file_b turns).crew ≡ Delivered
 
+  -- So they are where it stands by at neither end from there on, whatever it did before: such a path takes over where others end.
+  abbrev pub TakesOverAt : ℕ → Type 0
+  TakesOverAt number = (script : Script) (file_a file_b : List ℕ) (before more : List Turn) → IsMildScript script file_a file_b
+      → let turns = before ++ Turn.Round ∷ more in IsBrief script turns → AreLawful k turns (opened script file_a file_b)
+      → IsWhole number (run_of k script file_a file_b (before ++ Turn.Round ∷ [])) → IsWhole number (run_of k script file_a file_b turns)
+      → ((ts us : List Turn) → ts ++ us ≡ more → ServesAt number (run_of k script file_a file_b (before ++ Turn.Round ∷ ts)))
+      → patience_of_all script file_a file_b (harmed k number turns (opened script file_a file_b)) ≤ rounds_in more
+      → outcome_of (run_of k script file_a file_b turns).crew ≡ Delivered
+
   -- whichever path it is
+  abbrev pub EachPathTakesOver : Type 0
+  EachPathTakesOver = (number : ℕ) → TakesOverAt number
+
   abbrev pub EachWholePathDelivers : Type 0
   EachWholePathDelivers = (number : ℕ) → DeliversAt number
 

@@ -18,3 +18,8 @@ module _ {C : Type 0} where
   abbrev pub WhoServesAsksSo : Codec C → Type 0
   WhoServesAsksSo k = (start : Start) (number : ℕ) (turns : List Turn) → ((ts us : List Turn) → ts ++ us ≡ turns → ServesAt number (reached k start ts))
       → (begun : WorldState C) (s : Side) → last_on_standby s false (steps_since (2 + number) begun (reached k start turns)) ≡ false
+
+  -- Where none does after these turns, nor after any of the first of more, the path didn't stand by when it asked last in those, if it did.
+  abbrev pub WhoServesSinceAsksSo : Codec C → Type 0
+  WhoServesSinceAsksSo k = (start : Start) (number : ℕ) (since more : List Turn) → ((ts us : List Turn) → ts ++ us ≡ more → ServesAt number (reached k start (since ++ ts)))
+      → (s : Side) → last_on_standby s false (steps_since (2 + number) (reached k start since) (reached k start (since ++ more))) ≡ false

@@ -223,6 +223,7 @@ pub use laws::who_waits_has_a_timer;
 pub use laws::writers_go_on;
 pub use many_laws::begun_texts_end;
 pub use many_laws::each_missing_byte_is_waited_for;
+pub use many_laws::each_path_takes_over;
 pub use many_laws::each_regular_path_delivers;
 pub use many_laws::each_whole_path_delivers;
 pub use many_laws::each_whole_path_ends;

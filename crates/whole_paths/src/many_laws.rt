@@ -8,7 +8,7 @@ ghost use Rattle.whole_paths.specs.FewLossesEnd.{FewLossesEndNoFirst};
 ghost use Rattle.whole_paths.specs.FirstTexts.{BegunTextsEnd, FewFirstTextsFinish, FewFirstTextsGoOn, FirstTextsDeliver, FirstTextsEnd, FirstTextsFinish, FirstTextsGoOn, RegularFirstPathsTellNone};
 ghost use Rattle.whole_paths.specs.ManyCourses.{ManyPathsBringAll, ManyPathsDeliver, ServingPathsDeliver};
 ghost use Rattle.whole_paths.specs.ManyEnds.{EachWholePathEnds, FirstPathsEnd};
-ghost use Rattle.whole_paths.specs.ManyPaths.{EachWholePathDelivers, FirstPathsDeliver};
+ghost use Rattle.whole_paths.specs.ManyPaths.{EachPathTakesOver, EachWholePathDelivers, FirstPathsDeliver};
 ghost use Rattle.whole_paths.specs.ManyWaits.{EachMissingByteIsWaitedFor};
 ghost use Rattle.whole_paths.specs.RegularPaths.{EachRegularPathDelivers};
 ghost use Rattle.whole_paths.specs.Mild.{IsPromisedMildly};
@@ -169,6 +169,15 @@ pub fn few_losses_end_no_first()
 pub fn each_whole_path_delivers()
     ensures octets { EachWholePathDelivers octets }
     ensures values { EachWholePathDelivers values }
+{}
+
+/// A law: so they are where the path stands by at neither end from there on, whatever it did before: a backup takes over where the others end (RFC 8684,
+/// section 3.3.8).
+///
+/// The premises are those of `each_whole_path_delivers`, but that nothing is said of standing by as long as the path isn't whole.
+pub fn each_path_takes_over()
+    ensures octets { EachPathTakesOver octets }
+    ensures values { EachPathTakesOver values }
 {}
 
 /// A law: once any path is whole at the end of a round, both files are delivered when rounds enough have ended, or an end of this path died before all of
