@@ -1,7 +1,6 @@
 -- Each end of a path that joined has the other's key as soon as it has begun, and no key is ever said to it (RFC 8684, section 3.2).
-use Rattle.std.proofs.Common.{◌≡◌, refl, sym, ap, ◌∙◌, subst, ℕ, not, ◌||◌, true, false, true≢false, Option, Some, None, is_some, IfSome, List}
+use Rattle.std.proofs.Common.{◌≡◌, refl, ap, subst, ℕ, not, ◌||◌, true, false, true≢false, Option, Some, None, is_some, IfSome, List}
 use Rattle.std.specs.List.{slice_get}
-use Rattle.std.proofs.lemmas.Bool.{both_ways}
 use Rattle.sides.specs.declared.side.Side.{Side}
 use Rattle.sides.specs.declared.side.Side.TheVariants.{A, B}
 use Rattle.subflow_tcp.specs.States.{is_closed_to_segments}
@@ -21,7 +20,7 @@ use Rattle.world_laws.specs.Members.{HoldsOfKind}
 use Rattle.world_laws.specs.Openings.{Start, opened_world}
 use Rattle.world_laws.specs.Worlds.{Turn, WorldState, world_run}
 use Rattle.world_laws.proofs.Joins.TokensAgree.{opened_met, run_met}
-use Rattle.world_laws.proofs.Keys.AreDrawn.{Deed, EndIs, ItemIs, Needs, Secrets, is_woken}
+use Rattle.world_laws.proofs.Keys.AreDrawn.{Deed, EndIs, ItemIs, Needs, Secrets}
 use Rattle.world_laws.proofs.Keys.Held.{PairIs, PathIs, end_is, pair_found}
 use Rattle.world_laws.proofs.Keys.StepsKeep.{item_found}
 use Rattle.world_laws.proofs.Keys.ToldAreOwn.{MemberIs}

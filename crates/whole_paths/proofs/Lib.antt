@@ -86,6 +86,13 @@ pub mod Hearing
 pub mod Hears
 pub mod InRounds
 pub mod InTime
+pub mod EachPath
+pub mod JoinedEnds
+pub mod JoinedFinite
+pub mod JoinedKeys
+pub mod JoinedThirds
+pub mod OpenJoins
+pub mod SoundCourses
 pub mod Keeping
 pub mod Keyed
 pub mod KeysStay
@@ -349,7 +356,6 @@ pub mod JoinedLow
 pub mod JoinedCopies
 pub mod JoinedTreated
 pub mod JoinedUnbroken
-pub mod JoinedKeys
 pub mod ByPaths
 pub mod OnlyEvents
 pub mod JoinedPaths

@@ -56,6 +56,7 @@ pub mod Harms
 pub mod Hearing
 pub mod InHand
 pub mod InTime
+pub mod JoinedEnds
 pub mod Kept
 pub mod KnownEnds
 pub mod KnownModes
