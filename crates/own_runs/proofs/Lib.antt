@@ -9,6 +9,7 @@ mod AgendaFits
 mod AllKept
 mod AnswersAsked
 mod AnswersShow
+mod Arising
 mod Bearing
 mod BearsKnow
 mod BearsPlain
@@ -63,6 +64,7 @@ mod LanePlaces
 mod LastLanes
 mod LateJoins
 mod Learning
+mod Leaving
 mod LineLinks
 mod Lines
 mod LinesKept
@@ -120,11 +122,16 @@ mod SeenFiles
 mod Segments
 mod SendingModes
 mod SentGrows
+mod Settled
 mod ShortOctets
 mod ShortPieces
 mod ShownAcks
 mod ShownSeen
 mod Speaking
+mod StandsEver
+mod StandsFirst
+mod StandsOn
+mod StandsWorld
 mod Syns
 mod Telling
 mod TellsPlaces
