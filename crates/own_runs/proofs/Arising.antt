@@ -30,7 +30,6 @@ use Rattle.sides.specs.declared.side.Side.{Side}
 use Rattle.subflow_tcp.specs.Expiring.{after_expiry, is_sixth}
 use Rattle.subflow_tcp.specs.State.{EndState}
 use Rattle.subflow_tcp.specs.States.{is_dead, is_half_open}
-use Rattle.subflow_tcp.specs.Taking as taking
 use Rattle.subflow_tcp.specs.Taking.{after_death}
 use Rattle.subflow_tcp.specs.declared.handshake.State.{State as EndPhase}
 use Rattle.subflow_tcp.specs.declared.verdicts.Meaning.{Meaning}

@@ -84,7 +84,6 @@ mod Nonces
 mod Numbered
 mod Offering
 mod OneConnection
-mod OnePathLines
 mod OpenCounts
 mod OpenFlows
 mod Openers
@@ -93,6 +92,7 @@ mod OpeningArrivals
 mod OpeningEnds
 mod OpeningHears
 mod OpeningRuns
+mod OtherPaths
 mod Own
 mod OwnFlows
 mod OwnOptions
@@ -111,6 +111,7 @@ mod PlacesKept
 mod PlacesTrace
 mod Placing
 mod PlainSends
+mod QuietBeside
 mod Reached
 mod ReadEnds
 mod ReadingBack
