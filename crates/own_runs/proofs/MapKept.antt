@@ -42,7 +42,7 @@ use Rattle.own_runs.proofs.Own.{Drawn, IsOwn, ValueIs, own_key}
 use Rattle.own_runs.proofs.OwnFlows.{FlowOn, KeysOwn, NonceIs}
 use Rattle.own_runs.proofs.OwnOptions.{IsKeyed, IsOf, key_is, options_so, readable_so}
 use Rattle.own_runs.proofs.OpenFlows.{OpensBy}
-use Rattle.own_runs.proofs.OwnPackets.{AllHold, IsLeft, SegmentsKeep, opens_so, sender_so}
+use Rattle.own_runs.proofs.OwnPackets.{AllHold, IsLeft, NothingMore, SegmentsKeep, opens_so, sender_so}
 use Rattle.own_runs.proofs.Own.{is_a, own_initial}
 use Rattle.own_runs.proofs.OwnUntold.{base_so, numbered}
 use Rattle.own_runs.proofs.Telling.{others_keep}
@@ -361,7 +361,7 @@ module _ (d : Drawn) (limit : Side → ℕ) (few : (s : Side) → limit s < 2 ^ 
       ),
     )
 
-    abbrev pub keep : SegmentsKeep d (OpensBy S) IsGood BookGood LanesFine
+    abbrev pub keep : SegmentsKeep d (OpensBy S) IsGood BookGood LanesFine NothingMore
     keep = record {
       own = λ seen g. g.fine.own;
       new_lanes = λ path. record { opener = new_lane path A; other = new_lane path B };
@@ -382,7 +382,7 @@ module _ (d : Drawn) (limit : Side → ℕ) (few : (s : Side) → limit s < 2 ^ 
             seen = (h s).seen;
             fin = (h s).fin;
           }) h;
-      flow = λ at packet seen g index flow f opens belongs is keys left k h lanes.
+      flow = λ at packet seen g index flow f opens belongs is keys left k h lanes more.
           flow_so at packet seen g index flow f opens belongs is keys left k (record { book = h; lanes = lanes });
     }
 

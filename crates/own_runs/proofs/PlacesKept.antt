@@ -41,7 +41,7 @@ use Rattle.own_runs.proofs.MapPositions.{Bears}
 use Rattle.own_runs.proofs.Own.{Drawn, IsOwn, ValueIs, is_a, own_initial, own_key}
 use Rattle.own_runs.proofs.OwnFlows.{Each, FlowOn, KeysOwn, NonceIs}
 use Rattle.own_runs.proofs.OwnOptions.{IsOf, key_is, options_so, readable_so}
-use Rattle.own_runs.proofs.OwnPackets.{AllHold, IsLeft, PacketIs, SegmentsKeep, opens_so, segment_so, sender_so}
+use Rattle.own_runs.proofs.OwnPackets.{AllHold, IsLeft, NothingMore, PacketIs, SegmentsKeep, opens_so, segment_so, sender_so}
 use Rattle.own_runs.proofs.OwnUntold.{base_so, numbered}
 use Rattle.own_runs.proofs.Telling.{others_keep}
 use Rattle.own_runs.proofs.TokenState.{nothing_holds}
@@ -218,7 +218,7 @@ module _ (calm : Bool) (d : Drawn) (limit : Side → ℕ) (few : (s : Side) → 
   new_lane path s =
       record { placed = λ p. tt; octets = λ p. tt; waiting = All-nil (IsWaiting calm (limit s) (few s) (content s) (first_at s) (where_at path s)) }
 
-  keep : SegmentsKeep d Any IsTelling BookPlaced LanesPlaced
+  keep : SegmentsKeep d Any IsTelling BookPlaced LanesPlaced NothingMore
   keep = record {
     own = λ seen p. p.own;
     new_lanes = λ path. record { opener = new_lane path A; other = new_lane path B };
@@ -229,7 +229,7 @@ module _ (calm : Bool) (d : Drawn) (limit : Side → ℕ) (few : (s : Side) → 
           top = was.top;
           untold = others_keep (is_place calm) rule.Token wrong.packet (Found (Number32 wrong.expected wrong.was)) (stream_at s book).broken refl was.untold;
         }) h;
-    flow = λ at packet seen p index flow f any belongs is keys left k h lanes.
+    flow = λ at packet seen p index flow f any belongs is keys left k h lanes more.
         flow_so at packet seen p index flow f belongs is keys left k (record { book = h; lanes = lanes });
   }
 
@@ -253,6 +253,7 @@ module _ (calm : Bool) (d : Drawn) (limit : Side → ℕ) (few : (s : Side) → 
       by None is = h
       by (Some seen) p =
           segment_so d Any IsTelling BookPlaced LanesPlaced keep at n seen p state (λ more. new_placed) (any (taken state.seen n seen true).now.flows) h
+          (λ wrong held path index flow there opener c book at_book lanes at_lanes. tt)
 
   begins : Holds nothing_judged
   begins = record { seen = (nothing_holds d).own; books = λ i book at. absurd (none i at); lanes = λ i lanes at. absurd (none i at) }

@@ -209,8 +209,9 @@ fn judge_from<'a>(
 
 // Behind which place the other side's stream came in plain TCP, where the segment has an MP_FASTCLOSE.
 fn plain_beside(book: &Book<'_>, lanes: &Lanes, judging: &Judging<'_>, keyed: &Keyed<'_>) -> u64
-    ensures { result ≡ plain_beside (map value_of keyed.now.options.items) judging.now.flow.opening (stream_at (peer judging.now.side)
-        (book_of book.now)) (peers_lane (facts_of judging.now) (lanes_of lanes.now)) }
+    ensures { result
+        ≡ plain_beside (map value_of keyed.now.options.items) judging.now.flow.opening (stream_at (peer judging.now.side) (book_of book.now))
+        (peers_lane (facts_of judging.now) (lanes_of lanes.now)) }
 {
     if closes_fast(keyed) {
         plain_on(book, lanes, judging)
@@ -221,8 +222,8 @@ fn plain_beside(book: &Book<'_>, lanes: &Lanes, judging: &Judging<'_>, keyed: &K
 
 // It comes so on the connection's first subflow alone.
 fn plain_on(book: &Book<'_>, lanes: &Lanes, judging: &Judging<'_>) -> u64
-    ensures { result ≡ plain_on judging.now.flow.opening (stream_at (peer judging.now.side)
-        (book_of book.now)) (peers_lane (facts_of judging.now) (lanes_of lanes.now)) }
+    ensures { result
+        ≡ plain_on judging.now.flow.opening (stream_at (peer judging.now.side) (book_of book.now)) (peers_lane (facts_of judging.now) (lanes_of lanes.now)) }
 {
     match judging.flow.opening {
         Opening::Join { .. } => 0,

@@ -86,7 +86,8 @@ pub fn judge_ack(
 }
 
 fn ack_facts(peers: &Stream<'_>, lane: &Lane, at_sender: bool, plain: u64, first: u64) -> AckFacts
-    ensures value { result ≡ ack_facts at_sender plain first (stream_of peers.now) (lane_of lane.now) }
+    ensures value { result
+        ≡ ack_facts at_sender plain first (stream_of peers.now) (lane_of lane.now) }
     ensures few { result.whole < 2 ^ 63 }
     ensures top { result.top < 2 ^ 63 }
 {

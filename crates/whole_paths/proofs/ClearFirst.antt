@@ -92,10 +92,10 @@ use Rattle.whole_paths.proofs.Duties.{answered_steps, passed_steps}
 use Rattle.whole_paths.proofs.EndsUntold.{a_is_told_no_end_before}
 use Rattle.whole_paths.proofs.Exchanges.{Shown, each_shown}
 use Rattle.whole_paths.proofs.Finishing.{steps_push}
-use Rattle.whole_paths.proofs.FinishedThere.{what_is_finished_is_there}
+use Rattle.whole_paths.proofs.FinishedThere.{each_finished_is_there}
 use Rattle.whole_paths.proofs.FirstSigns.{asks_for_its_end}
 use Rattle.whole_paths.proofs.GoingOn.{plain_none}
-use Rattle.whole_paths.proofs.HeardRemovals.{answered_sheds, comes_sheds, passed_sheds}
+use Rattle.whole_paths.proofs.HeardItems.{answered_sheds, comes_sheds, passed_sheds}
 use Rattle.whole_paths.proofs.InTime.{is_event}
 use Rattle.whole_paths.proofs.MappedCopies.{EndBehind, KindBehind, each_behind}
 use Rattle.whole_paths.proofs.Mild.{links_are_mild, mapping_is_kept}
@@ -321,7 +321,7 @@ event_says (Some (happenings.Fires s tick)) r p copies is = inl ((comes_sheds va
 abbrev pub Quiet : PathEnd → Type 0
 Quiet e = (e.tcp.send.nxt ≤ 1) × (e.tcp.send.finished ≡ false)
 
-quiet_on : (now : ℕ) (e f : PathEnd) → SubflowSteps now e.tcp f.tcp → NextStays e f → Quiet e → Quiet f
+pub quiet_on : (now : ℕ) (e f : PathEnd) → SubflowSteps now e.tcp f.tcp → NextStays e f → Quiet e → Quiet f
 quiet_on now e f steps same h = (
   let low = h.0 in omega (arith, same, low),
   ⊎_elim (λ still. still ∙ h.1) (λ rises. absurd (omega (arith, same, rises))) (steps_push now e.tcp f.tcp steps).goes,
@@ -522,7 +522,7 @@ syns_alone s p shown behind reached kinds quiet = record { each = λ i r there. 
         let end : end_of r ≡ r.pos + length r.piece = ap (λ kind. r.pos + occupied kind r.piece) is in
         let high = within i r there in let few = quiet.0 in omega (arith, some, whole, low, end, high, few))
 
-module _ (start : Start) (plan : PathPlan) (one : start.paths ≡ plan ∷ []) (mild : IsMildStart start) where
+module _ (start : Start) (mild : IsMildStart start) where
   known_at : (turns : List Turn) (c : ActorCrew Carried) → slice_get (reached values start turns).crew 2 ≡ Some c → (m : Actor Carried) → c.member ≡ m → Of (Known start) m
   known_at turns c there (App a) is = tt
   known_at turns c there (Path p) is = record {
@@ -545,8 +545,8 @@ module _ (start : Start) (plan : PathPlan) (one : start.paths ≡ plan ∷ []) (
       by : p.b.sending.close.own_acked ≡ true → (b : Bool) → p.a.modes.clear ≡ b → b ≡ true
       by acked true clear = refl
       by acked false unclear = absurd
-          (let all = subst (Of (FinishedIsThere (reached values start turns))) is (what_is_finished_is_there start plan turns one mild 2 c there) B (HasFinished.acknowledged acked) in
-          let none = a_is_told_no_end_before start plan turns one mild p here unclear in let some = all.known in cc)
+          (let all = subst (Of (FinishedIsThere (reached values start turns))) is (each_finished_is_there start turns mild 2 c there) B (HasFinished.acknowledged acked) in
+          let none = a_is_told_no_end_before start turns mild p here unclear in let some = all.known in cc)
 
   known : (turns : List Turn) → OfFirst (Known start) (reached values start turns)
   known turns = record { each = λ c there. known_at turns c there c.member refl }
@@ -578,7 +578,7 @@ module _ (start : Start) (plan : PathPlan) (one : start.paths ≡ plan ∷ []) (
       by z Becomes.begins_anew = next_quiet start p (sure_p.signs.quiet unclear)
 
 pub b_is_clear_first : BIsClearFirst
-b_is_clear_first start plan turns one mild p here = (sure_at start plan one mild turns p here).sure
+b_is_clear_first start turns mild p here = (sure_at start mild turns p here).sure
 
 pub b_sends_nothing_before : BSendsNothingBefore
-b_sends_nothing_before start plan turns one mild p here unclear = ((sure_at start plan one mild turns p here).quiet unclear).0
+b_sends_nothing_before start turns mild p here unclear = ((sure_at start mild turns p here).quiet unclear).0

@@ -1,6 +1,6 @@
--- Over one path A's side learns where B's stream ends only where A's end may send a DSS.
-use Rattle.std.proofs.Common.{◌≡◌, refl, sym, subst, ap, ◌∙◌, ⊎_elim, ℕ, zero, suc, Bool, true, false, nat_lt, if◌then◌else◌, Option, Some, None, is_some, List, [], ◌∷◌, map}
-use Rattle.std.specs.List.{slice_get}
+-- A's side learns where B's stream ends only where A's end of path 0 may send a DSS: until then no other path does anything.
+use Rattle.std.proofs.Common.{◌≡◌, refl, sym, subst, ap, ◌∙◌, ⊎_elim, ℕ, zero, suc, Bool, true, false, true≢false, nat_lt, if◌then◌else◌, Option, Some, None, is_some, List, [], ◌∷◌, map}
+use Rattle.std.specs.List.{list_all, slice_get}
 use Rattle.std.proofs.lemmas.Option.{same_Some}
 use Rattle.stream_lanes.proofs.Lists.{in_map, in_set}
 use Rattle.sides.specs.declared.side.Side.{Side}
@@ -25,10 +25,13 @@ use Rattle.world_laws.specs.StampedBooks.{answer_to}
 use Rattle.world_laws.specs.Actors.{member_next, member_takes}
 use Rattle.world_laws.proofs.Falls.ClearStays.{next_clear, takes_clear, unclear_before}
 use Rattle.whole_paths.proofs.ByTurns.{Of, each_moment}
+use Rattle.whole_paths.proofs.LoneFirst.{others_sleep_before}
+use Rattle.world_laws.proofs.Joins.Asleep.{AreIdle, IsAsleep, is_idle}
+use Rattle.std.proofs.lemmas.Bool.{and_parts, both_ways}
 use Rattle.path_core.specs.Values.{Carried, values}
 use Rattle.world_laws.specs.declared.member.Member.TheVariants.{App, Path}
 use Rattle.world_laws.specs.Actors.{Actor, ActorCrew, member_asks}
-use Rattle.world_laws.specs.Openings.{PathPlan, Start, opened_world, paths_from}
+use Rattle.world_laws.specs.Openings.{Start, opened_world}
 use Rattle.world_laws.specs.Promises.{arrived_at}
 use Rattle.world_laws.specs.RoundDone.{reached}
 use Rattle.world_laws.specs.Worlds.{Turn, WorldState, asked, begins, crew_after, greatest}
@@ -99,7 +102,21 @@ if_so : (P : Ask → Type 0) (b : Bool) (x y : Ask) → P x → P y → P (if b 
 if_so P true x y one other = one
 if_so P false x y one other = other
 
+-- a duty may tell A's side where the stream ends
+abbrev tells_end : Duty → Bool
+tells_end (Duty.Ask (AskDuty.HeardFin A index)) = true
+tells_end (Duty.Ask (AskDuty.SubflowFin A)) = true
+tells_end _ = false
+
+idle_tells : (d : Duty) → is_idle d ≡ true → tells_end d ≡ false
+idle_tells (Duty.Ask (AskDuty.HeardFin A index)) idle = absurd (true≢false (sym idle))
+idle_tells (Duty.Ask (AskDuty.SubflowFin A)) idle = absurd (true≢false (sym idle))
+idle_tells _ idle = refl
+
 module _ (p : PathState Carried) where
+  none_at : (index : ℕ) → HearsNoEnd p.a → data_fin_of index p.a ≡ None
+  none_at index quiet = ap (λ (fins : List ℕ). item_at index fins) quiet.fins
+
   data_untold : (s : Side) (o : Option Record) → Untold (data_ask values s o p)
   data_untold s None = tt
   data_untold s (Some r) = tt
@@ -158,44 +175,50 @@ module _ (p : PathState Carried) where
   item_untold s (Some Heard.Fail) = fail_asks_so Untold s p tt tt
   item_untold s _ = tt
 
-  module _ (quiet : HearsNoEnd p.a) (plain : place_of_fin p.a ≡ None) where
-    none_at : (index : ℕ) → data_fin_of index p.a ≡ None
-    none_at index = ap (λ (fins : List ℕ). item_at index fins) quiet.fins
+  -- but for a duty that may tell A's side an end
+  first_untold : (d : Duty) → (tells_end d ≡ true → HearsNoEnd p.a × (place_of_fin p.a ≡ None)) → Untold (ask_for values d p)
+  first_untold (Duty.Send (SendDuty.Update s)) quiet = tt
+  first_untold (Duty.Step (StepDuty.Data s)) quiet = data_untold s (first_unsent (end_at s p))
+  first_untold (Duty.Silent (SilentDuty.Timer s)) quiet = tt
+  first_untold (Duty.Step StepDuty.Events) quiet = step_untold (next_event p)
+  first_untold (Duty.Ask (AskDuty.Window A)) quiet = tt
+  first_untold (Duty.Ask (AskDuty.Window B)) quiet = tt
+  first_untold (Duty.Ask (AskDuty.PeerKey s)) quiet = key_untold s (key_heard (end_at s p).treated.items)
+  first_untold (Duty.Ask (AskDuty.JoinHeard s)) quiet = join_untold s (asked_at s p)
+  first_untold (Duty.Ask (AskDuty.Opened s)) quiet = opened_untold s (keys_heard (end_at s p).treated.items)
+  first_untold (Duty.Step (StepDuty.Heard s index)) quiet = item_untold s (item_of index (end_at s p))
+  first_untold (Duty.Step (StepDuty.PlainAck s)) quiet = plain_ack_untold s
+  first_untold (Duty.Ask (AskDuty.SubflowAck s)) quiet = subflow_acks_so Untold s (end_at s p) tt (λ next. tt)
+  first_untold (Duty.Step (StepDuty.Unmapped s)) quiet = break_untold s 6
+  first_untold (Duty.Ask (AskDuty.SubflowFin A)) quiet = fin_a (place_of_fin p.a) (quiet refl).1
+  first_untold (Duty.Ask (AskDuty.SubflowFin B)) quiet = fin_b (place_of_fin p.b)
+  first_untold (Duty.Ask (AskDuty.Edge s)) quiet = piece_untold s (piece_of s p)
+  first_untold (Duty.Ask (AskDuty.HeardFin A index)) quiet = fin_a (data_fin_of index p.a) (none_at index (quiet refl).0)
+  first_untold (Duty.Ask (AskDuty.HeardFin B index)) quiet = fin_b (data_fin_of index p.b)
+  first_untold (Duty.Ask (AskDuty.Rate s)) quiet = rate_untold s (end_at s p).tcp.congestion.pending
+  first_untold (Duty.Ask (AskDuty.AckOut A)) quiet = tt
+  first_untold (Duty.Ask (AskDuty.AckOut B)) quiet = tt
+  first_untold (Duty.Ask (AskDuty.BreakAck A reason)) quiet = tt
+  first_untold (Duty.Ask (AskDuty.BreakAck B reason)) quiet = tt
+  first_untold (Duty.Ask (AskDuty.AbortReceive A)) quiet = tt
+  first_untold (Duty.Ask (AskDuty.AbortReceive B)) quiet = tt
+  first_untold _ quiet = tt
 
-    first_untold : (d : Duty) → Untold (ask_for values d p)
-    first_untold (Duty.Send (SendDuty.Update s)) = tt
-    first_untold (Duty.Step (StepDuty.Data s)) = data_untold s (first_unsent (end_at s p))
-    first_untold (Duty.Silent (SilentDuty.Timer s)) = tt
-    first_untold (Duty.Step StepDuty.Events) = step_untold (next_event p)
-    first_untold (Duty.Ask (AskDuty.Window A)) = tt
-    first_untold (Duty.Ask (AskDuty.Window B)) = tt
-    first_untold (Duty.Ask (AskDuty.PeerKey s)) = key_untold s (key_heard (end_at s p).treated.items)
-    first_untold (Duty.Ask (AskDuty.JoinHeard s)) = join_untold s (asked_at s p)
-    first_untold (Duty.Ask (AskDuty.Opened s)) = opened_untold s (keys_heard (end_at s p).treated.items)
-    first_untold (Duty.Step (StepDuty.Heard s index)) = item_untold s (item_of index (end_at s p))
-    first_untold (Duty.Step (StepDuty.PlainAck s)) = plain_ack_untold s
-    first_untold (Duty.Ask (AskDuty.SubflowAck s)) = subflow_acks_so Untold s (end_at s p) tt (λ next. tt)
-    first_untold (Duty.Step (StepDuty.Unmapped s)) = break_untold s 6
-    first_untold (Duty.Ask (AskDuty.SubflowFin A)) = fin_a (place_of_fin p.a) plain
-    first_untold (Duty.Ask (AskDuty.SubflowFin B)) = fin_b (place_of_fin p.b)
-    first_untold (Duty.Ask (AskDuty.Edge s)) = piece_untold s (piece_of s p)
-    first_untold (Duty.Ask (AskDuty.HeardFin A index)) = fin_a (data_fin_of index p.a) (none_at index)
-    first_untold (Duty.Ask (AskDuty.HeardFin B index)) = fin_b (data_fin_of index p.b)
-    first_untold (Duty.Ask (AskDuty.Rate s)) = rate_untold s (end_at s p).tcp.congestion.pending
-    first_untold (Duty.Ask (AskDuty.AckOut A)) = tt
-    first_untold (Duty.Ask (AskDuty.AckOut B)) = tt
-    first_untold (Duty.Ask (AskDuty.BreakAck A reason)) = tt
-    first_untold (Duty.Ask (AskDuty.BreakAck B reason)) = tt
-    first_untold (Duty.Ask (AskDuty.AbortReceive A)) = tt
-    first_untold (Duty.Ask (AskDuty.AbortReceive B)) = tt
-    first_untold _ = tt
+  path_untold : HearsNoEnd p.a × (place_of_fin p.a ≡ None) → (x : Ask) → asks_of values p ≡ Some x → Untold x
+  path_untold quiet x = by p.agenda
+    where
+      by : (ds : List Duty) → asks_first values ds p ≡ Some x → Untold x
+      by [] none = cc
+      by (d ∷ ds) some = subst Untold (same_Some (ask_for values d p) x some) (first_untold d (λ is. quiet))
 
-    path_untold : (x : Ask) → asks_of values p ≡ Some x → Untold x
-    path_untold x = by p.agenda
-      where
-        by : (ds : List Duty) → asks_first values ds p ≡ Some x → Untold x
-        by [] none = cc
-        by (d ∷ ds) some = subst Untold (same_Some (ask_for values d p) x some) (first_untold d)
+  -- nor does a path that sleeps
+  asleep_untold : IsAsleep p → (x : Ask) → asks_of values p ≡ Some x → Untold x
+  asleep_untold h x = by p.agenda h.idle
+    where
+      by : (ds : List Duty) → AreIdle ds → asks_first values ds p ≡ Some x → Untold x
+      by [] idle none = cc
+      by (d ∷ ds) idle some = subst Untold (same_Some (ask_for values d p) x some)
+          (first_untold d (λ is. absurd (both_ways (tells_end d) (idle_tells d (and_parts (is_idle d) (list_all is_idle ds) idle).0) is)))
 
 by_side : (s : Side) (call : ReassemblyCall) → Untold (asks.Reassembly A call) → Untold (asks.Reassembly s call)
 by_side A call h = h
@@ -243,31 +266,11 @@ KnowsNone w p = p.a.modes.clear ≡ false → (arrived_at A w).known_end ≡ Non
 record Told (w : WorldState Carried) : Type 0 where
   each : (c : ActorCrew Carried) → slice_get w.crew 2 ≡ Some c → Of (KnowsNone w) c.member
 
--- there are no more actors than the apps and path 0
-record Sole (w : WorldState Carried) : Type 0 where
-  more : (n : ℕ) (c : ActorCrew Carried) → slice_get w.crew (suc (suc (suc n))) ≡ Some c → ⊥
-
 is_app : (m n : Actor Carried) (a : AppState) → m ≡ App a → IsActorAsFar m n → (b : AppState) × (n ≡ App b)
 is_app m (App b) a is far = (b, refl)
 is_app m (Path q) a is far = absurd (subst (λ x. IsActorAsFar x (Path q)) is far)
 
-module _ (start : Start) (plan : PathPlan) (one : start.paths ≡ plan ∷ []) (mild : IsMildStart start) where
-  opened_sole : Sole (opened_world start)
-  opened_sole = record { more = λ n c there. none (subst (λ (plans : List PathPlan). slice_get (paths_from {C = Carried} start 0 plans) (suc n) ≡ Some c) one there) }
-    where
-      none : {c : ActorCrew Carried} → None ≡ Some c → ⊥
-      none is = cc
-
-  each_sole : (turns : List Turn) → Sole (reached values start turns)
-  each_sole = each_moment values start Sole opened_sole
-      (λ turns actor c x there asking h. let w : WorldState Carried = reached values start turns in record {
-        more = λ n d at. ⊎_elim
-            (λ here. h.more n c (ap (λ i. slice_get w.crew i) here.0 ∙ there))
-            (λ other. h.more n d other.1)
-            (in_set w.crew actor (crew_after values x w.books c) (suc (suc (suc n))) d at);
-      })
-      (λ turns over h. let w : WorldState Carried = reached values start turns in record { more = λ n d at. let found = in_map (begins (greatest 0 w.crew)) w.crew (suc (suc (suc n))) d at in h.more n found.0 found.1 })
-
+module _ (start : Start) (mild : IsMildStart start) where
   app_at : (turns : List Turn) (i : ℕ) (first : ActorCrew Carried) (a : AppState) → slice_get (opened_world {C = Carried} start).crew i ≡ Some first → first.member ≡ App a
       → (c : ActorCrew Carried) → slice_get (reached values start turns).crew i ≡ Some c → (b : AppState) × (c.member ≡ App b)
   app_at turns i first a at is c there =
@@ -285,7 +288,11 @@ module _ (start : Start) (plan : PathPlan) (one : start.paths ≡ plan ∷ []) (
       let here : IsPathAt 0 (reached values start turns) p = record { crew = c; there = there; is = is } in
       let kept : EndsGoByMappings p = subst (Of EndsGoByMappings) is ((mapping_is_kept start turns mild).each 2 c there) in
       let first : IsFirstPath start p = subst (Of (IsFirstPath start)) is (each_first start turns mild.plain.size c there) in
-      path_untold p (a_hears_no_end_before start turns mild p here unclear) (place_none p.a (kept A).identity ((kept A).peer first.first)) x (sym (ap (member_asks values) is) ∙ asking)
+      path_untold p (a_hears_no_end_before start turns mild p here unclear, place_none p.a (kept A).identity ((kept A).peer first.first)) x (sym (ap (member_asks values) is) ∙ asking)
+
+  other_asks : (m : Actor Carried) (x : Ask) → member_asks values m ≡ Some x → Of IsAsleep m → Untold x
+  other_asks (App a) x asking h = apps_untold a x asking
+  other_asks (Path p) x asking h = asleep_untold p h x asking
 
   -- whatever is asked then
   any_asks : (turns : List Turn) (c : ActorCrew Carried) (p : PathState Carried) → slice_get (reached values start turns).crew 2 ≡ Some c → c.member ≡ Path p → p.a.modes.clear ≡ false
@@ -294,7 +301,8 @@ module _ (start : Start) (plan : PathPlan) (one : start.paths ≡ plan ∷ []) (
   any_asks turns c p there is unclear (suc zero) d x at asking = let found = app_at turns 1 _ _ refl refl d at in app_asks found.0 d.member x found.1 asking
   any_asks turns c p there is unclear (suc (suc zero)) d x at asking =
       let same : c ≡ d = same_Some c d (sym there ∙ at) in path_asks turns c p x there is unclear (ap (λ (e : ActorCrew Carried). member_asks values e.member) same ∙ asking)
-  any_asks turns c p there is unclear (suc (suc (suc n))) d x at asking = absurd ((each_sole turns).more n d at)
+  any_asks turns c p there is unclear (suc (suc (suc n))) d x at asking =
+      other_asks d.member x asking (others_sleep_before start turns mild p (record { crew = c; there = there; is = is }) unclear n d at)
 
   opened_told : Told (opened_world start)
   opened_told = record { each = λ c there. by c.member }
@@ -339,4 +347,4 @@ module _ (start : Start) (plan : PathPlan) (one : start.paths ≡ plan ∷ []) (
   told_at turns p here unclear = subst (Of (KnowsNone (reached values start turns))) here.is ((each_told turns).each here.crew here.there) unclear
 
 pub a_is_told_no_end_before : AIsToldNoEndBefore
-a_is_told_no_end_before start plan turns one mild p here unclear = told_at start plan one mild turns p here unclear
+a_is_told_no_end_before start turns mild p here unclear = told_at start mild turns p here unclear

@@ -23,7 +23,7 @@ use Rattle.path_core.specs.OptionsOut.{ack_said, syn_ack_said}
 use Rattle.path_core.specs.State.{PathState, end_at}
 use Rattle.path_core.specs.Values.{Carried, as_arrived, values}
 use Rattle.world_laws.specs.Members.{HoldsOfKind}
-use Rattle.world_laws.specs.Openings.{PathPlan, Start}
+use Rattle.world_laws.specs.Openings.{Start}
 use Rattle.world_laws.specs.RoundDone.{reached}
 use Rattle.world_laws.specs.Worlds.{Turn, WorldState}
 use Rattle.whole_paths.specs.Answered.{HasAnswered, IsDone}
@@ -49,6 +49,7 @@ use Rattle.whole_paths.specs.OwedGoes.{IsReply, OwedGoes}
 use Rattle.whole_paths.specs.OwedGoes.{IsReply as reply}
 use Rattle.whole_paths.specs.OwedGoes.{OwedGoes as owed}
 use Rattle.whole_paths.specs.Sent.{WasSent}
+use Rattle.whole_paths.specs.WindowRoom.{LivesWithRoom}
 use Rattle.whole_paths.proofs.EdgeRises.{edges_wait_for_the_handshake}
 use Rattle.whole_paths.proofs.Exchanges.{Shown, each_shown}
 use Rattle.whole_paths.proofs.ExpiryMeanings.{Unless, a_opens_still, between, ends_on, far, known, met, then_there, wants_on}
@@ -59,7 +60,6 @@ use Rattle.whole_paths.proofs.MildDeaths.{living_path}
 use Rattle.whole_paths.proofs.OwedGoes.{what_is_owed_goes}
 use Rattle.whole_paths.proofs.Owing.{copies_are_answered}
 use Rattle.whole_paths.proofs.Pieces.{is_event}
-use Rattle.whole_paths.proofs.WindowRoom.{living_windows_have_room}
 use Rattle.whole_paths.proofs.Sent.{what_came_was_sent}
 use Rattle.whole_paths.proofs.SynReplies.{PathsAnswer, SynIsAnswered, each_syn_is_answered, syn_heard}
 use Rattle.whole_paths.proofs.Unbroken.{FirstKnown}
@@ -73,7 +73,7 @@ not_first ds others none is = true≢false (sym (ap comes_first is) ∙ none)
 
 -- ---- a turn between living ends
 
-module _ (start : Start) (plan : PathPlan) (one : start.paths ≡ plan ∷ []) (turns : List Turn) (turn : Turn) (p q : PathState Carried) (t : IsLivingTurn start turns turn p q) (mild : IsMildStart start) where
+module _ (start : Start) (rooms : LivesWithRoom start) (turns : List Turn) (turn : Turn) (p q : PathState Carried) (t : IsLivingTurn start turns turn p q) (mild : IsMildStart start) where
   abbrev w : WorldState Carried
   w = reached values start turns
 
@@ -104,7 +104,7 @@ module _ (start : Start) (plan : PathPlan) (one : start.paths ≡ plan ∷ []) (
     from = was_sent s;
     within = ⊎_elim
         (λ inside. inl inside)
-        (λ past. inr (let room = living_windows_have_room start plan turns one mild p t.before t.lived s in omega (arith, past, room), refl))
+        (λ past. inr (let room = rooms turns p t.before t.lived s in omega (arith, past, room), refl))
         (cases_lt (end_at (peer s) p).tcp.send.nxt ((end_at s p).tcp.recv.edge + 1048576));
   })))
 
@@ -257,16 +257,16 @@ opens_first start turns p here lives s h others first = by h.next
 
 -- ---- all of them
 
-module _ (start : Start) (plan : PathPlan) (one : start.paths ≡ plan ∷ []) (mild : IsMildStart start) (room : 2 ≤ start.buffer) where
+module _ (start : Start) (mild : IsMildStart start) (room : 2 ≤ start.buffer) (rooms : LivesWithRoom start) where
   pub segments_mean_so : SegmentsMeanSo IsWanted EndsTheRow IsOpenedFor start
   segments_mean_so = record {
     goes_again = λ turns turn p q t s is out h. wants_on start turns turn p q t mild s h.segment
-        (what_goes_again_is_wanted start plan turns one mild p t.before t.lived room s is out q h);
-    replies = λ turns turn p q t s x owes is. replies start plan one turns turn p q t mild s x owes is;
+        (what_goes_again_is_wanted start turns mild p t.before t.lived room s is out q h);
+    replies = λ turns turn p q t s x owes is. replies start rooms turns turn p q t mild s x owes is;
     wants_on = λ turns turn p q t s x h. wants_on start turns turn p q t mild s x h;
     ends_on = λ turns turn p q t s x h. ends_on start turns turn p q t mild s x h;
-    wants_come = λ turns turn p q t s f there to h n. wants_come start plan one turns turn p q t mild f there n s to h;
-    ends_come = λ turns turn p q t s f there to h n. ends_come start plan one turns turn p q t mild f there n s to h;
-    opens_on = λ turns turn p q t s h. opens_on start plan one turns turn p q t mild s h;
+    wants_come = λ turns turn p q t s f there to h n. wants_come start rooms turns turn p q t mild f there n s to h;
+    ends_come = λ turns turn p q t s f there to h n. ends_come start rooms turns turn p q t mild f there n s to h;
+    opens_on = λ turns turn p q t s h. opens_on start rooms turns turn p q t mild s h;
     opens_first = λ turns p here lives s h others first. opens_first start turns p here lives s h others first;
   }

@@ -28,7 +28,7 @@ use Rattle.path_core.specs.Profile.{Profile}
 use Rattle.path_core.specs.State.{PathState, end_at}
 use Rattle.path_core.specs.Values.{Carried, values}
 use Rattle.world_laws.specs.Members.{HoldsOfKind}
-use Rattle.world_laws.specs.Openings.{PathPlan, Start}
+use Rattle.world_laws.specs.Openings.{Start}
 use Rattle.world_laws.specs.RoundDone.{reached}
 use Rattle.world_laws.specs.Worlds.{Turn, WorldState}
 use Rattle.world_laws.proofs.Lanes.Showing.{is_unfinished}
@@ -65,13 +65,14 @@ use Rattle.whole_paths.proofs.EdgeRises.{edges_wait_for_the_handshake}
 use Rattle.whole_paths.proofs.Endings.{BothKnowTheirEnd, KnowsItsEnd}
 use Rattle.whole_paths.proofs.Exchanges.{Shown, each_shown}
 use Rattle.whole_paths.proofs.Handshaking.{PathMet, each_met, living_ends_open_or_are_past}
+use Rattle.whole_paths.proofs.LoneFirst.{IsUnjoined, unjoined_so}
 use Rattle.whole_paths.proofs.Mild.{mapping_is_kept}
 use Rattle.whole_paths.proofs.OpenAsks.{AsksForItself, EndsAskForThemselves, ends_ask_for_themselves}
 use Rattle.whole_paths.proofs.OpenCourses.{IsFirstPath, each_first}
 use Rattle.whole_paths.proofs.OpenPieces.{each_knows}
-use Rattle.whole_paths.proofs.PositionCounts.{positions_count_bytes}
+use Rattle.whole_paths.proofs.PositionCounts.{first_counts_bytes}
 use Rattle.whole_paths.proofs.Reached.{EndsAreReached, each_is_reached, first_reached, none_left}
-use Rattle.whole_paths.proofs.Received.{granted_is_received}
+use Rattle.whole_paths.proofs.Received.{lone_granted_is_received}
 use Rattle.whole_paths.proofs.WindowRoom.{sent_its_fin}
 use Rattle.whole_paths.proofs.AnsweredWindows.{none_is_shut_before}
 use Rattle.whole_paths.proofs.ClearFirst.{b_is_clear_first}
@@ -104,7 +105,7 @@ acks_said c s pos fin e some = record { rst = refl; up_to = e.tcp.recv.edge; ack
 
 -- ---- a moment
 
-module _ (start : Start) (plan : PathPlan) (turns : List Turn) (one : start.paths ≡ plan ∷ []) (mild : IsMildStart start) (p : PathState Carried) (here : IsPathAt 0 (reached values start turns) p)
+module _ (start : Start) (turns : List Turn) (mild : IsMildStart start) (p : PathState Carried) (here : IsPathAt 0 (reached values start turns) p)
     (lives : (s : Side) → is_dead (end_at s p).tcp.state ≡ false) (room : 2 ≤ start.buffer) where
   abbrev w : WorldState Carried
   w = reached values start turns
@@ -227,7 +228,15 @@ module _ (start : Start) (plan : PathPlan) (turns : List Turn) (one : start.path
     b_edge = edges_wait_for_the_handshake start turns p here B (let two = b_stage in omega (arith, two))
 
     unclear : p.a.modes.clear ≡ true → ⊥
-    unclear clear = let past = clear_past B (b_is_clear_first start plan turns one mild p here clear) in let two = b_stage in omega (arith, past, two)
+    unclear clear = let past = clear_past B (b_is_clear_first start turns mild p here clear) in let two = b_stage in omega (arith, past, two)
+
+    -- so B's side joined no path yet
+    lone : IsUnjoined w
+    lone = unjoined_so start turns p here (by p.a.modes.clear refl)
+      where
+        by : (b : Bool) → p.a.modes.clear ≡ b → p.a.modes.clear ≡ false
+        by false is = is
+        by true is = absurd (unclear is)
 
     unsent : p.a.tcp.send.finished ≡ false
     unsent = by p.a.tcp.send.finished refl
@@ -254,12 +263,12 @@ module _ (start : Start) (plan : PathPlan) (turns : List Turn) (one : start.path
     none_outstanding : p.a.tcp.send.records ≡ [] → IsOutstanding p.a → ⊥
     none_outstanding none (outstanding.on_subflow r others is) = let never : [] ≡ r ∷ others = sym none ∙ is in cc
     none_outstanding none (outstanding.on_stream g others is) =
-        let received = (of_path (GrantedIsReceived w) ((granted_is_received start turns plan one mild).each 2 here.crew here.there) A (lives A) none).each 0 g (ap (λ gs. slice_get gs 0) is) in
+        let received = (of_path (GrantedIsReceived w) ((lone_granted_is_received start turns mild lone).each 2 here.crew here.there) A (lives A) none).each 0 g (ap (λ gs. slice_get gs 0) is) in
         let open_piece = (subst (λ gs. AllByRecursion (λ (piece : GrantedPiece). p.a.sending.heard < piece.to) gs) is (knows A).open_pieces).0 in
-        let counts : CountsBytes w p A = of_path (λ (p : PathState Carried). (s : Side) → CountsBytes w p s) ((positions_count_bytes start turns plan one mild).each 2 here.crew here.there) A in
+        let counts : CountsBytes w p A = first_counts_bytes start turns mild lone p here A in
         let behind = counts.came in let edge = b_edge in omega (arith, received, open_piece, behind, edge)
     none_outstanding none (outstanding.data_fin identity infinite sent unacked) = unclear (who_sent_its_end_is_clear start turns mild p here A sent)
-    none_outstanding none (outstanding.shut is) = both_ways p.a.sending.shut (none_is_shut_before start plan one mild room turns p here (record { living = lives }) (few none)) is
+    none_outstanding none (outstanding.shut is) = both_ways p.a.sending.shut (none_is_shut_before start mild room turns lone p here (record { living = lives }) (few none)) is
     none_outstanding none (outstanding.third is) = both_ways p.a.modes.owes_third (no_third A) is
     none_outstanding none (outstanding.fast_close is) = both_ways p.a.notices.fast_closed (no_close A) is
 

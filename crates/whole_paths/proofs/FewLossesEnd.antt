@@ -5,8 +5,6 @@ use Rattle.std.specs.List.{slice_get}
 use Rattle.std.proofs.lemmas.Bool.{both_ways}
 use Rattle.sides.specs.declared.side.Side.{Side}
 use Rattle.sides.specs.declared.side.Side.TheVariants.{A, B}
-use Rattle.link_script.specs.declared.script.PathLine.{PathLine}
-use Rattle.link_script.specs.declared.script.Script.{Script}
 use Rattle.stream_lanes.specs.Words.{Every}
 use Rattle.subflow_tcp.specs.States.{is_dead}
 use Rattle.path_core.specs.Codec.{Codec}
@@ -18,7 +16,7 @@ use Rattle.subflow_tcp.specs.declared.handshake.State.TheVariants as phase
 use Rattle.world_laws.specs.declared.member.Member.TheVariants.{App, Path}
 use Rattle.world_laws.specs.Actors.{Actor, ActorCrew}
 use Rattle.world_laws.specs.Members.{HoldsOfKind}
-use Rattle.world_laws.specs.Openings.{PathPlan, Start, new_path, opened_world, path_begins, paths_from, plan_of, start_of}
+use Rattle.world_laws.specs.Openings.{PathPlan, Start, opened_world, path_begins}
 use Rattle.world_laws.specs.RoundDone.{reached}
 use Rattle.world_laws.specs.Worlds.{WorldState, Turn, after_turn, world_run}
 use Rattle.world_laws.proofs.Rounds.Lifting.{opened_lifted}
@@ -27,15 +25,14 @@ use Rattle.world_laws.proofs.Writes.Steps.{begins_lasts}
 use Rattle.whole_paths.specs.ExpiriesInARow.{ExpiriesAreAnswered, HoldsAlong, IsPaid, RowsGoOn, in_a_row}
 use Rattle.whole_paths.specs.ExpiriesInARow.IsPaid.{paid}
 use Rattle.whole_paths.specs.FewLossesEnd.{HarmsNoEnd, RunsAlive}
-use Rattle.whole_paths.specs.Finish.{AnEndDied, BriefLossesEndNone, IsPathAt, harmed}
-use Rattle.whole_paths.specs.OnePathScripts.{BeginsWithOnePath}
+use Rattle.whole_paths.specs.Finish.{AnEndDied, IsPathAt, harmed}
 use Rattle.whole_paths.proofs.Courses.{harmed_append}
 use Rattle.whole_paths.proofs.Deaths.{begins_living}
 use Rattle.whole_paths.proofs.ExpiriesInARow.{BothSame, expiries_alone_count, same_lasts}
 use Rattle.whole_paths.proofs.FewLosses.{never_sixth, turns_paid}
+use Rattle.whole_paths.proofs.FirstHere.{first_here}
 use Rattle.whole_paths.proofs.HarmlessDeaths.{harmless_ends_die_of_expiries}
 use Rattle.whole_paths.proofs.NoResets.{IsGone, living_or}
-use Rattle.whole_paths.proofs.OnePathScripts.{mild_scripts_begin_with_one_path}
 use Rattle.whole_paths.proofs.RecordWaits.{path_is}
 
 module _ {C : Type 0} where
@@ -55,22 +52,15 @@ module _ {C : Type 0} (k : Codec C) (Holds : WorldState C → Type 0) where
   along_then [] turn w along now = (along, now)
   along_then (first ∷ turns) turn w along now = (along.0, along_then turns turn (after_turn k first w) along.1 now)
 
-module _ (Comes : Start → Side → WorldState Carried → Type 0) (answers : (start : Start) (plan : PathPlan) → BeginsWithOnePath start plan → ExpiriesAreAnswered values (RunsAlive start) (Comes start))
-    (script : Script) (path : PathLine) (file_a file_b : List ℕ) (h : HarmsNoEnd script path file_a file_b) where
-  abbrev start : Start
-  start = start_of script file_a file_b
-
-  begins : BeginsWithOnePath start (plan_of script 0 path)
-  begins = mild_scripts_begin_with_one_path script path file_a file_b h.mild
-
+module _ (start : Start) (Comes : Side → WorldState Carried → Type 0) (answers : ExpiriesAreAnswered values (RunsAlive start) Comes) (h : HarmsNoEnd start) where
   abbrev at : List Turn → WorldState Carried
   at turns = reached values start turns
 
   abbrev first : WorldState Carried
   first = opened_world start
 
-  paid_so : (turns : List Turn) → HoldsAlong values (RunsAlive start) turns first → (s : Side) (p : PathState Carried) → IsPathAt 0 (at turns) p → IsPaid (Comes start) (harmed values 0 turns first) s (at turns) p
-  paid_so turns along s p here = subst (λ n. IsPaid (Comes start) n s (at turns) p) (let n : ℕ = harmed values 0 turns first in let sum : 0 + n ≡ n = omega arith in sum) (turns_paid values (RunsAlive start) (Comes start) (answers start _ begins) (λ w alive. (alive.path, alive.here)) turns 0 first along
+  paid_so : (turns : List Turn) → HoldsAlong values (RunsAlive start) turns first → (s : Side) (p : PathState Carried) → IsPathAt 0 (at turns) p → IsPaid Comes (harmed values 0 turns first) s (at turns) p
+  paid_so turns along s p here = subst (λ n. IsPaid Comes n s (at turns) p) (let n : ℕ = harmed values 0 turns first in let sum : 0 + n ≡ n = omega arith in sum) (turns_paid values (RunsAlive start) Comes answers (λ w alive. (alive.path, alive.here)) turns 0 first along
       (λ t q there. paid (let none = subst (HoldsOfKind (λ app. Unit {0}) (λ (p : PathState Carried). (s : Side) → in_a_row (end_at s p) ≡ 0)) there.is ((opened_rows start).each 2 there.crew there.there) t in omega (arith, none)))
       s p here)
 
@@ -78,8 +68,8 @@ module _ (Comes : Start → Side → WorldState Carried → Type 0) (answers : (
   no_death : (before : List Turn) (turn : Turn) → HoldsAlong values (RunsAlive start) before first → (alive : RunsAlive start (at before)) → harmed values 0 before first ≤ 4
       → (q : PathState Carried) → IsPathAt 0 (after_turn values turn (at before)) q → IsGone q → ⊥
   no_death before turn along alive few q there gone =
-      let six = harmless_ends_die_of_expiries start before turn begins.mild h.harmless alive.path q alive.here there alive.living gone.side gone.dead in
-      let less = never_sixth values (RunsAlive start) (Comes start) (answers start _ begins) (harmed values 0 before first) (at before) few alive gone.side alive.path alive.here
+      let six = harmless_ends_die_of_expiries start before turn h.mild h.harmless alive.path q alive.here there alive.living gone.side gone.dead in
+      let less = never_sixth values (RunsAlive start) Comes answers (harmed values 0 before first) (at before) few alive gone.side alive.path alive.here
       (paid_so before along gone.side alive.path alive.here) six.tick six.out in
       let many = six.many in omega (arith, less, many)
 
@@ -133,34 +123,27 @@ module _ (Comes : Start → Side → WorldState Carried → Type 0) (answers : (
           member (App a) is rows = rows
           member (Path q) is rows = goes later q (record { crew = d; there = found; is = is })
 
-pub few_losses_end_none_so : (Comes : Start → Side → WorldState Carried → Type 0) → ((start : Start) (plan : PathPlan) → BeginsWithOnePath start plan → ExpiriesAreAnswered values (RunsAlive start) (Comes start))
-    → BriefLossesEndNone values
-few_losses_end_none_so Comes answers script path file_a file_b turns mild brief harmless few died =
-    none_died Comes answers script path file_a file_b (record { mild = mild; harmless = harmless }) [] turns runs runs brief.few few died
+pub few_losses_end_none_so : (start : Start) (Comes : Side → WorldState Carried → Type 0) → ExpiriesAreAnswered values (RunsAlive start) Comes → HarmsNoEnd start
+    → (turns : List Turn) → length turns < 2 ^ 64 - 1 → harmed values 0 turns (opened_world start) ≤ 4 → AnEndDied 0 (reached values start turns) → ⊥
+few_losses_end_none_so start Comes answers h turns short few died = none_died start Comes answers h [] turns runs runs short few died
   where
-    begun : Start
-    begun = start_of script file_a file_b
-
-    begins : BeginsWithOnePath begun (plan_of script 0 path)
-    begins = mild_scripts_begin_with_one_path script path file_a file_b mild
-
     opens : PathState Carried
-    opens = waiting_path (path_begins begun 0 (plan_of script 0 path)) begun.lines
+    opens = waiting_path (path_begins start 0 h.plan) start.lines
 
     live : (s : Side) → is_dead (end_at s opens).tcp.state ≡ false
-    live A = waits (path_begins begun 0 (plan_of script 0 path)).joined_at
+    live A = waits (path_begins start 0 h.plan).joined_at
       where
         waits : (o : Option ℕ) → is_dead (if is_none o then phase.SynSent else phase.Waiting) ≡ false
         waits None = refl
         waits (Some tick) = refl
     live B = refl
 
-    runs : RunsAlive begun (opened_world {C = Carried} begun)
+    runs : RunsAlive start (opened_world {C = Carried} start)
     runs = record {
       turns = [];
       is = refl;
       few = omega arith;
-      path = first_turn (path_begins begun 0 (plan_of script 0 path)) begun.lines;
-      here = record { crew = new_path begun 0 (plan_of script 0 path); there = ap (λ (ps : List PathPlan). slice_get (paths_from {C = Carried} begun 0 ps) 0) begins.one; is = refl };
+      path = first_turn (path_begins start 0 h.plan) start.lines;
+      here = first_here start h.plan h.there;
       living = λ s. begins_living values opens s (live s);
     }

@@ -1,24 +1,21 @@
 -- Where a script's text tells that few segments are lost, and none of A's, both files are delivered in time; until then the connection goes on.
-use Rattle.std.proofs.Common.{◌≡◌, refl, subst, ap, ◌∙◌, ◌⊎◌, inl, inr, ℕ, zero, suc, ◌+◌, ◌≤◌, arith, Bool, true, false, ◌&&◌, List, [], ◌∷◌, Some}
+use Rattle.std.proofs.Common.{◌≡◌, refl, subst, ap, ◌∙◌, ◌⊎◌, inl, inr, ℕ, ◌+◌, ◌≤◌, arith, Bool, true, false, ◌&&◌, List, []}
 use Rattle.std.specs.Prelude.{not, if◌then◌else◌, length, All}
-use Rattle.std.specs.List.{list_all, slice_get}
+use Rattle.std.specs.List.{list_all}
 use Rattle.std.proofs.lemmas.List.Elements.{All-head}
-use Rattle.std.proofs.lemmas.Option.{same_Some}
-use Rattle.sides.specs.declared.side.Side.TheVariants.{A, B}
+use Rattle.sides.specs.declared.side.Side.TheVariants.{A}
 use Rattle.link_script.specs.Scripts.{IsPath}
 use Rattle.link_script.specs.declared.script.PathLine.{PathLine}
 use Rattle.link_script.specs.declared.script.Script.{Script}
 use Rattle.subflow_tcp.specs.States.{is_dead}
 use Rattle.link_model.specs.Laws.{moves}
-use Rattle.path_core.specs.Events.{is_dead_or_listening}
 use Rattle.path_core.specs.Octets.{octets}
 use Rattle.path_core.specs.Start.{waiting_path}
 use Rattle.path_core.specs.Steps.{begins_turn}
-use Rattle.path_core.specs.Values.{Carried, values}
+use Rattle.path_core.specs.Values.{values}
 use Rattle.world_laws.specs.declared.outcome.Outcome.TheVariants.{Delivered, Going}
-use Rattle.world_laws.specs.Actors.{ActorCrew}
 use Rattle.world_laws.specs.Openings.{PathPlan, Start, opened_world, path_begins, plan_of, plans_from, start_of}
-use Rattle.world_laws.specs.Outcomes.{are_all_dead, is_no_live_path, notes_of, outcome_by, outcome_of, tells_abort, tells_end, was_told}
+use Rattle.world_laws.specs.Outcomes.{outcome_of}
 use Rattle.world_laws.specs.RoundDone.{reached}
 use Rattle.world_laws.specs.Worlds.{Turn, AreLawful}
 use Rattle.whole_paths.specs.FewTexts.{FewTextsFinish, FewTextsGoOn, LosesFew, early_by_text}
@@ -27,8 +24,8 @@ use Rattle.whole_paths.specs.Finish.{AnEndDied, IsBrief, harmed, harms_to, opene
 use Rattle.whole_paths.specs.OnePathScripts.{BeginsWithOnePath}
 use Rattle.whole_paths.specs.QuietOpenings.{lost_early, segments_on}
 use Rattle.whole_paths.proofs.AckedData.{opened_here}
-use Rattle.whole_paths.proofs.Deliveries.{never_aborted}
 use Rattle.whole_paths.proofs.FewLossesDeliver.{few_losses_end_none}
+use Rattle.whole_paths.proofs.GoesOnLiving.{goes_on_living}
 use Rattle.whole_paths.proofs.Harmed.{harms_use_lines}
 use Rattle.whole_paths.proofs.OnePathScripts.{mild_scripts_begin_with_one_path}
 use Rattle.whole_paths.proofs.OpeningEnds.{LaterPath, later_path}
@@ -37,16 +34,6 @@ use Rattle.whole_paths.proofs.PatientPaths.{few_losses_finish_patiently_in_octet
 use Rattle.whole_paths.proofs.QuietOpenings.{lost_early_fits}
 use Rattle.whole_paths.specs.QuietTexts.{is_first}
 use Rattle.whole_paths.proofs.QuietTexts.{nothing_comes_early_by_text}
-
--- a path lives
-lives : (crew : List (ActorCrew Carried)) (i : ℕ) (c : ActorCrew Carried) → slice_get crew i ≡ Some c → is_no_live_path c.member ≡ false → are_all_dead crew ≡ false
-lives [] i c there alive = cc
-lives (d ∷ crew) zero c there alive = ap (λ b. b && are_all_dead crew) (ap (λ (e : ActorCrew Carried). is_no_live_path e.member) (same_Some d c there) ∙ alive)
-lives (d ∷ crew) (suc i) c there alive = ap (λ b. is_no_live_path d.member && b) (lives crew i c there alive) ∙ never (is_no_live_path d.member)
-  where
-    never : (b : Bool) → b && false ≡ false
-    never true = refl
-    never false = refl
 
 module _ (script : Script) (path : PathLine) (file_a file_b : List ℕ) (turns : List Turn) (h : LosesFew script path file_a file_b) (brief : IsBrief script turns) where
   abbrev start : Start
@@ -93,34 +80,19 @@ module _ (script : Script) (path : PathLine) (file_a file_b : List ℕ) (turns :
   last_path : LaterPath (opened_world start) (reached values start turns) (begins_turn (waiting_path (path_begins start 0 plan) start.lines))
   last_path = later_path (opened_world start) turns (begins_turn (waiting_path (path_begins start 0 plan) start.lines)) (opened_here start plan one)
 
-  none_dead : are_all_dead (reached values start turns).crew ≡ false
-  none_dead = lives (reached values start turns).crew 2 last_path.here.crew last_path.here.there (ap is_no_live_path last_path.here.is ∙ ap (λ b. b && is_dead_or_listening last_path.path.b.tcp.state) a_lives)
+  a_lives : is_dead last_path.path.a.tcp.state ≡ false
+  a_lives = by (is_dead last_path.path.a.tcp.state) refl
     where
-      a_lives : is_dead last_path.path.a.tcp.state ≡ false
-      a_lives = by (is_dead last_path.path.a.tcp.state) refl
-        where
-          by : (b : Bool) → is_dead last_path.path.a.tcp.state ≡ b → is_dead last_path.path.a.tcp.state ≡ false
-          by false is = is
-          by true is = absurd (living (record { path = last_path.path; here = last_path.here; side = A; dead = is }))
+      by : (b : Bool) → is_dead last_path.path.a.tcp.state ≡ b → is_dead last_path.path.a.tcp.state ≡ false
+      by false is = is
+      by true is = absurd (living (record { path = last_path.path; here = last_path.here; side = A; dead = is }))
 
   goes_on : (outcome_of (reached octets start turns).crew ≡ Going) ⊎ (outcome_of (reached octets start turns).crew ≡ Delivered)
-  goes_on = by told refl
+  goes_on = by (goes_on_living start one.mild turns last_path.path last_path.here a_lives)
     where
-      crew : List (ActorCrew Carried)
-      crew = (reached values start turns).crew
-
-      told : Bool
-      told = was_told tells_end (notes_of A crew) && was_told tells_end (notes_of B crew)
-
-      is : outcome_of (reached octets start turns).crew ≡ outcome_by false false told false
-      is = (as_far script path file_a file_b h.mild turns).outcome
-          ∙ ap (λ b. outcome_by b (was_told tells_abort (notes_of B crew)) told (are_all_dead crew)) (never_aborted start turns one.mild A)
-          ∙ ap (λ b. outcome_by false b told (are_all_dead crew)) (never_aborted start turns one.mild B)
-          ∙ ap (λ b. outcome_by false false told b) none_dead
-
-      by : (b : Bool) → told ≡ b → (outcome_of (reached octets start turns).crew ≡ Going) ⊎ (outcome_of (reached octets start turns).crew ≡ Delivered)
-      by true all = inr (is ∙ ap (λ b. outcome_by false false b false) all)
-      by false missing = inl (is ∙ ap (λ b. outcome_by false false b false) missing)
+      by : (outcome_of (reached values start turns).crew ≡ Going) ⊎ (outcome_of (reached values start turns).crew ≡ Delivered) → (outcome_of (reached octets start turns).crew ≡ Going) ⊎ (outcome_of (reached octets start turns).crew ≡ Delivered)
+      by (inl going) = inl ((as_far script path file_a file_b h.mild turns).outcome ∙ going)
+      by (inr delivered) = inr ((as_far script path file_a file_b h.mild turns).outcome ∙ delivered)
 
 pub few_texts_finish : FewTextsFinish
 few_texts_finish script path file_a file_b turns h brief lawful many = finishes script path file_a file_b turns h brief lawful many

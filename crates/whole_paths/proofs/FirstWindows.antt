@@ -1,7 +1,6 @@
 -- B's end idles until A's may send a DSS: it was granted no byte, and knows the window that A's SYN told, which isn't shut.
 use Rattle.std.proofs.Common.{◌≡◌, refl, sym, subst, ap, ◌∙◌, ℕ, ◌+◌, ◌<◌, ◌≤◌, arith, Bool, true, false, if◌then◌else◌, Option, Some, List, [], ◌∷◌, length}
 use Rattle.std.specs.List.{slice_get}
-use Rattle.sides.specs.declared.side.Side.{Side}
 use Rattle.sides.specs.declared.side.Side.TheVariants.{A, B}
 use Rattle.stream_lanes.specs.Duo.{Duo, after_events}
 use Rattle.stream_lanes.specs.Lane.{Cell, Lane}
@@ -14,7 +13,7 @@ use Rattle.path_core.specs.Profile.{Profile}
 use Rattle.path_core.specs.State.{PathState}
 use Rattle.path_core.specs.Values.{Carried, values}
 use Rattle.world_laws.specs.Actors.{ActorCrew}
-use Rattle.world_laws.specs.Openings.{PathPlan, Start, opened_world, path_begins}
+use Rattle.world_laws.specs.Openings.{Start, opened_world, path_begins}
 use Rattle.world_laws.specs.Promises.{HasRoom, arrived_at}
 use Rattle.world_laws.specs.RoundDone.{reached}
 use Rattle.world_laws.specs.Worlds.{Turn, WorldState}
@@ -35,12 +34,13 @@ use Rattle.whole_paths.proofs.Came.{what_is_acknowledged_came}
 use Rattle.whole_paths.proofs.Clearing.{clear_ends_are_past}
 use Rattle.whole_paths.proofs.EdgesStay.{nothing_comes_before, sent_fin}
 use Rattle.whole_paths.proofs.EndsUntold.{a_is_told_no_end_before}
-use Rattle.whole_paths.proofs.FinishedThere.{what_is_finished_is_there}
+use Rattle.whole_paths.proofs.FinishedThere.{each_finished_is_there}
 use Rattle.whole_paths.proofs.Handshaking.{PathMet, each_met}
 use Rattle.whole_paths.proofs.OpenCourses.{IsFirstPath, each_first}
-use Rattle.whole_paths.proofs.PositionCounts.{positions_count_bytes}
+use Rattle.whole_paths.proofs.PositionCounts.{first_counts_bytes}
 use Rattle.whole_paths.proofs.Reached.{EndsAreReached, each_is_reached, none_left}
 use Rattle.whole_paths.proofs.KnownWindows.{unshut_at}
+use Rattle.whole_paths.proofs.LoneFirst.{IsUnjoined, unjoined_so}
 
 -- ---- by the lanes
 
@@ -73,12 +73,12 @@ each_nothing start turns size =
 
 -- ---- the world
 
-module _ (start : Start) (plan : PathPlan) (one : start.paths ≡ plan ∷ []) (mild : IsMildStart start) where
+module _ (start : Start) (mild : IsMildStart start) where
   -- A's side received nothing before B has its SYN
-  pub fewer : (turns : List Turn) (p : PathState Carried) → IsPathAt 0 (reached values start turns) p → IsAlive p → stage p.b.tcp.state ≤ 1 → next_wanted (arrived_at A (reached values start turns)) < 1
-  fewer turns p here alive low =
-      let none = a_is_told_no_end_before start plan turns one mild p here unclear in
-      let edge = nothing_comes_before start plan turns one mild p here alive A unclear in
+  pub fewer : (turns : List Turn) → IsUnjoined (reached values start turns) → (p : PathState Carried) → IsPathAt 0 (reached values start turns) p → IsAlive p → stage p.b.tcp.state ≤ 1 → next_wanted (arrived_at A (reached values start turns)) < 1
+  fewer turns alone p here alive low =
+      let none = a_is_told_no_end_before start turns mild p here unclear in
+      let edge = nothing_comes_before start turns mild p here alive A unclear in
       let few = counts.came in
       let is : next_wanted (arrived_at A w) ≡ 0 = ap (λ (o : Option ℕ). received (arrived_at A w) + (if is_end o (received (arrived_at A w)) then 1 else 0)) none ∙ omega (arith, few, edge) in
       omega (arith, is)
@@ -90,7 +90,7 @@ module _ (start : Start) (plan : PathPlan) (one : start.paths ≡ plan ∷ []) (
       met = subst (Of PathMet) here.is ((each_met start mild turns).each here.crew here.there)
 
       counts : CountsBytes w p B
-      counts = subst (Of (λ (q : PathState Carried). (s : Side) → CountsBytes w q s)) here.is ((positions_count_bytes start turns plan one mild).each 2 here.crew here.there) B
+      counts = first_counts_bytes start turns mild alone p here B
 
       first : is_joined p.profile ≡ false
       first = (subst (Of (IsFirstPath start)) here.is (each_first start turns mild.plain.size here.crew here.there)).first
@@ -106,11 +106,11 @@ module _ (start : Start) (plan : PathPlan) (one : start.paths ≡ plan ∷ []) (
   nothing_at turns p here = subst (Of HasNothing) here.is ((each_nothing start turns mild.plain.size).each here.crew here.there)
 
   module _ (room : 1 ≤ start.buffer) (turns : List Turn) (p : PathState Carried) (here : IsPathAt 0 (reached values start turns) p) (alive : IsAlive p) (unclear : p.a.modes.clear ≡ false) (none : p.b.tcp.send.records ≡ []) where
-    few : p.b.tcp.send.nxt ≤ 1
+    pub few : p.b.tcp.send.nxt ≤ 1
     few =
         let reached_so = subst (Of EndsAreReached) here.is ((each_is_reached values start turns).each 2 here.crew here.there) in
         let came = subst (Of HasCome) here.is ((what_is_acknowledged_came start turns).each 2 here.crew here.there) in
-        let all = none_left p.b.tcp (reached_so B) none in let high = came.una B (alive.living B) in let edge = nothing_comes_before start plan turns one mild p here alive A unclear in
+        let all = none_left p.b.tcp (reached_so B) none in let high = came.una B (alive.living B) in let edge = nothing_comes_before start turns mild p here alive A unclear in
         omega (arith, all, high, edge)
 
     unfinished : is_unfinished p.b.tcp.state ≡ true
@@ -119,11 +119,11 @@ module _ (start : Start) (plan : PathPlan) (one : start.paths ≡ plan ∷ []) (
         by : (b : Bool) → is_unfinished p.b.tcp.state ≡ b → b ≡ true
         by true is = refl
         by false behind = absurd
-            (let all = subst (Of (FinishedIsThere (reached values start turns))) here.is (what_is_finished_is_there start plan turns one mild 2 here.crew here.there) B (HasFinished.sent_fin (sent_fin p.b.tcp.state behind (alive.living B)) (alive.living B)) in
-            let untold = a_is_told_no_end_before start plan turns one mild p here unclear in let some = all.known in cc)
+            (let all = subst (Of (FinishedIsThere (reached values start turns))) here.is (each_finished_is_there start turns mild 2 here.crew here.there) B (HasFinished.sent_fin (sent_fin p.b.tcp.state behind (alive.living B)) (alive.living B)) in
+            let untold = a_is_told_no_end_before start turns mild p here unclear in let some = all.known in cc)
 
     idle : (p.b.sending.granted ≡ []) × (p.b.sending.shut ≡ false)
-    idle = ((nothing_at turns p here).nothing unfinished few, unshut_at start plan one mild B 1 1 (omega arith) (omega arith) room (λ turns p here alive low. (let none = fewer turns p here alive low in omega (arith, none))) turns p here alive few)
+    idle = ((nothing_at turns p here).nothing unfinished few, unshut_at start mild B 1 1 (omega arith) (omega arith) room (λ turns alone p here alive low. (let none = fewer turns alone p here alive low in omega (arith, none))) turns (unjoined_so start turns p here unclear) p here alive few)
 
 pub b_is_idle_before : BIsIdleBefore
-b_is_idle_before start plan turns one mild room p here alive over unclear clear none = idle start plan one mild room turns p here alive unclear none
+b_is_idle_before start turns mild room p here alive over unclear clear none = idle start mild room turns p here alive unclear none

@@ -14,7 +14,6 @@ use Rattle.subflow_tcp.specs.Judging.{is_acceptable}
 use Rattle.subflow_tcp.specs.Segments.{occupied}
 use Rattle.subflow_tcp.specs.State.{is_at_limit}
 use Rattle.subflow_tcp.specs.States.{is_dead}
-use Rattle.subflow_tcp.specs.declared.verdicts.Meaning.TheVariants as means
 use Rattle.path_core.specs.Arrival.{acknowledged_in, copy_of}
 use Rattle.path_core.specs.DssIn.{HeardOption, held_in, held_of}
 use Rattle.path_core.specs.End.{PathEnd}

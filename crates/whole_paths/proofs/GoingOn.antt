@@ -36,7 +36,7 @@ use Rattle.world_laws.proofs.Rounds.Lifting.{all_over_each}
 use Rattle.world_laws.proofs.Weaving.WholeRounds.{run_append}
 use Rattle.whole_paths.specs.Acknowledged.{IdleIsAcknowledged, IsAllAcknowledged}
 use Rattle.whole_paths.specs.AsFar.{IsActorAsFar, IsSideAsFar, stage}
-use Rattle.whole_paths.specs.Courses.{counted}
+use Rattle.whole_paths.specs.Courses.{counted, counted_at}
 use Rattle.whole_paths.specs.Delivery.{AllIsThere, FinishedIsThere, HasFinished, IsAllThere}
 use Rattle.whole_paths.specs.GoingOn.{EndsGoOn, IsEndOpen, IsEndOpenHere, going_side, IsAboutToGoOn, IsWaiting, RoundsBeginToGoOn, RoundsGoOn, StepsLetItGoOn, steps_of}
 use Rattle.whole_paths.specs.GoingOn.IsAboutToGoOn.{this_round, next_round}
@@ -61,18 +61,18 @@ use Rattle.whole_paths.proofs.Writers.{writers_go_on}
 -- ---- whether something is outstanding
 
 -- nothing is but a window, and that only where so many bytes are acknowledged as there are
-record NothingLeft (e : PathEnd) (acked written : ℕ) : Type 0 where
-  records : e.tcp.send.records ≡ []
-  granted : e.sending.granted ≡ []
-  end : WaitsForNoEnd e
-  window : (e.sending.shut ≡ false) ⊎ (written ≤ acked)
+pub record NothingLeft (e : PathEnd) (acked written : ℕ) : Type 0 where
+  pub records : e.tcp.send.records ≡ []
+  pub granted : e.sending.granted ≡ []
+  pub end : WaitsForNoEnd e
+  pub window : (e.sending.shut ≡ false) ⊎ (written ≤ acked)
 
 -- something is
-record SomethingLeft (e : PathEnd) (acked written : ℕ) : Type 0 where
-  outstanding : IsOutstanding e
-  left : e.tcp.send.records ≡ [] → e.sending.granted ≡ [] → WaitsForNoEnd e → acked < written
+pub record SomethingLeft (e : PathEnd) (acked written : ℕ) : Type 0 where
+  pub outstanding : IsOutstanding e
+  pub left : e.tcp.send.records ≡ [] → e.sending.granted ≡ [] → WaitsForNoEnd e → acked < written
 
-left_or : (e : PathEnd) (acked written : ℕ) → e.modes.identity ≡ false → e.modes.own_infinite ≡ None → SomethingLeft e acked written ⊎ NothingLeft e acked written
+pub left_or : (e : PathEnd) (acked written : ℕ) → e.modes.identity ≡ false → e.modes.own_infinite ≡ None → SomethingLeft e acked written ⊎ NothingLeft e acked written
 left_or e acked written identity infinite = by_records e.tcp.send.records refl
   where
     by_window : e.tcp.send.records ≡ [] → e.sending.granted ≡ [] → WaitsForNoEnd e → (b : Bool) → e.sending.shut ≡ b → SomethingLeft e acked written ⊎ NothingLeft e acked written
@@ -142,12 +142,16 @@ module _ (start : Start) where
   runs turns more = run_append values turns more (opened_world start)
 
   -- with what a side gains
-  pub gains_count : (turns more : List Turn) (s : Side) → Gains s (books_in (at turns).books) (books_in (at (turns ++ more)).books) → counted values start turns < counted values start (turns ++ more)
-  gains_count turns more s gain =
+  pub gains_count_at : (number : ℕ) (turns more : List Turn) (s : Side) → Gains s (books_in (at turns).books) (books_in (at (turns ++ more)).books)
+      → counted_at values start number turns < counted_at values start number (turns ++ more)
+  gains_count_at number turns more s gain =
       let rises = each_gain_counts values start turns more s (subst (λ (w : WorldState Carried). Gains s (books_in (at turns).books) (books_in w.books)) (runs turns more) gain) in
       let up : news start (at turns) < news start (at (turns ++ more)) = subst (λ (w : WorldState Carried). news start (at turns) < news start w) (sym (runs turns more)) rises in
-      let harms = harmed_append values 0 turns more (opened_world start) in
+      let harms = harmed_append values number turns more (opened_world start) in
       omega (arith, up, harms)
+
+  pub gains_count : (turns more : List Turn) (s : Side) → Gains s (books_in (at turns).books) (books_in (at (turns ++ more)).books) → counted values start turns < counted values start (turns ++ more)
+  gains_count turns more s gain = gains_count_at 0 turns more s gain
 
   pub sides_far : (turns more : List Turn) (s : Side) → IsSideAsFar s (books_in (at turns).books) (books_in (at (turns ++ more)).books)
   sides_far turns more s = subst (λ (w : WorldState Carried). IsSideAsFar s (books_in (at turns).books) (books_in w.books)) (sym (runs turns more)) ((goes_on_so values (at turns) more).sides s)
@@ -353,22 +357,6 @@ module _ (start : Start) (plan : PathPlan) (one : start.paths ≡ plan ∷ []) (
                 (λ left. next (became c there p is s is_open may left))
                 (left_or (end_at s p) (acked_len (written_by s (after turns)).marks) (length (written_by s (after turns)).written) (kept c there p is s is_open s).identity (kept c there p is s is_open s).own)
 
-    -- where an open end's stream was closed as the round began, or had more bytes then than are acknowledged, something is outstanding at it now
-    pub waits_for_something : (c : ActorCrew Carried) → slice_get (after turns).crew 2 ≡ Some c → (p : PathState Carried) → c.member ≡ Path p → (s : Side) → IsEndOpen s p → (IsAllThere s (after turns) → ⊥)
-        → ((written_by s (after since)).closed ≡ true) ⊎ (acked_len (written_by s (after turns)).marks < length (written_by s (after since)).written) → (may_finish (end_at s p).tcp.state ≡ true) × IsOutstanding (end_at s p)
-    waits_for_something c there p is s opened missing had = by_state (may_finish (end_at s p).tcp.state) refl
-      where
-        never : Became s → ⊥
-        never (inl all) = missing all
-        never (inr rest) = ⊎_elim (λ closed. both_ways (written_by s (after since)).closed rest.0 closed) (λ less. let low = rest.1 in omega (arith, less, low)) had
-
-        by_state : (b : Bool) → may_finish (end_at s p).tcp.state ≡ b → (may_finish (end_at s p).tcp.state ≡ true) × IsOutstanding (end_at s p)
-        by_state false behind = absurd (never (behind_became c there p is s opened behind))
-        by_state true may = ⊎_elim
-            (λ some. (may, some.outstanding))
-            (λ left. absurd (never (became c there p is s opened may left)))
-            (left_or (end_at s p) (acked_len (written_by s (after turns)).marks) (length (written_by s (after turns)).written) (kept c there p is s opened s).identity (kept c there p is s opened s).own)
-
   -- where each turn is over nobody goes on
   not_going : (actor : ℕ) (w : WorldState Carried) → all_over w.crew ≡ true → is_going actor w ≡ false
   not_going actor w over = by (slice_get w.crew actor) refl
@@ -376,27 +364,6 @@ module _ (start : Start) (plan : PathPlan) (one : start.paths ≡ plan ∷ []) (
       by : (o : Option (ActorCrew Carried)) → slice_get w.crew actor ≡ o → goes o ≡ false
       by None there = refl
       by (Some c) there = rw (all_over_each w.crew actor c over there) refl
-
-  -- the application wrote, or closed the stream, in the round
-  pub has_written : (since : List Turn) (order : List ℕ) → BeginsRound values start (after since) → all_over (after (since ++ steps_of order)).crew ≡ true → (s : Side)
-      → ((written_by s (after (since ++ steps_of order))).closed ≡ true) ⊎ (1 ≤ length (written_by s (after (since ++ steps_of order))).written)
-  has_written since order begin over s =
-      by (subst Goes (sym ended) (writers_go_on start (after since) order mild.fit begin s (not_going (pick s 0 1) (after_steps values order (after since)) (subst (λ (w : WorldState Carried). all_over w.crew ≡ true) ended over))))
-    where
-      turns : List Turn
-      turns = since ++ steps_of order
-
-      ended : after turns ≡ after_steps values order (after since)
-      ended = run_append values since (steps_of order) (opened_world start)
-
-      Goes : WorldState Carried → Type 0
-      Goes w = GoesOnWriting (pick s start.file_a start.file_b) start.buffer (acked_len (written_by s (after since)).marks) (written_by s w)
-
-      by : GoesOnWriting (pick s start.file_a start.file_b) start.buffer (acked_len (written_by s (after since)).marks) (written_by s (after turns))
-          → ((written_by s (after turns)).closed ≡ true) ⊎ (1 ≤ length (written_by s (after turns)).written)
-      by (GoesOnWriting.whole file closed) = inl closed
-      by (GoesOnWriting.more written) = inr (omega (arith, some, written))
-      by (GoesOnWriting.stopped stop) = absurd (both_ways _ ((stopped_at turns).send s) stop)
 
   -- the second one
   second_so : (s : Side) (since more : List Turn) (order : List ℕ) → BeginsRound values start (after (since ++ more)) → all_over (after ((since ++ more) ++ steps_of order)).crew ≡ true → (written_by s (after since)).closed ≡ false

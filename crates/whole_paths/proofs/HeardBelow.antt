@@ -143,14 +143,14 @@ module _ (place : ℕ) where
   option_says joined s window (options.FastClose key) none = refl
   option_says joined s window (options.Reset transient reason) none = refl
 
-  options_say : (joined : Bool) (s : Side) (window : ℕ) (xs : List PlainOption) → list_any has_data_ack (map meant_option xs) ≡ false → SayNone (flat_map (items_in joined s window) (map meant_option xs))
+  pub options_say : (joined : Bool) (s : Side) (window : ℕ) (xs : List PlainOption) → list_any has_data_ack (map meant_option xs) ≡ false → SayNone (flat_map (items_in joined s window) (map meant_option xs))
   options_say joined s window [] none = refl
   options_say joined s window (x ∷ xs) none =
       let parts = or_parts (has_data_ack (meant_option x)) (list_any has_data_ack (map meant_option xs)) none in
       both_say (items_in joined s window (meant_option x)) (flat_map (items_in joined s window) (map meant_option xs)) (option_says joined s window x parts.0) (options_say joined s window xs parts.1)
 
   -- behind a DSS that says another one
-  dss_says : (joined : Bool) (s : Side) (window next : ℕ) (mapping : Option (PathMapping ℕ)) (others : List PlainOption) → list_any has_data_ack (map meant_option others) ≡ false
+  pub dss_says : (joined : Bool) (s : Side) (window next : ℕ) (mapping : Option (PathMapping ℕ)) (others : List PlainOption) → list_any has_data_ack (map meant_option others) ≡ false
       → list_any (is_ack_of place) (flat_map (items_in joined s window) (map meant_option (options.Dss (Some next) mapping ∷ others))) ≡ true → next ≡ place
   dss_says joined s window next mapping others none is = by (next == place) refl
     where

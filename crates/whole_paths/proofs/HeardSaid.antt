@@ -66,7 +66,7 @@ use Rattle.whole_paths.specs.AgendaSteps.{Follows as follows}
 use Rattle.whole_paths.specs.HeardSaid.{HearsAsMuch, HearsWhatWasSaid, IsAhead, PathsHearWhatWasSaid, SaysNext, WhatIsHeardWasSaid, hears_at, is_ack_of}
 use Rattle.whole_paths.specs.HeardSaid.{HearsAsMuch as much}
 use Rattle.whole_paths.proofs.Agendas.{answered_follows, own_end}
-use Rattle.whole_paths.proofs.HeardRemovals.{answered_sheds, passed_sheds, sheds_at}
+use Rattle.whole_paths.proofs.HeardItems.{answered_sheds, passed_sheds, sheds_at}
 use Rattle.whole_paths.proofs.Pieces.{is_event}
 use Rattle.whole_paths.proofs.Settling.{sides}
 use Rattle.whole_paths.proofs.Turns.{turn_each}

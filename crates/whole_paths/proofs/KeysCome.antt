@@ -49,7 +49,7 @@ use Rattle.path_core.specs.declared.judged.Judged.TheVariants as judged
 use Rattle.subflow_tcp.specs.States.{may_finish}
 use Rattle.world_laws.specs.declared.member.Member.TheVariants.{App, Path}
 use Rattle.world_laws.specs.Actors.{Actor, ActorCrew}
-use Rattle.world_laws.specs.Openings.{PathPlan, Start, opened_world, path_begins}
+use Rattle.world_laws.specs.Openings.{Start, opened_world, path_begins}
 use Rattle.world_laws.specs.Outcomes.{notes_or, was_told}
 use Rattle.world_laws.specs.Promises.{tells_other_key}
 use Rattle.world_laws.specs.RoundDone.{reached}
@@ -382,7 +382,7 @@ becomes_open p q Becomes.stays low high = absurd (omega (arith, low, high))
 becomes_open p q (Becomes.takes_a_reply r) low high = takes_open 3 (omega arith) (omega arith) values r p B low high
 becomes_open p q Becomes.begins_anew low high = inl (next_dead 3 (omega arith) (omega arith) values B p low high)
 
-module _ (start : Start) (plan : PathPlan) (one : start.paths ≡ plan ∷ []) (mild : IsMildStart start) where
+module _ (start : Start) (mild : IsMildStart start) where
   known_at : (turns : List Turn) (p : PathState Carried) → IsPathAt 0 (reached values start turns) p → Known start p
   known_at turns p here = record {
     given = subst (Of (Given start)) here.is ((given start mild turns).each here.crew here.there);
@@ -393,9 +393,9 @@ module _ (start : Start) (plan : PathPlan) (one : start.paths ≡ plan ∷ []) (
     third = alone.0 first.first;
     close = alone.1;
     keyed = (subst (Of HasKeys) here.is ((keys_are_known start turns mild).each 2 here.crew here.there)) first.first;
-    sure = b_is_clear_first start plan turns one mild p here;
+    sure = b_is_clear_first start turns mild p here;
     done = who_is_done_is_clear start turns mild p here;
-    finished = λ alive sent. finished_is_done start plan one mild turns p here A alive sent;
+    finished = λ alive sent. finished_is_done start mild turns p here A alive sent;
     answers = subst (Of AnswersReset) here.is (answers_reset start turns 2 here.crew here.there);
     syns = syns_alone A p (subst (Of Shown) here.is (each_shown start turns mild.plain.size mild.fit 2 here.crew here.there)) (subst (Of EndBehind) here.is (each_behind start turns mild.plain.size 2 here.crew here.there))
         (subst (Of EndsAreReached) here.is ((each_is_reached values start turns).each 2 here.crew here.there)) (first.kinds A);
@@ -506,10 +506,10 @@ module _ (start : Start) (plan : PathPlan) (one : start.paths ≡ plan ∷ []) (
       where
         by : (b : Bool) → p.a.modes.clear ≡ b → b ≡ false
         by false is = refl
-        by true is = absurd (both_ways p.b.modes.clear unsure (b_is_clear_first start plan turns one mild p here is))
+        by true is = absurd (both_ways p.b.modes.clear unsure (b_is_clear_first start turns mild p here is))
 
     edge : p.b.tcp.recv.edge ≡ 1
-    edge = nothing_comes_before start plan turns one mild p here alive B unsure
+    edge = nothing_comes_before start turns mild p here alive B unsure
 
     reached_so : EndsAreReached p
     reached_so = subst (Of EndsAreReached) here.is ((each_is_reached values start turns).each 2 here.crew here.there)
@@ -529,7 +529,7 @@ module _ (start : Start) (plan : PathPlan) (one : start.paths ≡ plan ∷ []) (
       where
         by : (b : Bool) → p.a.tcp.send.finished ≡ b → b ≡ false
         by false is = refl
-        by true is = absurd (both_ways p.a.modes.clear unclear (who_is_done_is_clear start turns mild p here (finished_is_done start plan one mild turns p here A alive is)))
+        by true is = absurd (both_ways p.a.modes.clear unclear (who_is_done_is_clear start turns mild p here (finished_is_done start mild turns p here A alive is)))
 
     first_piece : 1 < p.a.tcp.send.nxt → HasFirstPiece p
     first_piece more = by p.a.tcp.send.records refl
@@ -552,4 +552,4 @@ module _ (start : Start) (plan : PathPlan) (one : start.paths ≡ plan ∷ []) (
         never (sure.by_keys own other none h) = absurd (subst (λ ds. IsToHear B (says.Keys own other) p.b.treated.items ds) over h)
 
 pub the_first_piece_waits : TheFirstPieceWaits
-the_first_piece_waits start plan turns one mild p here alive over past unsure = waits start plan one mild turns p here alive past unsure over
+the_first_piece_waits start turns mild p here alive over past unsure = waits start mild turns p here alive past unsure over

@@ -22,7 +22,7 @@ use Rattle.send_book.specs.declared.call.Span.{Span}
 use Rattle.send_book.specs.declared.call.Why.{Why}
 use Rattle.send_book.specs.declared.call.Why.TheVariants.{Backup, Ended, NothingFree, WindowShut}
 use Rattle.reassembly_book.specs.Steps as arriving_book
-use Rattle.reassembly_book.specs.Steps.{is_end, next_wanted}
+use Rattle.reassembly_book.specs.Steps.{next_wanted}
 use Rattle.subflow_send.specs.Records.{Record}
 use Rattle.subflow_tcp.specs.Judging.{meaning_of}
 use Rattle.subflow_tcp.specs.States.{is_dead, may_finish}
@@ -97,7 +97,6 @@ use Rattle.world_laws.proofs.Worlds.CastLifting.{each_actor}
 use Rattle.whole_paths.specs.AsFar.{stage}
 use Rattle.whole_paths.specs.Between.{EachPathBetween}
 use Rattle.whole_paths.specs.Brought.{Comes, IsTo}
-use Rattle.whole_paths.specs.DataAcksNow.{KnowsWhatCame}
 use Rattle.whole_paths.specs.Finish.{IsPathAt}
 use Rattle.whole_paths.specs.Mild.{IsMildStart, LinkIsMild}
 use Rattle.whole_paths.specs.Offered.{Offers, OffersOn, OffersUpTo}
@@ -105,20 +104,20 @@ use Rattle.whole_paths.specs.Opening.{opens_to}
 use Rattle.whole_paths.specs.OpeningStates.{GoByTheHandshake, IsOfA, IsOfB}
 use Rattle.whole_paths.specs.OpeningStates.{IsOfB as of_b}
 use Rattle.whole_paths.specs.OpeningWaits.{IsAlive}
-use Rattle.whole_paths.specs.PositionCounts.{CountsBytes}
 use Rattle.whole_paths.specs.Rising.{OpensBy}
 use Rattle.whole_paths.specs.Rising.{OpensBy as opens_by}
 use Rattle.whole_paths.proofs.Books.{side_up}
-use Rattle.whole_paths.proofs.ByTurns.{Of, OfBooked, OfFirst, each_booked, each_first_moment}
+use Rattle.whole_paths.proofs.ByTurns.{Of, OfBooked, OfFirst, each_booked}
 use Rattle.whole_paths.proofs.Clearing.{past_met}
-use Rattle.whole_paths.proofs.DataAcksNow.{each_data_ack_is_up_to_date}
 use Rattle.whole_paths.proofs.EdgesStay.{alive_before}
 use Rattle.whole_paths.proofs.Handshaking.{AllFar, Given, PathMet, each_met, given, never_joins, never_waits, next_far, takes_far}
 use Rattle.whole_paths.proofs.Mild.{links_are_mild}
 use Rattle.whole_paths.proofs.Offered.{settled_offers, sizes_stay, start_asks, what_is_taken_is_offered}
 use Rattle.whole_paths.proofs.OpenCourses.{IsFirstPath, each_first}
 use Rattle.whole_paths.proofs.OpeningStates.{ends_go_by_the_handshake}
-use Rattle.whole_paths.proofs.PositionCounts.{positions_count_bytes}
+use Rattle.whole_paths.proofs.PositionCounts.{first_counts_bytes}
+use Rattle.whole_paths.proofs.LoneFirst.{IsUnjoined, each_lone_moment, unjoined_before}
+use Rattle.whole_paths.proofs.Wanted.{KnowsNoMore, first_knows_no_more}
 use Rattle.whole_paths.proofs.Rising.{begins_dead, next_dead, takes_open}
 use Rattle.whole_paths.proofs.Saying.{ToSend}
 use Rattle.whole_paths.proofs.Turns.{TellsSteps, paths_between}
@@ -645,8 +644,10 @@ each_numbered start turns size =
 -- ---- the world
 
 -- the peer's book takes bytes up to a place, and knows of fewer of the side's before the end has its peer's SYN
-module _ (start : Start) (plan : PathPlan) (one : start.paths ≡ plan ∷ []) (mild : IsMildStart start) (s : Side) (at least : ℕ) (small : least ≤ 65535) (some : 1 ≤ least) (room : at ≤ start.buffer)
-    (fewer : (turns : List Turn) (p : PathState Carried) → IsPathAt 0 (reached values start turns) p → IsAlive p → stage (end_at s p).tcp.state ≤ 1 → next_wanted (arrived_at (peer s) (reached values start turns)) + least ≤ at) where
+-- while B's side joined no path
+module _ (start : Start) (mild : IsMildStart start) (s : Side) (at least : ℕ) (small : least ≤ 65535) (some : 1 ≤ least) (room : at ≤ start.buffer)
+    (fewer : (turns : List Turn) → IsUnjoined (reached values start turns) → (p : PathState Carried) → IsPathAt 0 (reached values start turns) p → IsAlive p → stage (end_at s p).tcp.state ≤ 1
+    → next_wanted (arrived_at (peer s) (reached values start turns)) + least ≤ at) where
   abbrev books_at : List Turn → SixBooks
   books_at turns = books_in (reached values start turns).books
 
@@ -673,71 +674,69 @@ module _ (start : Start) (plan : PathPlan) (one : start.paths ≡ plan ∷ []) (
     abbrev w : WorldState Carried
     w = reached values start turns
 
-    counts : (u : Side) → CountsBytes w p u
-    counts = subst (Of (λ (q : PathState Carried). (u : Side) → CountsBytes w q u)) here.is ((positions_count_bytes start turns plan one mild).each 2 here.crew here.there)
+    knows_no_more : KnowsNoMore (books_at turns) p
+    knows_no_more = subst (Of (KnowsNoMore (books_at turns))) here.is ((first_knows_no_more values start turns).each here.crew here.there)
 
     given_here : Given start p
     given_here = subst (Of (Given start)) here.is ((given start mild turns).each here.crew here.there)
 
     window_said : IsAlive p → next_wanted (arrived_at (peer s) w) + least ≤ at → (o : Option ToSend) → AllTold p o → IfSome o (λ (t : ToSend). t.from ≡ peer s → Offers at (end_at (peer s) p))
-        → IfSome o (λ (t : ToSend). is_dead (end_at t.from p).tcp.state ≡ false → (segment_sent p t).rst ≡ false → (end_at t.from p).receiving.next ≡ next_wanted (arrived_at t.from w))
         → IfSome o (λ (t : ToSend). t.from ≡ peer s → ((segment_sent p t).rst ≡ true) ⊎ (least ≤ (segment_sent p t).window))
-    window_said alive few None told offers knows = tt
-    window_said alive few (Some t) told offers knows = λ own. by own (segment_sent p t).rst refl
+    window_said alive few None told offers = tt
+    window_said alive few (Some t) told offers = λ own. by own (segment_sent p t).rst refl
       where
         by : t.from ≡ peer s → (b : Bool) → (segment_sent p t).rst ≡ b → (b ≡ true) ⊎ (least ≤ (segment_sent p t).window)
         by own true is = inl refl
         by own false is = inr
-            (let next = subst (λ u. is_dead (end_at u p).tcp.state ≡ false → (segment_sent p t).rst ≡ false → (end_at u p).receiving.next ≡ next_wanted (arrived_at u w)) own knows (alive.living (peer s)) is in
+            (let next = knows_no_more (peer s) in
             let window = subst (λ u. (segment_sent p t).window ≡ (end_at u p).receiving.window) own told in
             let offer = offers own in omega (arith, next, window, offer, few))
 
-    first_window : IsAlive p → FirstWindow least s p
-    first_window alive low = window_said alive (fewer turns p here alive low) (first_sends p.agenda p) (first_told p)
+    first_window : IsUnjoined w → IsAlive p → FirstWindow least s p
+    first_window alone alive low = window_said alive (fewer turns alone p here alive low) (first_sends p.agenda p) (first_told p)
         ((what_is_taken_is_offered values).sends (books_at turns) (peer s) at p (takes_at turns p here))
-        (subst (Of (KnowsWhatCame (books_at turns))) here.is ((each_data_ack_is_up_to_date values start turns plan one).each 2 here.crew here.there)).sends
 
-    known_at : Known start s least p
-    known_at = record { link = subst (Of (LinkIsMild start.lines)) here.is ((links_are_mild values start turns mild).each 2 here.crew here.there); first_window = first_window }
+    known_at : IsUnjoined w → Known start s least p
+    known_at alone = record { link = subst (Of (LinkIsMild start.lines)) here.is ((links_are_mild values start turns mild).each 2 here.crew here.there); first_window = first_window alone }
 
-  known : (turns : List Turn) → OfFirst (Known start s least) (reached values start turns)
-  known turns = record { each = λ c there. by c there c.member refl }
+  known : (turns : List Turn) → IsUnjoined (reached values start turns) → OfFirst (Known start s least) (reached values start turns)
+  known turns alone = record { each = λ c there. by c there c.member refl }
     where
       by : (c : ActorCrew Carried) → slice_get (reached values start turns).crew 2 ≡ Some c → (m : Actor Carried) → c.member ≡ m → Of (Known start s least) m
       by c there (App a) is = tt
-      by c there (Path p) is = known_at turns p (record { crew = c; there = there; is = is })
+      by c there (Path p) is = known_at turns p (record { crew = c; there = there; is = is }) alone
 
   opened_offered : OfFirst (AreOffered start s least) (opened_world start)
   opened_offered = record {
     each = λ c there. (opened_lifted (λ c. Of (AreOffered start s least) c.member) start tt tt (λ number plan at_place. record { copies = λ alive. none_begins (CopyOffers least s (begins_turn (waiting_path (path_begins start number plan) start.lines))) start number plan })).each 2 c there;
   }
 
-  offered_at : (turns : List Turn) (p : PathState Carried) → IsPathAt 0 (reached values start turns) p → AreOffered start s least p
-  offered_at turns p here = subst (Of (AreOffered start s least)) here.is
-      ((each_first_moment values start (Known start s least) (AreOffered start s least) known opened_offered (λ r p k h. takes_offered start s least r p k h) (λ p k h. next_offered start s least p h) turns).each here.crew here.there)
+  offered_at : (turns : List Turn) → IsUnjoined (reached values start turns) → (p : PathState Carried) → IsPathAt 0 (reached values start turns) p → AreOffered start s least p
+  offered_at turns alone p here = subst (Of (AreOffered start s least)) here.is
+      ((each_lone_moment start (Known start s least) (AreOffered start s least) known opened_offered (λ r p k h. takes_offered start s least r p k h) (λ p k h. next_offered start s least p h) turns alone).each here.crew here.there)
 
-  before_at : (turns : List Turn) (p : PathState Carried) → IsPathAt 0 (reached values start turns) p → Before start s least small some (books_at turns) p
-  before_at turns p here = record {
+  before_at : (turns : List Turn) → IsUnjoined (reached values start turns) → (p : PathState Carried) → IsPathAt 0 (reached values start turns) p → Before start s least small some (books_at turns) p
+  before_at turns alone p here = record {
     given = given_here turns p here;
     met = subst (Of PathMet) here.is ((each_met start mild turns).each here.crew here.there);
     first = (subst (Of (IsFirstPath start)) here.is (each_first start turns mild.plain.size here.crew here.there)).first;
     states = subst (Of (λ (x : PathState Carried). GoByTheHandshake x)) here.is ((ends_go_by_the_handshake values start turns).each 2 here.crew here.there);
     stood = (given_here turns p here).upright.passes.settled;
-    copies = (offered_at turns p here).copies;
+    copies = (offered_at turns alone p here).copies;
     taken = λ few. subst (λ n. taken_len n (written_by s (reached values start turns)).marks ≡ 0) (sym (subst (Of HasNumber) here.is ((each_numbered start turns mild.plain.size).each here.crew here.there)).path)
-        (let low = (counts turns p here s).taken in omega (arith, low, few));
+        (let low = (first_counts_bytes start turns mild alone p here s).taken in omega (arith, low, few));
   }
 
-  -- as long as no end is dead
+  -- as long as no end is dead and B's side joined no path
   abbrev Unshut : SixBooks → PathState Carried → Type 0
-  Unshut six p = IsAlive p → IsUnshut start s least small some six p
+  Unshut six p = six.control_b.fall.joined ≡ false → IsAlive p → IsUnshut start s least small some six p
 
   abbrev goes_so : EachPathBetween values (GoesOn start s least small some)
   goes_so = paths_between values (GoesOn start s least small some) (others_on start s least small some) (takes_on start s least small some) (next_on start s least small some)
 
   opened_unshut : OfBooked values start (GoesOn start s least small some) goes_so Unshut (opened_world start)
   opened_unshut = record {
-    each = λ c there. (opened_lifted (λ c. Of (Unshut (books_in (opened_world {C = Carried} start).books)) c.member) start tt tt (λ number plan at_place alive.
+    each = λ c there. (opened_lifted (λ c. Of (Unshut (books_in (opened_world {C = Carried} start).books)) c.member) start tt tt (λ number plan at_place alone alive.
         (let p : PathState Carried = waiting_path (path_begins start number plan) start.lines in record {
           told = λ high. absurd (let dead = begins_dead 2 (omega arith) (omega arith) values s p (first_low s number plan) high in both_ways (is_dead (end_at s (begins_turn p)).tcp.state) (alive.living s) dead);
           open_still = λ few. begins_lasts SameShut shut_last p s ∙ first_unshut s number plan;
@@ -756,19 +755,20 @@ module _ (start : Start) (plan : PathPlan) (one : start.paths ≡ plan ∷ []) (
       first_unshut A number plan = refl
       first_unshut B number plan = refl
 
-  pub unshut_at : (turns : List Turn) (p : PathState Carried) → IsPathAt 0 (reached values start turns) p → IsAlive p → (end_at s p).tcp.send.nxt ≤ 1 → (end_at s p).sending.shut ≡ false
-  unshut_at turns p here alive = ((subst (Of (Unshut (books_at turns))) here.is
-      ((each_booked values start (GoesOn start s least small some) goes_so Unshut opened_unshut (λ turns turn steps p q here there on h alive. on (before_at turns p here) alive h) turns).each here.crew here.there)) alive).open_still
+  unshut_now : (turns : List Turn) → IsUnjoined (reached values start turns) → (p : PathState Carried) → IsPathAt 0 (reached values start turns) p → IsAlive p → IsUnshut start s least small some (books_at turns) p
+  unshut_now turns alone p here alive = (subst (Of (Unshut (books_at turns))) here.is
+      ((each_booked values start (GoesOn start s least small some) goes_so Unshut opened_unshut
+      (λ turns turn steps p q here there on h alone alive. (let before = unjoined_before start turns turn alone in on (before_at turns before p here) alive (h before))) turns).each here.crew here.there)) alone alive
+
+  pub unshut_at : (turns : List Turn) → IsUnjoined (reached values start turns) → (p : PathState Carried) → IsPathAt 0 (reached values start turns) p → IsAlive p → (end_at s p).tcp.send.nxt ≤ 1 → (end_at s p).sending.shut ≡ false
+  unshut_at turns alone p here alive = (unshut_now turns alone p here alive).open_still
 
   -- where the turn is over the side may send so far, once its end has its peer's SYN
-  pub edge_at : (turns : List Turn) (p : PathState Carried) → IsPathAt 0 (reached values start turns) p → IsAlive p → 2 ≤ stage (end_at s p).tcp.state → p.agenda ≡ [] → least ≤ (written_by s (reached values start turns)).edge
-  edge_at turns p here alive met over = ⊎_elim (λ next. absurd (let both = sym over ∙ next.first in cc)) (λ low. low)
-      (((subst (Of (Unshut (books_at turns))) here.is
-      ((each_booked values start (GoesOn start s least small some) goes_so Unshut opened_unshut (λ turns turn steps p q here there on h alive. on (before_at turns p here) alive h) turns).each here.crew here.there)) alive).told met)
+  pub edge_at : (turns : List Turn) → IsUnjoined (reached values start turns) → (p : PathState Carried) → IsPathAt 0 (reached values start turns) p → IsAlive p → 2 ≤ stage (end_at s p).tcp.state → p.agenda ≡ []
+      → least ≤ (written_by s (reached values start turns)).edge
+  edge_at turns alone p here alive met over = ⊎_elim (λ next. absurd (let both = sym over ∙ next.first in cc)) (λ low. low) ((unshut_now turns alone p here alive).told met)
 
   -- and where it asks for bytes
-  pub edge_asks : (turns : List Turn) (p : PathState Carried) → IsPathAt 0 (reached values start turns) p → IsAlive p → 2 ≤ stage (end_at s p).tcp.state → (others : List Duty)
+  pub edge_asks : (turns : List Turn) → IsUnjoined (reached values start turns) → (p : PathState Carried) → IsPathAt 0 (reached values start turns) p → IsAlive p → 2 ≤ stage (end_at s p).tcp.state → (others : List Duty)
       → p.agenda ≡ duties.Step (step_duties.Data s) ∷ others → least ≤ (written_by s (reached values start turns)).edge
-  edge_asks turns p here alive met others asks = ⊎_elim (λ next. absurd (let both = sym asks ∙ next.first in cc)) (λ low. low)
-      (((subst (Of (Unshut (books_at turns))) here.is
-      ((each_booked values start (GoesOn start s least small some) goes_so Unshut opened_unshut (λ turns turn steps p q here there on h alive. on (before_at turns p here) alive h) turns).each here.crew here.there)) alive).told met)
+  edge_asks turns alone p here alive met others asks = ⊎_elim (λ next. absurd (let both = sym asks ∙ next.first in cc)) (λ low. low) ((unshut_now turns alone p here alive).told met)

@@ -203,6 +203,27 @@ module _ (start : Start) (number : ℕ) where
         by None there = refl
         by (Some c) there = rw (all_over_each w.crew actor c over there) refl
 
+    -- the application wrote, or closed the stream, in the round
+    pub has_written : (since : List Turn) (order : List ℕ) → BeginsRound values start (at since) → all_over (at (since ++ steps_of order)).crew ≡ true → (s : Side)
+        → ((written_by s (at (since ++ steps_of order))).closed ≡ true) ⊎ (1 ≤ length (written_by s (at (since ++ steps_of order))).written)
+    has_written since order begin over s =
+        by (subst Goes (sym ended) (writers_go_on start (at since) order mild.fit begin s (not_going (pick s 0 1) (after_steps values order (at since)) (subst (λ (w : WorldState Carried). all_over w.crew ≡ true) ended over))))
+      where
+        turns : List Turn
+        turns = since ++ steps_of order
+
+        ended : at turns ≡ after_steps values order (at since)
+        ended = run_append values since (steps_of order) (opened_world start)
+
+        Goes : WorldState Carried → Type 0
+        Goes w = GoesOnWriting (pick s start.file_a start.file_b) start.buffer (acked_len (written_by s (at since)).marks) (written_by s w)
+
+        by : GoesOnWriting (pick s start.file_a start.file_b) start.buffer (acked_len (written_by s (at since)).marks) (written_by s (at turns))
+            → ((written_by s (at turns)).closed ≡ true) ⊎ (1 ≤ length (written_by s (at turns)).written)
+        by (GoesOnWriting.whole file closed) = inl closed
+        by (GoesOnWriting.more written) = inr (omega (arith, some, written))
+        by (GoesOnWriting.stopped stop) = absurd (both_ways _ ((stopped_at turns).send s) stop)
+
     second_so : (s : Side) (since more : List Turn) (order : List ℕ) → BeginsRound values start (at (since ++ more)) → all_over (at ((since ++ more) ++ steps_of order)).crew ≡ true
         → (written_by s (at since)).closed ≡ false → length (written_by s (at since)).written ≤ acked_len (written_by s (at (since ++ more))).marks
         → count since < count ((since ++ more) ++ steps_of order)

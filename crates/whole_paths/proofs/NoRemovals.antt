@@ -1,19 +1,14 @@
 -- Where no line of the script takes the address of path 0 back, no side counts it as removed: over values.
-use Rattle.std.proofs.Common.{◌≡◌, refl, sym, subst, ap, ◌∙◌, ℕ, zero, suc, ◌+◌, ◌==◌, Bool, true, false, true≢false, if◌then◌else◌, Option, Some, None, List, [], ◌∷◌, ◌++◌, length}
-use Rattle.std.specs.Option.{IfSome}
+use Rattle.std.proofs.Common.{◌≡◌, refl, sym, ap, ℕ, zero, suc, ◌+◌, ◌==◌, Bool, true, false, true≢false, if◌then◌else◌, Option, Some, None, List, ◌∷◌, ◌++◌, length, []}
 use Rattle.std.specs.List.{list_any, position}
 use Rattle.std.proofs.lemmas.Bool.{both_ways, or_from, or_parts}
 use Rattle.path_segments.specs.Heard.{HeardSegment}
-use Rattle.path_segments.specs.Spelled.{PlainSegment}
 use Rattle.sides.specs.declared.side.Side.{Side}
 use Rattle.sides.specs.declared.side.Side.TheVariants.{A, B}
-use Rattle.link_model.specs.Fate.{is_altered, is_stripped}
-use Rattle.link_model.specs.State.{LinkState}
-use Rattle.link_model.specs.Steps.{after_delivery, arriving, changed, next_number}
-use Rattle.link_model.specs.declared.flight.Flight.{Flight}
-use Rattle.stream_lanes.specs.Words.{Every}
+use Rattle.link_model.specs.Steps.{after_delivery, arriving}
 use Rattle.subflow_send.specs.Records.{Record}
 use Rattle.subflow_tcp.specs.Expiring.{is_sixth}
+use Rattle.subflow_tcp.specs.States.{is_dead}
 use Rattle.subflow_tcp.specs.declared.verdicts.Meaning.{Meaning}
 use Rattle.subflow_tcp.specs.declared.verdicts.Meaning.TheVariants as means
 use Rattle.actor_desk.specs.Words.{tail_of}
@@ -54,34 +49,23 @@ use Rattle.path_core.specs.Standing.{ack_out_ask}
 use Rattle.path_agenda.specs.Items.{key_heard, keys_heard}
 use Rattle.fallback_state.specs.declared.fall.Event.TheVariants as falls
 use Rattle.send_book.specs.declared.call.SendCall.TheVariants as send_calls
-use Rattle.path_core.specs.Handover.{handed, sends}
-use Rattle.path_core.specs.Looking.{Hands, HandsOrTellsNone, duty_sends, segment_sent}
+use Rattle.path_core.specs.Handover.{sends}
 use Rattle.path_core.specs.MpJoin.{asked_at, is_joined, join_heard_ask, is_never, keys_begun, never_joined, opened_by}
 use Rattle.path_core.specs.OptionsIn.{items_of, options_heard}
 use Rattle.path_core.specs.State.{PathState, at_tick, end_at, goes_on, path_of, with_agenda}
 use Rattle.path_core.specs.Steps.{settled}
 use Rattle.path_core.specs.Timer.{template_fired}
 use Rattle.path_core.specs.Treating.{item_ask, item_of}
-use Rattle.path_core.specs.Values.{Carried, altered, as_arrived, carried_by, stripped, values}
+use Rattle.path_core.specs.Values.{Carried, values}
 use Rattle.path_core.specs.declared.events.Event.{Event}
 use Rattle.path_core.specs.declared.events.Event.TheVariants as happenings
-use Rattle.path_core.proofs.SegmentsTold.{each_segment_is_told}
 use Rattle.world_laws.specs.Writes.{side_of}
-use Rattle.world_laws.proofs.Lanes.Saying.{handed_kept}
-use Rattle.world_laws.proofs.Writes.Steps.{settled_lasts}
-use Rattle.whole_paths.specs.AgendaSteps.{Follows, is_told}
-use Rattle.whole_paths.specs.AgendaSteps.{Follows as follows}
+use Rattle.whole_paths.specs.AgendaSteps.{Follows, is_told, Follows as follows}
 use Rattle.whole_paths.proofs.Agendas.{answered_follows}
-use Rattle.whole_paths.proofs.Came.{quiet_link}
-use Rattle.whole_paths.proofs.Copies.{LinkStays, links_last}
-use Rattle.whole_paths.proofs.HarmlessLines.{is_harmful}
-use Rattle.whole_paths.proofs.HeardRemovals as hears
+use Rattle.whole_paths.proofs.HarmlessLines.{is_withdrawal}
+use Rattle.whole_paths.proofs.NoticeWords.{AreUnheard, Word, is_heard}
 use Rattle.whole_paths.proofs.KeptBooks.{Spares as SparesCall}
 use Rattle.whole_paths.proofs.Pieces.{is_event}
-use Rattle.whole_paths.proofs.QueuedRemovals as queues
-use Rattle.whole_paths.proofs.RemovedItems.{SayNone}
-use Rattle.whole_paths.proofs.Saying.{ToSend}
-use Rattle.whole_paths.proofs.SaidRemovals.{first_noted, takes_back_in}
 
 -- ---- asks
 
@@ -106,7 +90,7 @@ acks_asks s p = either_asks (breaks_by_ack p.profile (end_at s p)) (break_ask va
 fail_asks : (s : Side) (p : PathState Carried) → SparesAsk (fail_ask s p)
 fail_asks s p = elim (may_go_infinite (end_at s p)) as (λ b. SparesAsk (if b then asks.Send s (send_calls.GoInfinite (path_of p)) else fell_ask s (falls.FailHeard false) p)) [ true ↦ tt | false ↦ tt ]
 
-notice_asks : (s : Side) (notice : PeerNotice) (p : PathState Carried) → hears.is_note 0 (says.Notice notice) ≡ false → SparesAsk (notice_ask s notice p)
+notice_asks : (s : Side) (notice : PeerNotice) (p : PathState Carried) → is_heard (Word.removal 0) (says.Notice notice) ≡ false → SparesAsk (notice_ask s notice p)
 notice_asks s (notes.Removed id) p none = λ is. both_ways (id == 0) none (ap (λ n. n == 0) is)
 notice_asks s (notes.AddAddr id address port hmac) p none = tt
 notice_asks s (notes.AddEcho id) p none = tt
@@ -115,7 +99,7 @@ notice_asks s (notes.Prio backup) p none = tt
 -- the thing isn't that the peer takes id 0 back
 abbrev SaysNone : Option Heard → Type 0
 SaysNone None = Unit {0}
-SaysNone (Some item) = hears.is_note 0 item ≡ false
+SaysNone (Some item) = is_heard (Word.removal 0) item ≡ false
 
 item_asks : (s : Side) (o : Option Heard) (p : PathState Carried) → SaysNone o → SparesAsk (item_ask values s o p)
 item_asks s None p h = tt
@@ -124,12 +108,12 @@ item_asks s (Some (says.Notice notice)) p h = notice_asks s notice p h
 item_asks s (Some says.Fail) p h = fail_asks s p
 item_asks s (Some _) p h = tt
 
-at_none : (index : ℕ) (items : List Heard) → SayNone items → SaysNone (item_at index items)
+at_none : (index : ℕ) (items : List Heard) → AreUnheard (Word.removal 0) items → SaysNone (item_at index items)
 at_none index [] h = tt
-at_none zero (item ∷ items) h = (or_parts (hears.is_note 0 item) (hears.is_queued 0 items) h).0
-at_none (suc index) (item ∷ items) h = at_none index items (or_parts (hears.is_note 0 item) (hears.is_queued 0 items) h).1
+at_none zero (item ∷ items) h = (or_parts (is_heard (Word.removal 0) item) (list_any (is_heard (Word.removal 0)) items) h).0
+at_none (suc index) (item ∷ items) h = at_none index items (or_parts (is_heard (Word.removal 0) item) (list_any (is_heard (Word.removal 0)) items) h).1
 
-item_none : (index : ℕ) (e : PathEnd) → SayNone e.treated.items → SaysNone (item_of index e)
+item_none : (index : ℕ) (e : PathEnd) → AreUnheard (Word.removal 0) e.treated.items → SaysNone (item_of index e)
 item_none index e h = elim e.modes.identity as (λ b. SaysNone (if b then None else item_at index e.treated.items)) [ true ↦ tt | false ↦ at_none index e.treated.items h ]
 
 event_asks : (path : ℕ) (o : Option Event) → SparesAsk (step_for path o)
@@ -159,7 +143,7 @@ is_taking _ = false
 abbrev pub TakeNone : List Duty → Type 0
 TakeNone ds = list_any is_taking ds ≡ false
 
-pub duty_asks : (d : Duty) (p : PathState Carried) → is_taking d ≡ false → ((s : Side) → SayNone (end_at s p).treated.items) → SparesAsk (ask_for values d p)
+pub duty_asks : (d : Duty) (p : PathState Carried) → is_taking d ≡ false → ((s : Side) → AreUnheard (Word.removal 0) (end_at s p).treated.items) → SparesAsk (ask_for values d p)
 duty_asks (duties.Ask (ask_duties.Withdraw s id)) p none said = λ is. both_ways (id == 0) none (ap (λ n. n == 0) is)
 duty_asks (duties.Ask (ask_duties.PeerKey s)) p none said = optional (key_heard (end_at s p).treated.items) (λ o. peer_key_ask s o p) tt (λ key. tt)
 duty_asks (duties.Ask (ask_duties.JoinHeard s)) p none said = optional (asked_at s p) (λ o. join_heard_ask s o p) tt (λ asked. tt)
@@ -176,54 +160,6 @@ duty_asks (duties.Step (step_duties.PlainAck s)) p none said = acks_asks s p
 duty_asks (duties.Step (step_duties.Unmapped s)) p none said = break_asks s 6 p
 duty_asks (duties.Send d) p none said = send_asks d p
 duty_asks _ p none said = tt
-
--- ---- a link
-
-abbrev pub IsSaidNone : Flight Carried → Type 0
-IsSaidNone f = takes_back_in 0 (as_arrived f.carried) ≡ false
-
-changed_none : (strips alters : Bool) (x : Carried) → takes_back_in 0 (as_arrived x) ≡ false → takes_back_in 0 (as_arrived (changed stripped altered strips alters x)) ≡ false
-changed_none true true x h = refl
-changed_none true false x h = refl
-changed_none false true x h = h
-changed_none false false x h = h
-
-handed_none : (from : Side) (x : PlainSegment) (p : PathState Carried) → takes_back_in 0 x ≡ false → Every IsSaidNone p.link.under_way → Every IsSaidNone (handed values from x p).under_way
-handed_none from x p none h =
-    handed_kept IsSaidNone from x p (λ tick. changed_none (is_stripped from (next_number from p.link) p.clock p.link.lines) (is_altered from (next_number from p.link) p.link.lines) (carried_by p.profile.spelling from x) none) h
-
-pub same_copies : (p q : PathState Carried) → q.link ≡ p.link → Every IsSaidNone p.link.under_way → Every IsSaidNone q.link.under_way
-same_copies p q is h = subst (λ (l : LinkState Carried). Every IsSaidNone l.under_way) (sym is) h
-
--- what is noted at neither end is said in no segment
-abbrev pub NotesNone : PathState Carried → Type 0
-NotesNone p = (s : Side) → queues.is_noted 0 (end_at s p) ≡ false
-
--- a segment takes id 0 back only where this is noted
-abbrev IsSaidAsNoted : PathState Carried → Option ToSend → Type 0
-IsSaidAsNoted x o = IfSome o (λ t. takes_back_in 0 (segment_sent x t) ≡ true → queues.is_noted 0 (end_at t.from x) ≡ true)
-
-pub sent_none : (d : Duty) (ds : List Duty) (r : Reply) (p : PathState Carried) → let x = with_agenda (d ∷ ds) p in is_event d ≡ false → NotesNone x → Every IsSaidNone p.link.under_way
-    → Every IsSaidNone (answered values d r x).link.under_way
-sent_none d ds r p other none = by (duty_sends d x) refl (first_noted 0 x (d ∷ ds))
-  where
-    x : PathState Carried
-    x = with_agenda (d ∷ ds) p
-
-    q : PathState Carried
-    q = answered values d r x
-
-    never : (t : ToSend) (b : Bool) → takes_back_in 0 (segment_sent x t) ≡ b → IsSaidAsNoted x (Some t) → b ≡ false
-    never t false is noted = refl
-    never t true is noted = absurd (both_ways _ (none t.from) (noted is))
-
-    by : (o : Option ToSend) → duty_sends d x ≡ o → IsSaidAsNoted x o → Every IsSaidNone p.link.under_way → Every IsSaidNone q.link.under_way
-    by None is noted h = same_copies x q (quiet_link values d r x other is) h
-    by (Some t) is noted h =
-        let hands : Hands values x t = subst (HandsOrTellsNone values x) is (each_segment_is_told values x) in
-        let link : q.link ≡ handed values t.from (segment_sent x t) x = sym (settled_lasts LinkStays links_last q.agenda q) ∙ hands.taken r in
-        subst (λ (l : LinkState Carried). Every IsSaidNone l.under_way) (sym link)
-        (handed_none t.from (segment_sent x t) x (let none : takes_back_in 0 (segment_sent x t) ≡ false = never t (takes_back_in 0 (segment_sent x t)) refl noted in none) h)
 
 -- ---- the agenda
 
@@ -282,13 +218,13 @@ died_none true false = refl
 died_none false true = refl
 died_none false false = refl
 
-line_none : (action : LineAction) (p : PathState Carried) → is_harmful action ≡ false → TakeNone (after_line action p).agenda
-line_none actions.Die p spares = absurd (true≢false spares)
+line_none : (action : LineAction) (p : PathState Carried) → is_withdrawal action ≡ false → TakeNone (after_line action p).agenda
+line_none actions.Die p spares = died_none (is_dead p.a.tcp.state) (is_dead p.b.tcp.state)
 line_none (actions.Prio s backup) p spares = refl
 line_none (actions.Announce s id) p spares = refl
 line_none (actions.Withdraw s id) p spares = or_from (id == 0) _ spares refl
 
-pub event_none : (o : Option Event) (r : Reply) (p : PathState Carried) → ((line : LineLeft) → o ≡ Some (happenings.Takes line) → is_harmful line.action ≡ false) → TakeNone (happens_if values o r p).agenda
+pub event_none : (o : Option Event) (r : Reply) (p : PathState Carried) → ((line : LineLeft) → o ≡ Some (happenings.Takes line) → is_withdrawal line.action ≡ false) → TakeNone (happens_if values o r p).agenda
 event_none None r p spares = refl
 event_none (Some (happenings.Joins tick)) r p spares =
     let x : PathState Carried = record (at_tick tick p) { joined_at = None } in

@@ -1,5 +1,5 @@
 -- By each turn between living ends path 0 gets no step back on its way to be open; and a step further, or a harm, is counted.
-use Rattle.std.proofs.Common.{◌≡◌, refl, sym, subst, ap, ◌∙◌, ◌⊎◌, inl, inr, ⊎_elim, ℕ, zero, suc, ◌<◌, ◌≤◌, arith, Bool, true, false, true≢false, Some, List, [], ◌∷◌, ◌++◌}
+use Rattle.std.proofs.Common.{◌≡◌, refl, sym, subst, ap, ◌∙◌, ◌⊎◌, inl, inr, ⊎_elim, ℕ, zero, suc, ◌+◌, ◌<◌, ◌≤◌, arith, Bool, true, false, true≢false, if◌then◌else◌, Option, Some, List, [], ◌∷◌, ◌++◌}
 use Rattle.std.specs.List.{slice_get}
 use Rattle.std.proofs.lemmas.Bool.{both_ways, cases_lt}
 use Rattle.sides.specs.declared.side.Side.{Side}
@@ -16,7 +16,7 @@ use Rattle.path_core.specs.Values.{Carried, values}
 use Rattle.world_laws.specs.declared.member.Member.TheVariants.{Path}
 use Rattle.world_laws.specs.Actors.{Actor}
 use Rattle.world_laws.specs.Members.{HoldsOfKind, of_kind}
-use Rattle.world_laws.specs.Openings.{PathPlan, Start, opened_world}
+use Rattle.world_laws.specs.Openings.{Start, opened_world}
 use Rattle.world_laws.specs.RoundDone.{reached}
 use Rattle.world_laws.specs.Worlds.{Turn, WorldState, after_turn}
 use Rattle.world_laws.proofs.Weaving.WholeRounds.{run_append}
@@ -30,7 +30,6 @@ use Rattle.whole_paths.specs.Finish.{IsPathAt, harms_between, harms_of, is_harme
 use Rattle.whole_paths.specs.Courses.{counted}
 use Rattle.whole_paths.specs.News.{news, one_if}
 use Rattle.whole_paths.specs.News.{Counts as counts}
-use Rattle.whole_paths.specs.OnePathScripts.{BeginsWithOnePath}
 use Rattle.whole_paths.specs.OpenCourses.{IsNow}
 use Rattle.whole_paths.specs.Opened.{OpensOn, opened_or_harmed, steps_in, steps_open}
 use Rattle.whole_paths.specs.Opened.{OpensOn as opens}
@@ -48,11 +47,17 @@ use Rattle.whole_paths.proofs.DataLeft.{EndsAreBegun, each_is_begun}
 use Rattle.whole_paths.proofs.EdgesStay.{nothing_comes_before}
 use Rattle.whole_paths.proofs.EndsUntold.{a_is_told_no_end_before}
 use Rattle.whole_paths.proofs.Exchanges.{Shown, each_shown}
-use Rattle.whole_paths.proofs.FinishedThere.{what_is_finished_is_there}
+use Rattle.whole_paths.proofs.FinishedThere.{each_finished_is_there}
 use Rattle.whole_paths.proofs.FirstSigns.{asks_for_itself}
 use Rattle.whole_paths.proofs.GoesOn.{goes_on_so}
 use Rattle.whole_paths.proofs.GoingOn.{open_behind}
-use Rattle.whole_paths.proofs.HeardBelow.{heard_lies_below}
+use Rattle.whole_paths.proofs.HeardWanted.{heard_is_wanted}
+use Rattle.whole_paths.proofs.LoneFirst.{unjoined_so}
+use Rattle.whole_paths.proofs.PositionCounts.{first_counts_bytes}
+use Rattle.reassembly_book.specs.State.{received}
+use Rattle.reassembly_book.specs.Steps.{is_end, next_wanted}
+use Rattle.world_laws.specs.Promises.{arrived_at}
+use Rattle.whole_paths.specs.Mild.{IsMildStart}
 use Rattle.whole_paths.proofs.OpenCourses.{IsFirstPath, each_first}
 use Rattle.whole_paths.proofs.OpeningStates.{ends_go_by_the_handshake}
 use Rattle.whole_paths.proofs.Reached.{EndsAreReached, each_is_reached, first_left, first_reached}
@@ -108,7 +113,7 @@ b_met x (of_b.past high) more = omega (arith, high)
 
 -- ---- a moment
 
-module _ (start : Start) (plan : PathPlan) (begins : BeginsWithOnePath start plan) where
+module _ (start : Start) (mild : IsMildStart start) where
   -- what is known of path 0 after these turns
   module _ (turns : List Turn) (p : PathState Carried) (here : IsPathAt 0 (reached values start turns) p) (alive : IsAlive p) where
     came : HasCome p
@@ -124,7 +129,7 @@ module _ (start : Start) (plan : PathPlan) (begins : BeginsWithOnePath start pla
     begun = subst (Of EndsAreBegun) here.is ((each_is_begun values start turns).each 2 here.crew here.there)
 
     pub edge_first : (s : Side) → (end_at s p).modes.clear ≡ false → (end_at s p).tcp.recv.edge ≡ 1
-    edge_first = nothing_comes_before start plan turns begins.one begins.mild p here alive
+    edge_first = nothing_comes_before start turns mild p here alive
 
     -- of an end whose peer may send no DSS
     module _ (s : Side) (unsure : (end_at (peer s) p).modes.clear ≡ false) where
@@ -140,17 +145,17 @@ module _ (start : Start) (plan : PathPlan) (begins : BeginsWithOnePath start pla
 
     -- A's side is told no end of B's stream
     pub b_missing : p.a.modes.clear ≡ false → IsAllThere B (reached values start turns) → ⊥
-    b_missing unclear all = let none = a_is_told_no_end_before start plan turns begins.one begins.mild p here unclear in let some = all.known in cc
+    b_missing unclear all = let none = a_is_told_no_end_before start turns mild p here unclear in let some = all.known in cc
 
     -- nothing of its stream is acknowledged
     pub unheard : (s : Side) → (end_at (peer s) p).modes.clear ≡ false → ((end_at s p).sending.heard ≡ 0) × ((end_at s p).sending.close.own_acked ≡ false)
     unheard A unsure = (heard_none, never p.a.sending.close.own_acked refl)
       where
         ends : EndsClear p
-        ends = subst (Of EndsClear) here.is ((each_ends start begins.mild turns).each here.crew here.there)
+        ends = subst (Of EndsClear) here.is ((each_ends start mild turns).each here.crew here.there)
 
         may_not : p.a.modes.clear ≡ true → ⊥
-        may_not clear = both_ways p.b.modes.clear unsure (b_is_clear_first start plan turns begins.one begins.mild p here clear)
+        may_not clear = both_ways p.b.modes.clear unsure (b_is_clear_first start turns mild p here clear)
 
         heard_none : p.a.sending.heard ≡ 0
         heard_none = ⊎_elim (λ some. absurd (may_not (ends.heard some))) (λ none. omega (arith, none)) (cases_lt 0 p.a.sending.heard)
@@ -158,27 +163,36 @@ module _ (start : Start) (plan : PathPlan) (begins : BeginsWithOnePath start pla
         never : (b : Bool) → p.a.sending.close.own_acked ≡ b → b ≡ false
         never false is = refl
         never true is = absurd (may_not (ends.acked is))
-    unheard B unclear = (
-      ⊎_elim (λ all. absurd (b_missing unclear all)) (λ low. let few = una_low B unclear in omega (arith, low, few)) (heard_lies_below start plan turns begins p here alive.living B),
-      never p.b.sending.close.own_acked refl,
-    )
+    unheard B unclear = (heard_none, never p.b.sending.close.own_acked refl)
       where
+        w : WorldState Carried
+        w = reached values start turns
+
+        heard_none : p.b.sending.heard ≡ 0
+        heard_none =
+            let heard = heard_is_wanted start turns mild p here B in
+            let none = a_is_told_no_end_before start turns mild p here unclear in
+            let came = (first_counts_bytes start turns mild (unjoined_so start turns p here unclear) p here B).came in
+            let edge = edge_first A unclear in
+            let wants : next_wanted (arrived_at A w) ≡ 0 = ap (λ (o : Option ℕ). received (arrived_at A w) + (if is_end o (received (arrived_at A w)) then 1 else 0)) none ∙ omega (arith, came, edge) in
+            omega (arith, heard, wants)
+
         there : FinishedIsThere (reached values start turns) p
-        there = subst (Of (FinishedIsThere (reached values start turns))) here.is (what_is_finished_is_there start plan turns begins.one begins.mild 2 here.crew here.there)
+        there = subst (Of (FinishedIsThere (reached values start turns))) here.is (each_finished_is_there start turns mild 2 here.crew here.there)
 
         never : (b : Bool) → p.b.sending.close.own_acked ≡ b → b ≡ false
         never false is = refl
         never true is = absurd (b_missing unclear (there B (HasFinished.acknowledged is)))
 
     first : IsFirstPath start p
-    first = subst (Of (IsFirstPath start)) here.is (each_first start turns begins.mild.plain.size here.crew here.there)
+    first = subst (Of (IsFirstPath start)) here.is (each_first start turns mild.plain.size here.crew here.there)
 
     -- B's first record is its first piece
     pub first_of_b : p.a.modes.clear ≡ false → 3 ≤ stage p.b.tcp.state → (r : Record) → IsFirst r p.b → (r.kind ≡ Data) × (r.pos ≡ 1)
     first_of_b unclear past r h = by h.first.kind refl
       where
         missing : HasFinished p.b → ⊥
-        missing done = b_missing unclear ((subst (Of (FinishedIsThere (reached values start turns))) here.is (what_is_finished_is_there start plan turns begins.one begins.mild 2 here.crew here.there)) B done)
+        missing done = b_missing unclear ((subst (Of (FinishedIsThere (reached values start turns))) here.is (each_finished_is_there start turns mild 2 here.crew here.there)) B done)
 
         unfinished : p.b.tcp.send.finished ≡ false
         unfinished = by (may_finish p.b.tcp.state) refl
@@ -194,7 +208,7 @@ module _ (start : Start) (plan : PathPlan) (begins : BeginsWithOnePath start pla
         some = (begun B).past past (living_low p.b.tcp.state (alive.living B))
 
         shown : Shown p
-        shown = subst (Of Shown) here.is (each_shown start turns begins.mild.plain.size begins.mild.fit 2 here.crew here.there)
+        shown = subst (Of Shown) here.is (each_shown start turns mild.plain.size mild.fit 2 here.crew here.there)
 
         by : (k : RecordKind) → h.first.kind ≡ k → (r.kind ≡ Data) × (r.pos ≡ 1)
         by Data kind = (
@@ -209,7 +223,7 @@ module _ (start : Start) (plan : PathPlan) (begins : BeginsWithOnePath start pla
             ⊎_elim (λ left. omega (arith, left, zero_pos, size, some)) (λ empty. omega (arith, empty, size)) (first_left p.b.tcp h.first h.others (reached_so B) h.records))
 
     no_third : (s : Side) → (end_at s p).modes.owes_third ≡ false
-    no_third s = (asks_for_itself s start turns begins.mild p here).0 first.first
+    no_third s = (asks_for_itself s start turns mild p here).0 first.first
 
   -- ---- a turn
 
@@ -233,7 +247,7 @@ module _ (start : Start) (plan : PathPlan) (begins : BeginsWithOnePath start pla
     there = subst (λ (w : WorldState Carried). IsPathAt 0 w q) (sym same) after.here
 
     pub far : IsPathAsFar p q
-    far = with_both start begins.mild turns turn before after IsActorAsFar (let found = (goes_on_so values (reached values start turns) (turn ∷ [])).crew 2 before.here.crew before.here.there in (found.0, found.1, found.2.member))
+    far = with_both start mild turns turn before after IsActorAsFar (let found = (goes_on_so values (reached values start turns) (turn ∷ [])).crew 2 before.here.crew before.here.there in (found.0, found.1, found.2.member))
 
     steps_up : steps_open p ≤ steps_open q
     steps_up =
@@ -339,7 +353,7 @@ module _ (start : Start) (plan : PathPlan) (begins : BeginsWithOnePath start pla
         (cases_lt (stage p.a.tcp.state) (stage q.a.tcp.state))
       where
         by_counts : counts p q → counted values start turns < counted values start later
-        by_counts = counts_so start begins.mild turns turn before after
+        by_counts = counts_so start mild turns turn before after
 
         clear_or : (a b : Bool) {x y : Bool} → x ≡ a → y ≡ b → ((x ≡ false) × (y ≡ true)) ⊎ (one_if y ≤ one_if x)
         clear_or false true is_a is_b = inl (is_a, is_b)
@@ -356,7 +370,7 @@ module _ (start : Start) (plan : PathPlan) (begins : BeginsWithOnePath start pla
       never : (before : IsNow IsAlive (reached values start v)) (now : IsNow IsAlive (after_turn values Turn.Round (reached values start v)))
           → opened_or_harmed start v < opened_or_harmed start (v ++ Turn.Round ∷ []) → ⊥
       never before now more =
-          let same = no_round_counts start v step.over in
+          let same = no_round_counts start 0 v step.over in
           let was = steps_is (reached values start v) before.path before.here in let is = steps_is (reached values start (v ++ Turn.Round ∷ [])) now.path (there v Turn.Round before now) in
           let harms = harmed_append values 0 v (Turn.Round ∷ []) (opened_world start) in
           let up : news start (reached values start v) ≤ news start (reached values start (v ++ Turn.Round ∷ [])) = subst (λ (w : WorldState Carried). news start (reached values start v) ≤ news start w)

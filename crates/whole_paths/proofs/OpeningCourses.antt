@@ -1,12 +1,10 @@
 -- While no end of path 0 is dead it opens: each wait of the opening ends in time, or the path is a step further, or a segment was harmed.
-use Rattle.std.proofs.Common.{◌≡◌, refl, sym, subst, ap, ◌∙◌, ◌⊎◌, ⊎_elim, inl, inr, ℕ, ◌+◌, ◌*◌, ◌<◌, ◌≤◌, arith, Bool, true, false, true≢false, Option, None, Some, is_some, List, [], ◌∷◌, ◌++◌, length}
+use Rattle.std.proofs.Common.{◌≡◌, refl, sym, subst, ap, ◌∙◌, ◌⊎◌, ⊎_elim, inl, inr, ℕ, ◌+◌, ◌*◌, ◌<◌, ◌≤◌, arith, Bool, true, false, true≢false, Option, None, Some, is_some, List, [], ◌∷◌, ◌++◌}
 use Rattle.std.specs.List.{slice_get}
 use Rattle.std.proofs.lemmas.Bool.{both_ways, cases_lt}
 use Rattle.std.proofs.lemmas.List.{append-nil}
 use Rattle.sides.specs.declared.side.Side.{Side}
 use Rattle.sides.specs.declared.side.Side.TheVariants.{A, B}
-use Rattle.send_book.specs.State.{acked_len}
-use Rattle.reassembly_book.specs.State.{received}
 use Rattle.subflow_send.specs.Records.{Record}
 use Rattle.subflow_tcp.specs.States.{is_closed_to_segments, is_dead}
 use Rattle.subflow_tcp.specs.declared.handshake.State.{State}
@@ -18,23 +16,20 @@ use Rattle.path_core.specs.Values.{Carried, values}
 use Rattle.world_laws.specs.declared.member.Member.TheVariants.{App, Path}
 use Rattle.world_laws.specs.Actors.{Actor, ActorCrew, is_over}
 use Rattle.world_laws.specs.Members.{HoldsOfKind, of_kind}
-use Rattle.world_laws.specs.Openings.{PathPlan, Start, opened_world}
-use Rattle.world_laws.specs.Promises.{arrived_at, written_by}
+use Rattle.world_laws.specs.Openings.{Start, opened_world}
+use Rattle.world_laws.specs.Promises.{written_by}
 use Rattle.world_laws.specs.RoundDone.{reached}
 use Rattle.world_laws.specs.RoundNumbers.{BeginsRound}
 use Rattle.world_laws.specs.Worlds.{Turn, WorldState, after_turn, all_over, world_run}
 use Rattle.world_laws.proofs.Rounds.Lifting.{all_over_each}
 use Rattle.world_laws.proofs.Weaving.WholeRounds.{run_append}
-use Rattle.world_laws.proofs.Promises.Made.{keep_their_word}
 use Rattle.whole_paths.specs.AsFar.{IsPathAsFar, stage}
 use Rattle.whole_paths.specs.Clear.{IsPastIfClear}
 use Rattle.whole_paths.specs.Courses.{course_of, harmed_so_far, round_end}
-use Rattle.whole_paths.specs.Delivery.{IsAllThere}
 use Rattle.whole_paths.specs.Finish.{IsPathAt, IsWhole}
-use Rattle.whole_paths.specs.GoingOn.{IsEndOpen}
-use Rattle.whole_paths.specs.Mild.{HasKeys, treats_answer}
+use Rattle.whole_paths.specs.GoingOn.{steps_of}
+use Rattle.whole_paths.specs.Mild.{HasKeys, IsMildStart, treats_answer}
 use Rattle.whole_paths.specs.News.{one_if}
-use Rattle.whole_paths.specs.OnePathScripts.{BeginsWithOnePath}
 use Rattle.whole_paths.specs.OpenCourses.{IsNow}
 use Rattle.whole_paths.specs.Opened.{OpensOn, opened_or_harmed, steps_in, steps_open}
 use Rattle.whole_paths.specs.OpeningCourses.{AwaitsAStep, HasBegun, IsFromB, IsInRound, IsOpenOrDone, IsOpeningStill}
@@ -43,8 +38,8 @@ use Rattle.whole_paths.specs.OpeningWaits.{AHasFinished, AliveOpens, AliveSteps,
 use Rattle.whole_paths.specs.OpeningWaits.{IsOpening as opens}
 use Rattle.whole_paths.specs.PaidCourses.{PaidExchanges}
 use Rattle.whole_paths.specs.PaidRounds.{AWaitBegins, AWaitGoesOn}
-use Rattle.whole_paths.specs.PositionCounts.{CountsBytes}
 use Rattle.whole_paths.specs.Reasons.{IsOutstanding}
+use Rattle.whole_paths.specs.Serving.{ServesAt}
 use Rattle.whole_paths.specs.SignPieces.{WantsASign}
 use Rattle.whole_paths.specs.SignWaits.{FirstSignIsAwaited, IsToShow}
 use Rattle.whole_paths.specs.SignWaits.{IsToShow as shows}
@@ -55,17 +50,18 @@ use Rattle.whole_paths.proofs.Courses.{harmed_append, round_next, round_step}
 use Rattle.whole_paths.proofs.Delivery.{what_is_there_stays}
 use Rattle.whole_paths.proofs.FirstSigns.{asks_for_its_end}
 use Rattle.whole_paths.proofs.FirstWindows.{b_is_idle_before}
+use Rattle.whole_paths.proofs.FirstAsks.{b_has_something}
 use Rattle.whole_paths.proofs.Flying.{same_record}
 use Rattle.whole_paths.proofs.GoesOn.{goes_on_so}
-use Rattle.whole_paths.proofs.GoingOn.{has_written, one_more, prefix_up, waits_for_something}
+use Rattle.whole_paths.proofs.GoingOn.{one_more, prefix_up}
 use Rattle.whole_paths.proofs.Handshaking.{living_ends_open_or_are_past}
 use Rattle.whole_paths.proofs.InTime.{nil_so}
 use Rattle.whole_paths.proofs.Keyed.{keys_are_known}
 use Rattle.whole_paths.proofs.KeysCome.{the_first_piece_waits}
+use Rattle.whole_paths.proofs.ManyGoingOn.{has_written}
 use Rattle.whole_paths.proofs.OpenCourses.{IsFirstPath, each_first}
-use Rattle.whole_paths.proofs.Opened.{b_missing, edge_first, far, few_steps, first_of_b, never_falls, no_round_opens, one_most, opens_so, steps_is, there}
+use Rattle.whole_paths.proofs.Opened.{edge_first, far, few_steps, first_of_b, never_falls, no_round_opens, one_most, opens_so, steps_is, there}
 use Rattle.whole_paths.proofs.OpeningWaits.{openings_are_awaited, to_open_low}
-use Rattle.whole_paths.proofs.PositionCounts.{positions_count_bytes}
 use Rattle.whole_paths.proofs.RecordWaits.{path_is}
 use Rattle.whole_paths.proofs.SendsEnds.{who_is_done_is_clear}
 use Rattle.whole_paths.proofs.SignWaits.{first_signs_are_awaited}
@@ -90,7 +86,7 @@ both_past : (p q : PathState Carried) → IsPathAsFar p q → ((s : Side) → 3 
 both_past p q far past A = let low = past A in let up = far.a.subflow.state in omega (arith, low, up)
 both_past p q far past B = let low = past B in let up = far.b.subflow.state in omega (arith, low, up)
 
-module _ (start : Start) (plan : PathPlan) (most : ℕ) (begins : BeginsWithOnePath start plan) where
+module _ (start : Start) (most : ℕ) (mild : IsMildStart start) (some : 1 ≤ start.buffer) (serves : (turns : List Turn) → ServesAt 0 (reached values start turns)) where
   abbrev at : List Turn → WorldState Carried
   at turns = reached values start turns
 
@@ -104,13 +100,10 @@ module _ (start : Start) (plan : PathPlan) (most : ℕ) (begins : BeginsWithOneP
   Awaits x turns = IsOpeningStill start x turns
 
   openings : OpeningIsAwaited start most
-  openings = openings_are_awaited start plan most begins
+  openings = openings_are_awaited start most mild
 
   firsts : FirstSignIsAwaited start most
-  firsts = first_signs_are_awaited start plan most begins
-
-  some : 1 ≤ start.buffer
-  some = let least = begins.buffer in omega (arith, least)
+  firsts = first_signs_are_awaited start most mild
 
   -- ---- a turn
 
@@ -122,13 +115,13 @@ module _ (start : Start) (plan : PathPlan) (most : ℕ) (begins : BeginsWithOneP
     then_now = subst (λ (y : WorldState Carried). IsNow IsAlive y) same after
 
     then_there : IsPathAt 0 (at (v ++ t ∷ [])) then_now.path
-    then_there = there start plan begins v t before then_now
+    then_there = there start mild v t before then_now
 
     far_now : IsPathAsFar before.path then_now.path
-    far_now = far start plan begins v t before then_now
+    far_now = far start mild v t before then_now
 
     up_now : count v ≤ count (v ++ t ∷ [])
-    up_now = never_falls start plan begins v t before then_now
+    up_now = never_falls start mild v t before then_now
 
     -- a path that is whole stays so
     whole_on : IsWhole 0 (at v) → IsWhole 0 (at (v ++ t ∷ []))
@@ -153,7 +146,7 @@ module _ (start : Start) (plan : PathPlan) (most : ℕ) (begins : BeginsWithOneP
 
     pub over_on : Over v → Over (v ++ t ∷ [])
     over_on (inl whole) = inl (whole_on whole)
-    over_on (inr all) = inr (record { of = λ s. what_is_there_stays start v (t ∷ []) begins.mild s (all.of s) })
+    over_on (inr all) = inr (record { of = λ s. what_is_there_stays start v (t ∷ []) mild s (all.of s) })
 
     -- and one that is open from B on, or A may send a DSS
     from_on : IsFromB start v → (count v < count (v ++ t ∷ [])) ⊎ IsFromB start (v ++ t ∷ [])
@@ -166,7 +159,7 @@ module _ (start : Start) (plan : PathPlan) (most : ℕ) (begins : BeginsWithOneP
         unclear_before = subst (λ (p : PathState Carried). p.a.modes.clear ≡ false) (path_is (at v) h.path before.path h.here before.here) h.unclear
 
         by : (b : Bool) → then_now.path.a.modes.clear ≡ b → (count v < count (v ++ t ∷ [])) ⊎ IsFromB start (v ++ t ∷ [])
-        by true is = inl (opens_so start plan begins v t before then_now (let past = from_before.past A in omega (arith, past)) (OpensOn.clears A unclear_before is))
+        by true is = inl (opens_so start mild v t before then_now (let past = from_before.past A in omega (arith, past)) (OpensOn.clears A unclear_before is))
         by false is = inr (record {
           path = then_now.path;
           here = then_there;
@@ -199,7 +192,7 @@ module _ (start : Start) (plan : PathPlan) (most : ℕ) (begins : BeginsWithOneP
   never_done v now done p here low =
       let first : is_joined done.path.profile ≡ false = subst (λ (q : PathState Carried). is_joined q.profile ≡ false) (path_is (at v) now.path done.path now.here done.here) now.faithful.joined in
       let past = subst (HoldsOfKind (λ app. Unit {0}) IsPastIfClear) done.here.is (clear_ends_are_past values start v 2 done.here.crew done.here.there) first B
-      (b_is_clear_first start plan v begins.one begins.mild done.path done.here (who_is_done_is_clear start v begins.mild done.path done.here done.finished)) in
+      (b_is_clear_first start v mild done.path done.here (who_is_done_is_clear start v mild done.path done.here done.finished)) in
       let high : 3 ≤ stage p.b.tcp.state = subst (λ (q : PathState Carried). 3 ≤ stage q.b.tcp.state) (path_is (at v) done.path p done.here here) past in
       omega (arith, high, low)
 
@@ -230,11 +223,11 @@ module _ (start : Start) (plan : PathPlan) (most : ℕ) (begins : BeginsWithOneP
     silent = nil_so p.agenda (subst (λ m. is_over m ≡ true) here.is (all_over_each (at v).crew 2 here.crew step.over here.there))
 
     first : IsFirstPath start p
-    first = subst (HoldsOfKind (λ app. Unit {0}) (IsFirstPath start)) here.is (each_first start v begins.mild.plain.size here.crew here.there)
+    first = subst (HoldsOfKind (λ app. Unit {0}) (IsFirstPath start)) here.is (each_first start v mild.plain.size here.crew here.there)
 
     keyed : 2 ≤ stage p.a.tcp.state → is_some p.a.modes.peer_key ≡ true
     keyed high = ⊎_elim (λ has. has) (λ treats. absurd (true≢false (sym treats ∙ ap treats_answer silent)))
-        (((subst (HoldsOfKind (λ app. Unit {0}) HasKeys) here.is ((keys_are_known start v begins.mild).each 2 here.crew here.there)) first.first).a high (alive.living A))
+        (((subst (HoldsOfKind (λ app. Unit {0}) HasKeys) here.is ((keys_are_known start v mild).each 2 here.crew here.there)) first.first).a high (alive.living A))
 
     next_end : round_end values start u ≡ round_end values start v + 100
     next_end = subst (λ t. round_end values start t ≡ round_end values start v + 100) (sym step.is) (round_next values start v step.over)
@@ -261,50 +254,38 @@ module _ (start : Start) (plan : PathPlan) (most : ℕ) (begins : BeginsWithOneP
       }
 
       then_from : IsFromB start u
-      then_from = ⊎_elim (λ rises. absurd (no_round_opens start plan begins most v u step rises)) (λ h. h) (opens_from v u step is_from)
+      then_from = ⊎_elim (λ rises. absurd (no_round_opens start mild most v u step rises)) (λ h. h) (opens_from v u step is_from)
 
       wants : WantsASign p
-      wants = record { unclear = unclear; high = (let high = past A in omega (arith, high)); clear = clear; met = (let high = past B in omega (arith, high)); edge = edge_first start plan begins v p here alive A unclear }
-
-      -- none of B's bytes are acknowledged
-      unacked : acked_len (written_by B (at v)).marks ≡ 0
-      unacked =
-          let acked : acked_len (written_by B (at v)).marks ≤ received (arrived_at A (at v)) = (keep_their_word start v begins.mild.plain).ba.acked in
-          let came = (subst (HoldsOfKind (λ app. Unit {0}) (λ (q : PathState Carried). (s : Side) → CountsBytes (at v) q s)) here.is ((positions_count_bytes start v plan begins.one begins.mild).each 2 here.crew here.there) B).came in
-          let edge = wants.edge in omega (arith, acked, came, edge)
-
-      opened_end : IsEndOpen B p
-      opened_end = record { past = past B; living = alive.living B; clear = clear }
-
-      asks : p.b.tcp.send.records ≡ [] → (p.b.sending.granted ≡ []) × (p.b.sending.shut ≡ false) → IsOutstanding p.b → IsToShow p
-      asks none idle (IsOutstanding.on_subflow r others is) = absurd (let wrong : [] ≡ r ∷ others = sym none ∙ is in cc)
-      asks none idle (IsOutstanding.on_stream g others is) = absurd (let wrong : [] ≡ g ∷ others = sym idle.0 ∙ is in cc)
-      asks none idle (IsOutstanding.shut is) = absurd (both_ways p.b.sending.shut idle.1 is)
-      asks none idle (IsOutstanding.third is) = absurd (both_ways p.b.modes.owes_third ((asks_for_its_end start v begins.mild p here).0 first.first) is)
-      asks none idle (IsOutstanding.fast_close is) = absurd (both_ways p.b.notices.fast_closed (asks_for_its_end start v begins.mild p here).1 is)
-      asks none idle (IsOutstanding.data_fin identity infinite sent unacknowledged) =
-          shows.end (open_past p.b.tcp.state (past B) (alive.living B)) none unclear wants.high (record { clear = clear; sent = sent; unacked = unacknowledged })
-
-      shows_by : IsOutstanding p.b → IsToShow p
-      shows_by out = by p.b.tcp.send.records refl
-        where
-          by : (rs : List Record) → p.b.tcp.send.records ≡ rs → IsToShow p
-          by [] none = asks none (b_is_idle_before start plan v begins.one begins.mild some p here alive silent unclear clear none) out
-          by (r ∷ others) is =
-              let piece = first_of_b start plan begins v p here alive unclear (past B) r (record { first = r; others = others; records = is; same = same_record r }) in
-              shows.sign wants r others is piece.0 piece.1
+      wants = record { unclear = unclear; high = (let high = past A in omega (arith, high)); clear = clear; met = (let high = past B in omega (arith, high)); edge = edge_first start mild v p here alive A unclear }
 
       -- B's end has something outstanding at the end of the round
       b_shows : (since : List Turn) → IsInRound start since v → HasBegun (at since) → IsToShow p
-      b_shows since r had = shows_by (waits_for_something start plan begins.one begins.mild some since r.order r.begin (subst (λ ts. all_over (at ts).crew ≡ true) r.is step.over)
-          here.crew (subst (λ ts. slice_get (at ts).crew 2 ≡ Some here.crew) r.is here.there) p here.is B opened_end
-          (subst (λ ts. IsAllThere B (at ts) → ⊥) r.is (b_missing start plan begins v p here alive unclear))
-          (⊎_elim (λ closed. inl closed) (λ one. inr (subst (λ ts. acked_len (written_by B (at ts)).marks < length (written_by B (at since)).written) r.is (let none = unacked in omega (arith, none, one)))) had)).1
+      b_shows since r had = by p.b.tcp.send.records refl
+        where
+          asks : p.b.tcp.send.records ≡ [] → (p.b.sending.granted ≡ []) × (p.b.sending.shut ≡ false) → IsOutstanding p.b → IsToShow p
+          asks none idle (IsOutstanding.on_subflow r others is) = absurd (let wrong : [] ≡ r ∷ others = sym none ∙ is in cc)
+          asks none idle (IsOutstanding.on_stream g others is) = absurd (let wrong : [] ≡ g ∷ others = sym idle.0 ∙ is in cc)
+          asks none idle (IsOutstanding.shut is) = absurd (both_ways p.b.sending.shut idle.1 is)
+          asks none idle (IsOutstanding.third is) = absurd (both_ways p.b.modes.owes_third ((asks_for_its_end start v mild p here).0 first.first) is)
+          asks none idle (IsOutstanding.fast_close is) = absurd (both_ways p.b.notices.fast_closed (asks_for_its_end start v mild p here).1 is)
+          asks none idle (IsOutstanding.data_fin identity infinite sent unacknowledged) =
+              shows.end (open_past p.b.tcp.state (past B) (alive.living B)) none unclear wants.high (record { clear = clear; sent = sent; unacked = unacknowledged })
+
+          ended : IsPathAt 0 (at (since ++ steps_of r.order)) p
+          ended = subst (λ ts. IsPathAt 0 (at ts) p) r.is here
+
+          by : (rs : List Record) → p.b.tcp.send.records ≡ rs → IsToShow p
+          by [] none = asks none (b_is_idle_before start v mild some p here alive silent unclear clear none)
+              (b_has_something start mild some serves since r.order r.begin (subst (λ ts. all_over (at ts).crew ≡ true) r.is step.over) p ended alive silent (past B) unclear clear none had)
+          by (top ∷ others) is =
+              let piece = first_of_b start mild v p here alive unclear (past B) top (record { first = top; others = others; records = is; same = same_record top }) in
+              shows.sign wants top others is piece.0 piece.1
 
       -- B's application wrote, or closed its stream
       b_begun : (since : List Turn) → IsInRound start since v → HasBegun (at u)
       b_begun since r =
-          let now : HasBegun (at v) = subst (λ ts. HasBegun (at ts)) (sym r.is) (has_written start plan begins.one begins.mild some since r.order r.begin (subst (λ ts. all_over (at ts).crew ≡ true) r.is step.over) B) in
+          let now : HasBegun (at v) = subst (λ ts. HasBegun (at ts)) (sym r.is) (has_written start 0 mild some since r.order r.begin (subst (λ ts. all_over (at ts).crew ≡ true) r.is step.over) B) in
           let far = (goes_on_so values (at v) (Turn.Round ∷ [])).sides B in
           subst HasBegun (sym next_is) (⊎_elim (λ closed. inl (far.send.closed closed))
           (λ one. inr (let more = prefix_up (written_by B (at v)).written (written_by B (world_run values (Turn.Round ∷ []) (at v))).written far.send.written in omega (arith, one, more))) now)
@@ -327,11 +308,11 @@ module _ (start : Start) (plan : PathPlan) (most : ℕ) (begins : BeginsWithOneP
           path = p;
           here = here;
           connected = λ s. connected_past (end_at s p).tcp.state (past s) (alive.living s);
-          clear = elim [ A ↦ clear | B ↦ b_is_clear_first start plan v begins.one begins.mild p here clear ];
+          clear = elim [ A ↦ clear | B ↦ b_is_clear_first start v mild p here clear ];
         })))
         by false unclear true clear = inr (low_of A unclear, writes u (then_from past unclear clear) next_round (let next = next_end in omega (arith, next)))
         by false unclear false unsure =
-            let h = the_first_piece_waits start plan v begins.one begins.mild p here alive silent past unsure in
+            let h = the_first_piece_waits start v mild p here alive silent past unsure in
             inr (
               low_of A unclear,
               shows_so (shows.piece h.first h.others h.records h.kind h.position (let high = past A in omega (arith, high)) unclear unsure (let high = past B in omega (arith, high)) h.edge)
@@ -348,7 +329,7 @@ module _ (start : Start) (plan : PathPlan) (most : ℕ) (begins : BeginsWithOneP
               (openings.begins v u step (record { path = p; here = here; opening = still }))),
         ))
         (λ past. if_clear past)
-        (living_ends_open_or_are_past start v begins.mild p here alive)
+        (living_ends_open_or_are_past start v mild p here alive)
       where
         few_so : stage p.b.tcp.state ≤ 2 → steps_open p ≤ 4
         few_so low = let a = one_most p.a.modes.clear in let b = one_most p.b.modes.clear in omega (arith, low, a, b)
@@ -433,7 +414,7 @@ module _ (start : Start) (plan : PathPlan) (most : ℕ) (begins : BeginsWithOneP
       few_now low =
           let same = steps_is (at v) step.before.path step.before.here in let harms = step.few in
           let fewer : harmed_so_far values start v ≤ harmed_so_far values start u = subst (λ ts. harmed_so_far values start v ≤ harmed_so_far values start ts) (sym step.is) (harmed_append values 0 v (Turn.Round ∷ []) (opened_world start)) in
-          ⊎_elim (λ rises. absurd (no_round_opens start plan begins most v u step rises)) (λ most_so. omega (arith, low, same, harms, fewer, most_so)) (cases_lt (count v) (count u))
+          ⊎_elim (λ rises. absurd (no_round_opens start mild most v u step rises)) (λ most_so. omega (arith, low, same, harms, fewer, most_so)) (cases_lt (count v) (count u))
 
   pub exchanges : PaidExchanges values start (IsAliveAfter start most) most most_paid Over Pays Waits
   exchanges = record {

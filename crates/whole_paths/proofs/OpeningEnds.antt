@@ -1,5 +1,5 @@
--- From its beginning on a connection over one path opens in time, and then delivers both files, or an end of the path died.
-use Rattle.std.proofs.Common.{◌≡◌, refl, sym, subst, ap, ◌∙◌, ◌⊎◌, ⊎_elim, inl, inr, ℕ, ◌+◌, ◌-◌, ◌*◌, ◌/◌, ◌^◌, ◌<◌, ◌≤◌, arith, le_refl, Bool, true, false, Some, List, [], ◌∷◌, ◌++◌, length}
+-- From its beginning on path 0 of a connection opens in time, and then delivers both files over one path, or an end of the path died.
+use Rattle.std.proofs.Common.{◌≡◌, refl, sym, subst, ap, ◌∙◌, ◌⊎◌, ⊎_elim, inl, inr, ℕ, ◌+◌, ◌-◌, ◌*◌, ◌/◌, ◌^◌, ◌<◌, ◌≤◌, arith, le_refl, Bool, true, false, Some, List, [], ◌++◌, length}
 use Rattle.std.proofs.Math.Nat.{div-mul-le_self, lt-div-mul-add}
 use Rattle.std.specs.List.{slice_get}
 use Rattle.std.proofs.lemmas.Bool.{both_ways}
@@ -8,6 +8,7 @@ use Rattle.sides.specs.declared.side.Side.{Side}
 use Rattle.sides.specs.declared.side.Side.TheVariants.{A, B}
 use Rattle.subflow_tcp.specs.States.{is_dead}
 use Rattle.subflow_tcp.specs.declared.handshake.State.{State}
+use Rattle.path_core.specs.Start.{first_turn}
 use Rattle.path_core.specs.State.{PathState, end_at}
 use Rattle.path_core.specs.Octets.{octets}
 use Rattle.path_core.specs.Values.{Carried, values}
@@ -15,7 +16,7 @@ use Rattle.world_laws.specs.declared.member.Member.TheVariants.{App, Path}
 use Rattle.world_laws.specs.declared.outcome.Outcome.TheVariants.{Delivered}
 use Rattle.world_laws.specs.Actors.{Actor, ActorCrew}
 use Rattle.world_laws.specs.Members.{HoldsOfKind}
-use Rattle.world_laws.specs.Openings.{PathPlan, Start, opened_world, plan_of, start_of}
+use Rattle.world_laws.specs.Openings.{PathPlan, Start, opened_world, path_begins, plan_of, start_of}
 use Rattle.world_laws.specs.Outcomes.{outcome_of}
 use Rattle.world_laws.specs.RoundDone.{reached}
 use Rattle.world_laws.specs.Worlds.{Turn, WorldState, AreLawful, world_run}
@@ -26,13 +27,13 @@ use Rattle.whole_paths.specs.Mild.{IsMildStart, LinkIsMild}
 use Rattle.whole_paths.specs.OnePathScripts.{Allowance, AnEndDiedEarly, BeginsWithOnePath, EndsWithin, for_all_news}
 use Rattle.whole_paths.specs.OnlyPaths.{news_within}
 use Rattle.whole_paths.specs.Opened.{opened_or_harmed}
-use Rattle.whole_paths.specs.OpeningCourses.{opening_allowance, opening_patience, with_opening, AwaitsAStep, DeliversWithin, IsOpenOrDone, OpensWithin}
+use Rattle.whole_paths.specs.OpeningCourses.{opening_allowance, opening_patience, with_opening, AwaitsAStep, BeginsServing, DeliversWithin, FirstPathsOpenWithin, IsOpenOrDone, OpensWithin}
 use Rattle.whole_paths.specs.OpeningWaits.{IsAliveAfter}
 use Rattle.whole_paths.specs.SentByTurns.{SentAtMost}
 use Rattle.whole_paths.proofs.Courses.{harmed_append, paid_exchanges_end}
-use Rattle.whole_paths.proofs.Delivery.{what_is_there_is_delivered}
+use Rattle.whole_paths.proofs.Delivery.{all_there_is_delivered}
+use Rattle.whole_paths.proofs.FirstHere.{first_here}
 use Rattle.whole_paths.proofs.GoesOn.{goes_on_so}
-use Rattle.whole_paths.proofs.GoingOn.{path_at}
 use Rattle.whole_paths.proofs.Mild.{links_are_mild}
 use Rattle.whole_paths.proofs.OnePathScripts.{mild_scripts_begin_with_one_path, rounds_so}
 use Rattle.whole_paths.proofs.OnlyPaths.{only_paths_end}
@@ -41,6 +42,7 @@ use Rattle.whole_paths.proofs.OpeningCourses.{exchanges}
 use Rattle.whole_paths.proofs.OverOctets.{as_far, ended}
 use Rattle.whole_paths.proofs.RecordWaits.{path_is}
 use Rattle.whole_paths.proofs.SentByTurns.{each_turn_sends_one_at_most}
+use Rattle.whole_paths.proofs.Standing.{MemberServes, opened_serves, run_serves}
 use Rattle.whole_paths.proofs.ThereInTime.{LastRounds, dead_stage, last_rounds}
 
 -- ---- deaths
@@ -79,9 +81,9 @@ died_stays w more died =
 
 -- ---- no end dies
 
-module _ (start : Start) (plan : PathPlan) (one : start.paths ≡ plan ∷ []) (mild : IsMildStart start) (turns : List Turn) (few : length turns < 2 ^ 64 - 1) where
+module _ (start : Start) (plan : PathPlan) (has : slice_get start.paths 0 ≡ Some plan) (mild : IsMildStart start) (turns : List Turn) (few : length turns < 2 ^ 64 - 1) where
   path_now : (ts : List Turn) → (p : PathState Carried) × IsPathAt 0 (reached values start ts) p
-  path_now ts = let found = path_at start plan one ts in (found.2, record { crew = found.0; there = found.1; is = found.3 })
+  path_now ts = let found = later_path (opened_world start) ts (first_turn (path_begins start 0 plan) start.lines) (first_here start plan has) in (found.path, found.here)
 
   module _ (p : PathState Carried) (here : IsPathAt 0 (reached values start turns) p) (living : (s : Side) → is_dead (end_at s p).tcp.state ≡ false) (ts us : List Turn) (is : ts ++ us ≡ turns) where
     q : PathState Carried
@@ -143,17 +145,30 @@ module _ (start : Start) (plan : PathPlan) (one : start.paths ≡ plan ∷ []) (
 
 -- ---- it opens
 
-pub opens_within : OpensWithin opening_allowance
-opens_within start plan turns most begins lawful few low enough = ⊎_elim
+pub first_paths_open_within : FirstPathsOpenWithin opening_allowance
+first_paths_open_within start turns most begins lawful few low enough = ⊎_elim
     (λ alive. inl (paid_exchanges_end values start (IsAliveAfter start most) most (61100 * (5 + most)) (λ ts. IsOpenOrDone (reached values start ts)) (λ n ts. n ≤ 61100 * opened_or_harmed start ts) (λ n x ts. AwaitsAStep start most n x ts)
-    (exchanges start plan most begins) [] turns (omega arith) lawful alive low enough))
+    (exchanges start most begins.mild begins.buffer begins.serves) [] turns (omega arith) lawful alive low enough))
     (λ died. inr died)
-    (alive_or_died start plan begins.one begins.mild turns few)
+    (alive_or_died start begins.plan begins.there begins.mild turns few)
+
+-- the only path has none to stand by for
+pub only_paths_serve : (start : Start) (plan : PathPlan) → BeginsWithOnePath start plan → BeginsServing start
+only_paths_serve start plan begins = record {
+  mild = begins.mild;
+  plan = plan;
+  there = ap (λ (plans : List PathPlan). slice_get plans 0) begins.one;
+  buffer = (let least = begins.buffer in omega (arith, least));
+  serves = λ turns p here. (subst (λ m. MemberServes values m) here.is ((run_serves values turns (opened_world start) (opened_serves values start plan begins.one)).each 2 here.crew here.there)).none;
+}
+
+pub opens_within : OpensWithin opening_allowance
+opens_within start plan turns most begins lawful few low enough = first_paths_open_within start turns most (only_paths_serve start plan begins) lawful few low enough
 
 -- ---- and delivers
 
 -- after turns of which some open it, where those that are left deliver both files
-module _ (start : Start) (plan : PathPlan) (begins : BeginsWithOnePath start plan) (turns : List Turn) (lawful : AreLawful values turns (opened_world start)) (opened rest : ℕ)
+module _ (start : Start) (mild : IsMildStart start) (turns : List Turn) (lawful : AreLawful values turns (opened_world start)) (opened rest : ℕ)
     (opens : (first more : List Turn) → first ++ more ≡ turns → AreLawful values first (opened_world start) → opened < 100 * rounds_in first → IsOpenOrDone (reached values start first) ⊎ AnEndDied 0 (reached values start first))
     (ends : (first more : List Turn) → first ++ more ≡ turns → AreLawful values more (reached values start first) → IsWhole 0 (reached values start first) → rest + 300 < 100 * rounds_in more
     → (outcome_of (reached values start (first ++ more)).crew ≡ Delivered) ⊎ AnEndDiedEarly values start (first ++ more))
@@ -184,14 +199,14 @@ module _ (start : Start) (plan : PathPlan) (begins : BeginsWithOnePath start pla
 
       opened_so : IsOpenOrDone (reached values start first) → Ends (first ++ more)
       opened_so (inl whole) = ⊎_elim (λ delivered. inl delivered) early (ends first more is going.1 whole (let enough_now = last_enough in omega (arith, enough_now, rounds)))
-      opened_so (inr all) = inl (what_is_there_is_delivered start plan first more begins.one begins.mild all going.1 (omega (arith, rounds)))
+      opened_so (inr all) = inl (all_there_is_delivered start first more mild all going.1 (omega (arith, rounds)))
 
   pub delivers_from : Ends turns
   delivers_from = subst Ends (sym parts.is) (by parts.first parts.rest (sym parts.is) (lawful_parts parts.first parts.rest (opened_world start) (subst (λ ts. AreLawful values ts (opened_world start)) parts.is lawful)) parts.last
       (let all = parts.all in omega (arith, enough, all, last_few)))
 
 pub delivers_within : (rest : Allowance) → EndsWithin rest → DeliversWithin opening_allowance rest
-delivers_within rest ends start plan turns most begins lawful few low enough = delivers_from start plan begins turns lawful (opening_allowance start most) (rest start most)
+delivers_within rest ends start plan turns most begins lawful few low enough = delivers_from start begins.mild turns lawful (opening_allowance start most) (rest start most)
     (λ first more is going many. opens_within start plan first most begins going
     (let sum = length-append first more in let all = ap length is in omega (arith, few, sum, all))
     (let harms = harmed_append values 0 first more (opened_world start) in let all = ap (λ ts. harmed values 0 ts (opened_world start)) is in omega (arith, harms, all, low)) many)

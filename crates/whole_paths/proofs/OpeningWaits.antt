@@ -8,7 +8,7 @@ use Rattle.path_core.specs.State.{PathState, end_at}
 use Rattle.path_core.specs.Values.{Carried, values}
 use Rattle.world_laws.specs.Actors.{Actor, is_over}
 use Rattle.world_laws.specs.Members.{HoldsOfKind}
-use Rattle.world_laws.specs.Openings.{PathPlan, Start, opened_world}
+use Rattle.world_laws.specs.Openings.{Start, opened_world}
 use Rattle.world_laws.specs.RoundDone.{EndsAt, reached}
 use Rattle.world_laws.proofs.Rounds.DoneByTheEnd.{rounds_end_on_time}
 use Rattle.world_laws.proofs.Rounds.Lifting.{all_over_each}
@@ -17,8 +17,8 @@ use Rattle.world_laws.specs.Worlds.{Turn, WorldState, after_turn}
 use Rattle.world_laws.proofs.Weaving.WholeRounds.{run_append}
 use Rattle.whole_paths.specs.Courses.{round_end}
 use Rattle.whole_paths.specs.Finish.{IsPathAt}
+use Rattle.whole_paths.specs.Mild.{IsMildStart}
 use Rattle.whole_paths.specs.Clear.{IsPastIfClear}
-use Rattle.whole_paths.specs.OnePathScripts.{BeginsWithOnePath}
 use Rattle.whole_paths.specs.OpenCourses.{IsNow}
 use Rattle.whole_paths.specs.Opened.{opened_or_harmed}
 use Rattle.whole_paths.specs.OpeningWaits.{AHasFinished, AliveOpens, AliveSteps, AwaitsOpening, IsAlive, IsAliveAfter, IsOpening, IsOpeningAwaited, OpeningGoesOn, OpeningsAreAwaited, OpensStill}
@@ -67,7 +67,7 @@ some_of (to_open.answers own sent half) = let low = ap stage sent in omega (arit
 
 -- ---- a turn
 
-module _ (start : Start) (plan : PathPlan) (begins : BeginsWithOnePath start plan) (turns : List Turn) (turn : Turn) where
+module _ (start : Start) (mild : IsMildStart start) (turns : List Turn) (turn : Turn) where
   abbrev w : WorldState Carried
   w = reached values start turns
 
@@ -100,32 +100,32 @@ module _ (start : Start) (plan : PathPlan) (begins : BeginsWithOnePath start pla
 
         by_a : (b : Bool) → p.a.modes.clear ≡ b → b ≡ false
         by_a false is = refl
-        by_a true is = absurd (never_b (b_is_clear_first start plan turns begins.one begins.mild p before.here is))
+        by_a true is = absurd (never_b (b_is_clear_first start turns mild p before.here is))
 
     syn_by : (s : Side) (x : ℕ) → IsToOpen s p → SynGoesOn s x p q → Next x
     syn_by s x at (heard.on h) = inr (inr (syn s h))
-    syn_by s x at (heard.further t more) = inl (further start plan begins turns turn before after t more (low_of t) (some_of at))
+    syn_by s x at (heard.further t more) = inl (further start mild turns turn before after t more (low_of t) (some_of at))
       where
         low_of : (t : Side) → stage (end_at t p).tcp.state ≤ 2
         low_of A = a_low at
         low_of B = to_open_low s p at
-    syn_by s x at (heard.held_up h) = inl (held_so start plan begins turns turn before after (unclear (to_open_low s p at)) (some_of at) s h)
+    syn_by s x at (heard.held_up h) = inl (held_so start mild turns turn before after (unclear (to_open_low s p at)) (some_of at) s h)
 
     answer_by : (x : ℕ) → IsToBeAnswered x p → SynAckGoesOn x p q → Next x
     answer_by x at (answered.on h) = inr (inr (answer h))
-    answer_by x at (answered.further more) = inl (further start plan begins turns turn before after B more (half_low at.half_open) (let past = at.past in omega (arith, past)))
-    answer_by x at (answered.held_up h) = inl (held_so start plan begins turns turn before after (unclear (half_low at.half_open)) (let past = at.past in omega (arith, past)) B h)
+    answer_by x at (answered.further more) = inl (further start mild turns turn before after B more (half_low at.half_open) (let past = at.past in omega (arith, past)))
+    answer_by x at (answered.held_up h) = inl (held_so start mild turns turn before after (unclear (half_low at.half_open)) (let past = at.past in omega (arith, past)) B h)
     answer_by x at (answered.finished h) = inr (inl (record { path = p; here = before.here; finished = h }))
 
     goes_on : (x : ℕ) → IsOpeningAwaited x p → Next x
-    goes_on x (syn s h) = syn_by s x h.opens (with_both start begins.mild turns turn before after SynsGoOn
-        (each_syn_comes.goes_on start turns begins.mild.plain.size begins.mild.fit turn 2 before.here.crew before.here.there) before.faithful before.few s x h)
-    goes_on x (answer h) = answer_by x h (with_both start begins.mild turns turn before after SynAcksGoOn
-        (each_syn_ack_is_answered.goes_on start turns begins.mild turn before.here.crew before.here.there) before.faithful before.few x h)
+    goes_on x (syn s h) = syn_by s x h.opens (with_both start mild turns turn before after SynsGoOn
+        (each_syn_comes.goes_on start turns mild.plain.size mild.fit turn 2 before.here.crew before.here.there) before.faithful before.few s x h)
+    goes_on x (answer h) = answer_by x h (with_both start mild turns turn before after SynAcksGoOn
+        (each_syn_ack_is_answered.goes_on start turns mild turn before.here.crew before.here.there) before.faithful before.few x h)
 
 -- ---- waits
 
-module _ (start : Start) (plan : PathPlan) (most : ℕ) (begins : BeginsWithOnePath start plan) where
+module _ (start : Start) (most : ℕ) (mild : IsMildStart start) where
   turn_on : (x : ℕ) (v : List Turn) (turn : Turn) → IsAliveAfter start most v → IsAliveAfter start most (v ++ turn ∷ []) → AwaitsOpening start x v → OpeningGoesOn start most x v (v ++ turn ∷ [])
   turn_on x v turn before after h =
       let same = run_append values v (turn ∷ []) (opened_world start) in
@@ -133,7 +133,7 @@ module _ (start : Start) (plan : PathPlan) (most : ℕ) (begins : BeginsWithOneP
       let there : IsPathAt 0 (reached values start (v ++ turn ∷ [])) then_now.path = subst (λ (y : WorldState Carried). IsPathAt 0 y then_now.path) (sym same) then_now.here in
       ⊎_elim (λ rises. inl rises)
       (λ rest. inr (⊎_elim (λ done. inl done) (λ waits. inr (record { path = then_now.path; here = there; by = h.by; soon = h.soon; waits = waits })) rest))
-      (goes_on start plan begins v turn before then_now h.by (subst (IsOpeningAwaited h.by) (path_is (reached values start v) h.path before.path h.here before.here) h.waits))
+      (goes_on start mild v turn before then_now h.by (subst (IsOpeningAwaited h.by) (path_is (reached values start v) h.path before.path h.here before.here) h.waits))
 
   steps_on : (x : ℕ) (v u : List Turn) → AliveSteps start most v u → AwaitsOpening start x v → OpeningGoesOn start most x v u
   steps_on x v u step h = subst (λ t. OpeningGoesOn start most x v t) (sym step.is) (turn_on x v (Turn.Step step.actor) step.before (subst (IsAliveAfter start most) step.is step.after) h)
@@ -159,7 +159,7 @@ module _ (start : Start) (plan : PathPlan) (most : ℕ) (begins : BeginsWithOneP
     none_late x h late = ⊎_elim (λ rises. inl rises)
         (λ rest. ⊎_elim (λ done. inr done)
         (λ waits. absurd (late_so waits.by waits.path waits.here
-        (let clock = clock_is start most begins.mild IsAlive (λ s. ⊥) (λ v p here h s no. absurd no) v u step waits.path waits.here in let soon = waits.soon in omega (arith, late, clock, soon)) waits.waits)) rest)
+        (let clock = clock_is 0 start most mild IsAlive (λ s. ⊥) (λ v p here h s no. absurd no) v u step waits.path waits.here in let soon = waits.soon in omega (arith, late, clock, soon)) waits.waits)) rest)
         (opens_on x v u step h)
 
     module _ (h : OpensStill start v) where
@@ -173,10 +173,10 @@ module _ (start : Start) (plan : PathPlan) (most : ℕ) (begins : BeginsWithOneP
       silent = nil_so h.path.agenda (subst (λ m. is_over m ≡ true) h.here.is (all_over_each ended.crew 2 h.here.crew step.over h.here.there))
 
       syns : SynsBegin h.path
-      syns = subst (HoldsOfKind (λ app. Unit {0}) SynsBegin) h.here.is (each_syn_comes.begin start v begins.mild.plain.size begins.mild.fit h.here.crew h.here.there)
+      syns = subst (HoldsOfKind (λ app. Unit {0}) SynsBegin) h.here.is (each_syn_comes.begin start v mild.plain.size mild.fit h.here.crew h.here.there)
 
       syn_acks : SynAcksBegin h.path
-      syn_acks = subst (HoldsOfKind (λ app. Unit {0}) SynAcksBegin) h.here.is (each_syn_ack_is_answered.begin start v begins.mild.plain.size begins.mild.fit h.here.crew h.here.there)
+      syn_acks = subst (HoldsOfKind (λ app. Unit {0}) SynAcksBegin) h.here.is (each_syn_ack_is_answered.begin start v mild.plain.size mild.fit h.here.crew h.here.there)
 
       -- before the handshake is done nothing is acknowledged
       unacknowledged : (s : Side) → stage (end_at s h.path).tcp.state ≤ 2 → (end_at s h.path).tcp.send.una ≡ 0
@@ -204,16 +204,16 @@ module _ (start : Start) (plan : PathPlan) (most : ℕ) (begins : BeginsWithOneP
 
       wait_begins : AHasFinished start v ⊎ AwaitsOpening start (round_end values start v + 60800) u
       wait_begins = ⊎_elim
-          (λ rises. absurd (no_round_opens start plan begins most v u step rises))
+          (λ rises. absurd (no_round_opens start mild most v u step rises))
           (λ rest. rest)
           (opens_on (round_end values start v + 60800) v u step (waiting h.opening))
 
 pub openings_are_awaited : OpeningsAreAwaited
-openings_are_awaited start plan most begins = record {
-  begins = λ v u step h. wait_begins start plan most begins v u step h;
-  on = λ x v u step h. steps_on start plan most begins x v u step h;
-  next = λ x v u step h. opens_on start plan most begins x v u step h;
-  due = λ x v u step h late. none_late start plan most begins v u step x h late;
+openings_are_awaited start most mild = record {
+  begins = λ v u step h. wait_begins start most mild v u step h;
+  on = λ x v u step h. steps_on start most mild x v u step h;
+  next = λ x v u step h. opens_on start most mild x v u step h;
+  due = λ x v u step h late. none_late start most mild v u step x h late;
 }
 
 -- ---- which of them it is

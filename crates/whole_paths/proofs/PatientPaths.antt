@@ -1,5 +1,5 @@
 -- Records, acknowledgements, DATA_FINs and windows are mended; so whole paths end in time, and both files are delivered.
-use Rattle.std.proofs.Common.{◌≡◌, ap, ℕ, ◌+◌, ◌≤◌, arith, List, length}
+use Rattle.std.proofs.Common.{◌≡◌, ap, ℕ, ◌+◌, arith, List, length}
 use Rattle.std.proofs.lemmas.List.{length-append}
 use Rattle.path_core.specs.Octets.{octets}
 use Rattle.path_core.specs.Values.{values}
@@ -52,7 +52,7 @@ patient_paths_end = (
 
 path_ends : OnePathEndsBy values Anyhow (harms_and_early values) patience
 path_ends script path file_a file_b turns mild also brief lawful rounds =
-    delivers_from start plan one turns lawful (opening_allowance start most) (sharp_allowance start most)
+    delivers_from start one.mild turns lawful (opening_allowance start most) (sharp_allowance start most)
     (λ first more is going many. opens_within start plan first most one going
     (let sum = length-append first more in let all = ap length is in let few = brief.few in omega (arith, few, sum, all))
     (let up = harmed_append values 0 first more (opened_world start) in let all = ap (λ ts. harms_alone values start ts) is in omega (arith, up, all)) many)

@@ -21,8 +21,9 @@ use Rattle.path_store.specs.declared.granted_piece.GrantedPiece.{GrantedPiece}
 use Rattle.path_core.specs.State.{PathState}
 use Rattle.path_core.specs.Values.{Carried, values}
 use Rattle.world_laws.specs.Members.{HoldsOfKind}
-use Rattle.world_laws.specs.Actors.{ActorCrew}
+use Rattle.world_laws.specs.Actors.{Actor, ActorCrew}
 use Rattle.world_laws.specs.Openings.{PathPlan, Start, opened_world, path_begins}
+use Rattle.world_laws.specs.Promises.{written_by}
 use Rattle.world_laws.specs.RoundNumbers.{taken_len}
 use Rattle.world_laws.specs.Worlds.{Turn, WorldState, world_run}
 use Rattle.world_laws.proofs.Lanes.Beginning.{each_run_shows}
@@ -37,6 +38,9 @@ use Rattle.whole_paths.specs.Received.{HoldsOfOnlyPaths}
 use Rattle.whole_paths.proofs.Acknowledged.{always_shown}
 use Rattle.whole_paths.proofs.PassedPlaces.{BothStand, both_stand}
 use Rattle.whole_paths.proofs.Received.{nobody_joins, only_plan}
+use Rattle.whole_paths.proofs.LoneFirst.{IsUnjoined}
+use Rattle.world_laws.specs.RoundDone.{reached}
+use Rattle.whole_paths.specs.Finish.{IsPathAt}
 use Rattle.whole_paths.proofs.Sent.{next_after}
 
 -- ---- marks
@@ -87,10 +91,14 @@ sent_taken v lane holds alone = spent_taken (length lane.sent) v.marks each_spen
         let found = item_at lane.sent n low in
         subst (λ m. spent 0 (slice_get v.marks m) ≡ true) ((holds.alone alone).identity.each n n found.0 (omega arith) found.1) (holds.record_of.cells.each n found.0 found.1).spent
 
--- behind all that the lane took each byte is free
+-- behind all that the lane took no byte was tried
+untouched_behind : (v : View) (lane : Lane) → LaneHolds v 0 lane → v.alone ≡ true → (place : ℕ) (mark : ByteMark) → taken_len 0 v.marks ≤ place → slice_get v.marks place ≡ Some mark → is_untouched mark ≡ true
+untouched_behind v lane holds alone place mark behind there =
+    let taken = sent_taken v lane holds alone in (holds.alone alone).untouched refl place mark (omega (arith, taken, behind)) there
+
+-- so each is free
 free_behind : (v : View) (lane : Lane) → LaneHolds v 0 lane → v.alone ≡ true → (place : ℕ) (mark : ByteMark) → taken_len 0 v.marks ≤ place → slice_get v.marks place ≡ Some mark → is_free_for 0 mark ≡ true
-free_behind v lane holds alone place mark behind there =
-    let taken = sent_taken v lane holds alone in is_free mark ((holds.alone alone).untouched refl place mark (omega (arith, taken, behind)) there)
+free_behind v lane holds alone place mark behind there = is_free mark (untouched_behind v lane holds alone place mark behind there)
 
 module _ (v : View) (lane : Lane) (holds : LaneHolds v 0 lane) (alone : v.alone ≡ true) (finished : Bool) (nxt heard : ℕ) (granted : List GrantedPiece)
     (shows : SentShows finished nxt heard granted lane.sent lane.fins lane.pair) where
@@ -146,7 +154,11 @@ module _ (v : View) (lane : Lane) (holds : LaneHolds v 0 lane) (alone : v.alone 
 
 -- ---- the world
 
-module _ (start : Start) (plan : PathPlan) (one : start.paths ≡ plan ∷ []) (links : Links) (d : Duo) (w : WorldState Carried) (held : Holds d) (stand : BothStand d) (h : WorldShows links start d w)
+-- no path tried a byte of the side's behind all that path 0 took
+abbrev pub IsUntouchedBehind : WorldState Carried → Side → Type 0
+IsUntouchedBehind w s = (place : ℕ) (mark : ByteMark) → taken_len 0 (written_by s w).marks ≤ place → slice_get (written_by s w).marks place ≡ Some mark → is_untouched mark ≡ true
+
+module _ (start : Start) (links : Links) (d : Duo) (w : WorldState Carried) (held : Holds d) (stand : BothStand d) (h : WorldShows links start d w)
     (unjoined : (books_in w.books).control_b.fall.joined ≡ false) where
   abbrev shown : Duo
   shown = duo_of links (books_in h.cast.books) h.lanes_ab h.lanes_ba h.reader_a h.reader_b
@@ -200,14 +212,30 @@ module _ (start : Start) (plan : PathPlan) (one : start.paths ≡ plan ∷ []) (
       by x A = record { all = sent_exactly _ x.ab (holds.ab.lanes.each 0 0 x.ab (omega arith) x.ab_there) (ap not none) _ _ _ _ x.shows.a.sender.sent }
       by x B = record { all = sent_exactly _ x.ba (holds.ba.lanes.each 0 0 x.ba (omega arith) x.ba_there) (ap not none) _ _ _ _ x.shows.b.sender.sent }
 
-  took : PathsTookWhatTheySent w
-  took = subst PathsTookWhatTheySent (sym h.is) (record {
+  path_untouched : (number : ℕ) (p : PathState Carried) → PathThere start h.lanes_ab h.lanes_ba number p → number ≡ 0 → (s : Side) → IsUntouchedBehind (world_of h.cast) s
+  path_untouched number p path first = subst (λ n. PathThere start h.lanes_ab h.lanes_ba n p → (s : Side) → IsUntouchedBehind (world_of h.cast) s) (sym first) by path
+    where
+      by : PathThere start h.lanes_ab h.lanes_ba 0 p → (s : Side) → IsUntouchedBehind (world_of h.cast) s
+      by x A = untouched_behind _ x.ab (holds.ab.lanes.each 0 0 x.ab (omega arith) x.ab_there) (ap not none)
+      by x B = untouched_behind _ x.ba (holds.ba.lanes.each 0 0 x.ba (omega arith) x.ba_there) (ap not none)
+
+  -- of path 0 among any number
+  abbrev FirstCounts : WorldState Carried → Actor Carried → Type 0
+  FirstCounts v = HoldsOfKind (λ app. Unit {0}) (λ (q : PathState Carried). (s : Side) → CountsBytes v q s × IsUntouchedBehind v s)
+
+  first_counts : (c : ActorCrew Carried) → slice_get w.crew 2 ≡ Some c → FirstCounts w c.member
+  first_counts = subst (λ (v : WorldState Carried). (c : ActorCrew Carried) → slice_get v.crew 2 ≡ Some c → FirstCounts v c.member) (sym h.is)
+      (λ c there. each_actor (λ actor c. actor ≡ 2 → FirstCounts (world_of h.cast) c.member) h.cast (λ is. tt) (λ is. tt)
+      (λ number x there is s. (let path = h.paths.each number number x (omega arith) there in (path_counts number x.path path (omega (arith, is)) s, path_untouched number x.path path (omega (arith, is)) s))) 2 c there refl)
+
+  took : (plan : PathPlan) → start.paths ≡ plan ∷ [] → PathsTookWhatTheySent w
+  took plan one = subst PathsTookWhatTheySent (sym h.is) (record {
     each = each_actor (λ actor c. HoldsOfKind (λ app. Unit {0}) (λ (p : PathState Carried). (s : Side) → TookWhatItSent (world_of h.cast) p s) c.member) h.cast tt tt (λ number x there.
         (let path = h.paths.each number number x (omega arith) there in path_took number x.path path (only_plan plan number path.plan (ap (λ ps. slice_get ps number) (sym one) ∙ path.plan_there))));
   })
 
-  counts : PositionsCountBytes w
-  counts = subst PositionsCountBytes (sym h.is) (record {
+  counts : (plan : PathPlan) → start.paths ≡ plan ∷ [] → PositionsCountBytes w
+  counts plan one = subst PositionsCountBytes (sym h.is) (record {
     each = each_actor (λ actor c. HoldsOfKind (λ app. Unit {0}) (λ (p : PathState Carried). (s : Side) → CountsBytes (world_of h.cast) p s) c.member) h.cast tt tt (λ number x there.
         (let path = h.paths.each number number x (omega arith) there in path_counts number x.path path (only_plan plan number path.plan (ap (λ ps. slice_get ps number) (sym one) ∙ path.plan_there))));
   })
@@ -236,13 +264,33 @@ positions_count_bytes start turns plan one mild =
     let can = anyhow start mild.plain.size in
     let r = each_run_shows start can turns (free_run can.links (anyhow_free start mild.plain.size) turns (opened_world start)) in
     let ever = any_held can.links.alters can.links.checked (length start.paths) start.buffer start.buffer in
-    counts start plan one can.links (after_events r.events (first_duo can.links start)) (world_run values turns (opened_world start)) (ever r.events)
-    (both_stand can.links.alters can.links.checked (length start.paths) start.buffer start.buffer r.events ever) r.shows (nobody_joins start plan one mild turns)
+    counts start can.links (after_events r.events (first_duo can.links start)) (world_run values turns (opened_world start)) (ever r.events)
+    (both_stand can.links.alters can.links.checked (length start.paths) start.buffer start.buffer r.events ever) r.shows (nobody_joins start plan one mild turns) plan one
+
+-- on path 0 among any number positions count bytes as long as B's side joined none
+first_counts_so : (start : Start) (turns : List Turn) → IsMildStart start → IsUnjoined (reached values start turns) → (p : PathState Carried) → IsPathAt 0 (reached values start turns) p
+    → (s : Side) → CountsBytes (reached values start turns) p s × IsUntouchedBehind (reached values start turns) s
+first_counts_so start turns mild alone p here =
+    let can = anyhow start mild.plain.size in
+    let r = each_run_shows start can turns (free_run can.links (anyhow_free start mild.plain.size) turns (opened_world start)) in
+    let ever = any_held can.links.alters can.links.checked (length start.paths) start.buffer start.buffer in
+    subst (HoldsOfKind (λ app. Unit {0}) (λ (q : PathState Carried). (s : Side) → CountsBytes (reached values start turns) q s × IsUntouchedBehind (reached values start turns) s)) here.is
+    (first_counts start can.links (after_events r.events (first_duo can.links start)) (reached values start turns) (ever r.events)
+    (both_stand can.links.alters can.links.checked (length start.paths) start.buffer start.buffer r.events ever) r.shows alone here.crew here.there)
+
+pub first_counts_bytes : (start : Start) (turns : List Turn) → IsMildStart start → IsUnjoined (reached values start turns) → (p : PathState Carried) → IsPathAt 0 (reached values start turns) p
+    → (s : Side) → CountsBytes (reached values start turns) p s
+first_counts_bytes start turns mild alone p here s = (first_counts_so start turns mild alone p here s).0
+
+-- and no path tried a byte behind those that it took
+pub first_is_untouched : (start : Start) (turns : List Turn) → IsMildStart start → IsUnjoined (reached values start turns) → (p : PathState Carried) → IsPathAt 0 (reached values start turns) p
+    → (s : Side) → IsUntouchedBehind (reached values start turns) s
+first_is_untouched start turns mild alone p here s = (first_counts_so start turns mild alone p here s).1
 
 pub paths_took_what_they_sent : HoldsOfOnlyPaths values PathsTookWhatTheySent
 paths_took_what_they_sent start turns plan one mild =
     let can = anyhow start mild.plain.size in
     let r = each_run_shows start can turns (free_run can.links (anyhow_free start mild.plain.size) turns (opened_world start)) in
     let ever = any_held can.links.alters can.links.checked (length start.paths) start.buffer start.buffer in
-    took start plan one can.links (after_events r.events (first_duo can.links start)) (world_run values turns (opened_world start)) (ever r.events)
-    (both_stand can.links.alters can.links.checked (length start.paths) start.buffer start.buffer r.events ever) r.shows (nobody_joins start plan one mild turns)
+    took start can.links (after_events r.events (first_duo can.links start)) (world_run values turns (opened_world start)) (ever r.events)
+    (both_stand can.links.alters can.links.checked (length start.paths) start.buffer start.buffer r.events ever) r.shows (nobody_joins start plan one mild turns) plan one

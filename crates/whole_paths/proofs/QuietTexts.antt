@@ -193,10 +193,10 @@ module _ (start : Start) (plan : PathPlan) (one : BeginsWithOnePath start plan)
         where
           by : (b : Bool) → p.a.modes.clear ≡ b → b ≡ false
           by false is = refl
-          by true is = absurd (both_ways p.b.modes.clear unsure (b_is_clear_first start plan turns one.one mild p here is))
+          by true is = absurd (both_ways p.b.modes.clear unsure (b_is_clear_first start turns mild p here is))
 
       edge : p.b.tcp.recv.edge ≡ 1
-      edge = nothing_comes_before start plan turns one.one mild p here alive B unsure
+      edge = nothing_comes_before start turns mild p here alive B unsure
 
       -- what goes next from A, where an acknowledgement is owed
       goes_third : p.a.tcp.send.nxt ≤ 1 → 3 ≤ stage p.a.tcp.state → GoesSo IsThird A p
@@ -262,8 +262,8 @@ module _ (start : Start) (plan : PathPlan) (one : BeginsWithOnePath start plan)
       was : IsAlive p
       was = alive_before p q far.0 alive
 
-      confirmed_on : ConfirmedOn B (turned start plan one.one mild turns turn p q here there becomes alive).steps q → KeysFirst q
-      confirmed_on told = confirmed (confirmed_then start plan one.one mild turns turn p q here there becomes alive told)
+      confirmed_on : ConfirmedOn B (turned start mild turns turn p q here there becomes alive).steps q → KeysFirst q
+      confirmed_on told = confirmed (confirmed_then start mild turns turn p q here there becomes alive told)
 
       -- B's end may send a DSS, or mightn't before
       if_unsure : (p.b.modes.clear ≡ false → KeysFirst q) → KeysFirst q
@@ -503,8 +503,8 @@ module _ (start : Start) (plan : PathPlan) (one : BeginsWithOnePath start plan)
         unfolding brings
         keys_come h = ⊎_elim
             (λ same. subst KeysFirst (sym same) h)
-            (λ told. confirmed_on (subst (λ t. ConfirmedOn t (turned start plan one.one mild turns turn p q here there becomes alive).steps q) to told))
-            ((turned start plan one.one mild turns turn p q here there becomes alive).confirming.tells brings 0 (says.Keys third.third.other third.third.own) (keys third.third.other third.third.own) item)
+            (λ told. confirmed_on (subst (λ t. ConfirmedOn t (turned start mild turns turn p q here there becomes alive).steps q) to told))
+            ((turned start mild turns turn p q here there becomes alive).confirming.tells brings 0 (says.Keys third.third.other third.third.own) (keys third.third.other third.third.own) item)
 
       ahead_goes : p.b.modes.clear ≡ false → 3 ≤ stage p.a.tcp.state → KeysAt p.clock p.link → KeysFirst q
       ahead_goes unsure past h = by (becomes_ahead p q becomes (let soon = (near turns p here).clock in omega (arith, soon)) queued h)
@@ -515,7 +515,7 @@ module _ (start : Start) (plan : PathPlan) (one : BeginsWithOnePath start plan)
           by (dies dead) = absurd (both_ways (is_dead q.a.tcp.state) (alive.living A) dead)
 
       goes : KeysFirst p → KeysFirst q
-      goes (confirmed h) = confirmed_on ((turned start plan one.one mild turns turn p q here there becomes alive).confirming.stays B h)
+      goes (confirmed h) = confirmed_on ((turned start mild turns turn p q here there becomes alive).confirming.stays B h)
       goes (opening nxt low) = opening_goes nxt low
       goes (owed nxt past due sent_few) = if_unsure (λ unsure. owed_goes unsure nxt past due sent_few)
       goes (ahead past h) = if_unsure (λ unsure. ahead_goes unsure past h)

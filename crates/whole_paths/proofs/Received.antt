@@ -309,9 +309,14 @@ only_paths_receive start turns plan one mild =
     let shown = always_shown start turns size in
     shows_received (anyhow start size).links start shown.0 (world_run values turns (opened_world start)) shown.1.1 shown.1.0 (nobody_joins start plan one mild turns)
 
-pub granted_is_received : HoldsOfOnlyPaths values WhatIsGrantedIsReceived
-granted_is_received start turns plan one mild =
+-- as long as B's side joined no path
+pub lone_granted_is_received : (start : Start) (turns : List Turn) → IsMildStart start → (books_in (world_run values turns (opened_world start)).books).control_b.fall.joined ≡ false
+    → WhatIsGrantedIsReceived (world_run values turns (opened_world start))
+lone_granted_is_received start turns mild alone =
     let size = mild.plain.size in
     let shown = always_shown start turns size in
-    shows_left (anyhow start size).links start shown.0 (world_run values turns (opened_world start)) shown.1.1 shown.1.0 (nobody_joins start plan one mild turns)
+    shows_left (anyhow start size).links start shown.0 (world_run values turns (opened_world start)) shown.1.1 shown.1.0 alone
     (each_is_reached values start turns).each (what_is_acknowledged_came start turns).each
+
+pub granted_is_received : HoldsOfOnlyPaths values WhatIsGrantedIsReceived
+granted_is_received start turns plan one mild = lone_granted_is_received start turns mild (nobody_joins start plan one mild turns)

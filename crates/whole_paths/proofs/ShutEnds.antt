@@ -1,16 +1,15 @@
 -- A window that was shut leaves a byte that path 0 may take, until it is granted; and only a grant that is asked for tells an end otherwise.
-use Rattle.std.proofs.Common.{◌≡◌, refl, sym, subst, ap, ◌∙◌, ◌⊎◌, inl, inr, ⊎_elim, ◌+◌, ◌-◌, ◌<◌, ◌≤◌, ℕ, suc, ◌==◌, ◌&&◌, ◌||◌, nat_le, arith, Bool, true, false, true≢false, if◌then◌else◌, Option, Some, None, Result, Ok, Err, List, [], ◌∷◌, ◌++◌, length}
+use Rattle.std.proofs.Common.{◌≡◌, refl, sym, subst, ap, ◌∙◌, ◌⊎◌, inl, inr, ⊎_elim, ◌+◌, ◌-◌, ◌<◌, ◌≤◌, ℕ, ◌==◌, ◌&&◌, ◌||◌, arith, Bool, true, false, true≢false, if◌then◌else◌, Option, Some, None, Result, Ok, Err, List, [], ◌∷◌, ◌++◌, length}
 use Rattle.std.specs.List.{slice_get}
 use Rattle.std.proofs.lemmas.Bool.{both_ways}
 use Rattle.std.proofs.lemmas.Option.{same_Some}
 use Rattle.sides.specs.declared.side.Side.{Side}
 use Rattle.sides.specs.declared.side.Side.TheVariants.{A, B}
-use Rattle.sides.specs.Side.{peer}
 use Rattle.send_book.specs.declared.call.Span.{Span}
 use Rattle.send_book.specs.declared.call.Why.{Why}
 use Rattle.send_book.specs.declared.call.Why.TheVariants.{Backup, Ended, NothingFree, WindowShut}
 use Rattle.send_book.specs.State.{Sending, acked_len}
-use Rattle.send_book.specs.Steps.{decision, first_free, part_of, reply_by, run_len, span_at}
+use Rattle.send_book.specs.Steps.{decision, first_free, part_of, reply_by, span_at}
 use Rattle.send_book.proofs.Decisions.{MayTake, decision-MayTake, first_free-within}
 use Rattle.subflow_send.specs.Records.{Record, SendState}
 use Rattle.actor_desk.specs.Books.{books_in}
@@ -21,14 +20,11 @@ use Rattle.actor_desk.specs.declared.ask.Reply.{Reply}
 use Rattle.actor_desk.specs.declared.ask.Reply.TheVariants as replies
 use Rattle.path_agenda.specs.declared.duty.Duty.{Duty}
 use Rattle.path_agenda.specs.declared.duty.Duty.TheVariants as duties
-use Rattle.path_agenda.specs.declared.duty.AskDuty.TheVariants as ask_duties
 use Rattle.path_agenda.specs.declared.duty.SendDuty.TheVariants as send_duties
-use Rattle.path_agenda.specs.declared.duty.SilentDuty.TheVariants as silent_duties
 use Rattle.path_agenda.specs.declared.duty.StepDuty.TheVariants as step_duties
 use Rattle.path_core.specs.DataFin.{is_shut}
 use Rattle.path_core.specs.Duties.{answered, ask_for}
 use Rattle.path_core.specs.Emission.{answered_data, answered_grant, data_ask, first_unsent, grant_ask, grant_in, payload_size}
-use Rattle.path_core.specs.End.{PathEnd}
 use Rattle.path_core.specs.Events.{next_event}
 use Rattle.path_core.specs.Start.{waiting_path}
 use Rattle.path_core.specs.State.{PathState, end_at, path_of, with_agenda}
@@ -49,7 +45,7 @@ use Rattle.whole_paths.specs.Finish.{IsPathAt}
 use Rattle.whole_paths.specs.Halted.{ShutUntilGranted}
 use Rattle.whole_paths.specs.Mild.{IsMildStart}
 use Rattle.whole_paths.specs.PositionCounts.{CountsBytes, TookWhatItSent}
-use Rattle.whole_paths.proofs.ByTurns.{Of, OfBooked, each_booked, path_before}
+use Rattle.whole_paths.proofs.ByTurns.{Of, OfBooked, each_booked}
 use Rattle.whole_paths.proofs.Finishing.{MemberFinishes, turn_finishes}
 use Rattle.whole_paths.proofs.FullGrants.{SameSend, first_is, other_next, same_last}
 use Rattle.whole_paths.proofs.GoesOn.{goes_on_so}

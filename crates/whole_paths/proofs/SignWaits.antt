@@ -15,7 +15,7 @@ use Rattle.path_core.specs.State.{PathState, end_at}
 use Rattle.path_core.specs.Values.{Carried, values}
 use Rattle.world_laws.specs.Actors.{is_over}
 use Rattle.world_laws.specs.Members.{HoldsOfKind}
-use Rattle.world_laws.specs.Openings.{PathPlan, Start, opened_world}
+use Rattle.world_laws.specs.Openings.{Start, opened_world}
 use Rattle.world_laws.specs.RoundDone.{EndsAt, reached}
 use Rattle.world_laws.specs.Worlds.{Turn, WorldState, after_turn}
 use Rattle.world_laws.proofs.Rounds.DoneByTheEnd.{rounds_end_on_time}
@@ -27,6 +27,7 @@ use Rattle.whole_paths.specs.Courses.{round_end}
 use Rattle.whole_paths.specs.DataAcksHeard.{IsToHear}
 use Rattle.whole_paths.specs.Expiries.{IsToSendAgain}
 use Rattle.whole_paths.specs.Finish.{IsPathAt}
+use Rattle.whole_paths.specs.Mild.{IsMildStart}
 use Rattle.whole_paths.specs.FirstPieces.{FirstPieceGoesOn, FirstPiecesBegin, FirstPiecesGoOn, IsFirstPieceAwaited}
 use Rattle.whole_paths.specs.FirstPieces.{FirstPieceGoesOn as pieces}
 use Rattle.whole_paths.specs.FirstPieces.IsFirstPieceAwaited.{comes, hears}
@@ -35,7 +36,6 @@ use Rattle.whole_paths.specs.FirstSigns.{SignGoesOn as signs}
 use Rattle.whole_paths.specs.Flights.{IsOnItsWay, IsSentSo}
 use Rattle.whole_paths.specs.Flights.{IsOnItsWay as ways}
 use Rattle.whole_paths.specs.InTime.{ComesFrom}
-use Rattle.whole_paths.specs.OnePathScripts.{BeginsWithOnePath}
 use Rattle.whole_paths.specs.OpenCourses.{IsNow}
 use Rattle.whole_paths.specs.Opened.{OpensOn, opened_or_harmed}
 use Rattle.whole_paths.specs.Opened.{OpensOn as opens}
@@ -67,7 +67,7 @@ ungone_so c r x q (ways.waits tick low runs first) so = tt
 ungone_so c r x q (ways.resends low is first) so = tt
 ungone_so c r x q (ways.flies f low there copy) so = absurd so
 
-module _ (start : Start) (plan : PathPlan) (begins : BeginsWithOnePath start plan) (turns : List Turn) (turn : Turn) where
+module _ (start : Start) (mild : IsMildStart start) (turns : List Turn) (turn : Turn) where
   abbrev w : WorldState Carried
   w = reached values start turns
 
@@ -85,7 +85,7 @@ module _ (start : Start) (plan : PathPlan) (begins : BeginsWithOnePath start pla
     q = after.path
 
     opened : OpensOn p q → Rises
-    opened = opens_so start plan begins turns turn before after sent
+    opened = opens_so start mild turns turn before after sent
 
     piece_by : (x : ℕ) → FirstPieceGoesOn x p q → Rises ⊎ IsFirstSignAwaited x q
     piece_by x (pieces.on h) = inr (first_sign.piece h)
@@ -107,24 +107,24 @@ module _ (start : Start) (plan : PathPlan) (begins : BeginsWithOnePath start pla
         by : (b : Bool) → q.a.modes.clear ≡ b → Rises ⊎ IsFirstSignAwaited x q
         by true is = inl (opened (opens.clears A unclear is))
         by false still =
-            let at = there start plan begins turns turn before after in
+            let at = there start mild turns turn before after in
             let past = (subst (HoldsOfKind (λ app. Unit {0}) IsPastIfClear) at.is (clear_ends_are_past values start (turns ++ turn ∷ []) 2 at.crew at.there)) after.faithful.joined B clear in
-            let piece = first_of_b start plan begins (turns ++ turn ∷ []) q at after.is_open still past r is_first in
+            let piece = first_of_b start mild (turns ++ turn ∷ []) q at after.is_open still past r is_first in
             inr (first_sign.sign (IsSignPieceAwaited.comes (record {
               unclear = still;
               high = high;
               clear = clear;
               met = omega (arith, past);
-              edge = edge_first start plan begins (turns ++ turn ∷ []) q at after.is_open A still;
+              edge = edge_first start mild (turns ++ turn ∷ []) q at after.is_open A still;
             }) r piece.0 piece.1 way (ungone_so q.profile r x q way ungone)))
 
     goes_on : (x : ℕ) → IsFirstSignAwaited x p → Rises ⊎ IsFirstSignAwaited x q
-    goes_on x (first_sign.piece h) = piece_by x (with_both start begins.mild turns turn before after FirstPiecesGoOn
-        (each_first_piece_comes.goes_on start turns begins.mild turn 2 before.here.crew before.here.there) before.faithful before.few x h)
-    goes_on x (first_sign.sign h) = sign_by x (with_both start begins.mild turns turn before after SignPiecesGoOn
-        (each_sign_piece_comes.goes_on start turns begins.mild turn 2 before.here.crew before.here.there) before.faithful before.few x h)
-    goes_on x (first_sign.end h) = end_by x (unclear_before x h) (with_both start begins.mild turns turn before after SignsGoOn
-        (each_first_sign_comes.goes_on start turns begins.mild turn 2 before.here.crew before.here.there) before.faithful before.few x h)
+    goes_on x (first_sign.piece h) = piece_by x (with_both start mild turns turn before after FirstPiecesGoOn
+        (each_first_piece_comes.goes_on start turns mild turn 2 before.here.crew before.here.there) before.faithful before.few x h)
+    goes_on x (first_sign.sign h) = sign_by x (with_both start mild turns turn before after SignPiecesGoOn
+        (each_sign_piece_comes.goes_on start turns mild turn 2 before.here.crew before.here.there) before.faithful before.few x h)
+    goes_on x (first_sign.end h) = end_by x (unclear_before x h) (with_both start mild turns turn before after SignsGoOn
+        (each_first_sign_comes.goes_on start turns mild turn 2 before.here.crew before.here.there) before.faithful before.few x h)
 
 -- ---- in time
 
@@ -156,7 +156,7 @@ sign_due p over past x late (IsSignPieceAwaited.hears unclear (sure.by_keys own 
 
 -- ---- waits
 
-module _ (start : Start) (plan : PathPlan) (most : ℕ) (begins : BeginsWithOnePath start plan) where
+module _ (start : Start) (most : ℕ) (mild : IsMildStart start) where
   abbrev GoesOn : ℕ → List Turn → List Turn → Type 0
   GoesOn x v u = (opened_or_harmed start v < opened_or_harmed start u) ⊎ AwaitsFirstSign start x u
 
@@ -168,8 +168,8 @@ module _ (start : Start) (plan : PathPlan) (most : ℕ) (begins : BeginsWithOneP
       let path_same = path_is (reached values start v) h.path before.path h.here before.here in
       let sent : 1 ≤ stage before.path.a.tcp.state = subst (λ (p : PathState Carried). 1 ≤ stage p.a.tcp.state) path_same h.sent in
       ⊎_elim (λ rises. inl rises)
-      (λ waits. inr (record { path = then_now.path; here = there; by = h.by; soon = h.soon; sent = (let up = (far start plan begins v turn before then_now).a.subflow.state in omega (arith, sent, up)); waits = waits }))
-      (goes_on start plan begins v turn before then_now sent h.by (subst (IsFirstSignAwaited h.by) path_same h.waits))
+      (λ waits. inr (record { path = then_now.path; here = there; by = h.by; soon = h.soon; sent = (let up = (far start mild v turn before then_now).a.subflow.state in omega (arith, sent, up)); waits = waits }))
+      (goes_on start mild v turn before then_now sent h.by (subst (IsFirstSignAwaited h.by) path_same h.waits))
 
   steps_on : (x : ℕ) (v u : List Turn) → AliveSteps start most v u → AwaitsFirstSign start x v → GoesOn x v u
   steps_on x v u step h = subst (λ t. GoesOn x v t) (sym step.is) (turn_on x v (Turn.Step step.actor) step.before (subst (IsAliveAfter start most) step.is step.after) h)
@@ -201,13 +201,13 @@ module _ (start : Start) (plan : PathPlan) (most : ℕ) (begins : BeginsWithOneP
     none_late x late (first_sign.end h) = (subst (HoldsOfKind (λ app. Unit {0}) SignsAreDue) at.is (each_first_sign_comes.due start v 2 at.crew at.there)) silent x late h
 
     pieces_begin : FirstPiecesBegin path
-    pieces_begin = subst (HoldsOfKind (λ app. Unit {0}) FirstPiecesBegin) at.is (each_first_piece_comes.begin start v begins.mild 2 at.crew at.there)
+    pieces_begin = subst (HoldsOfKind (λ app. Unit {0}) FirstPiecesBegin) at.is (each_first_piece_comes.begin start v mild 2 at.crew at.there)
 
     sign_pieces_begin : SignPiecesBegin path
-    sign_pieces_begin = subst (HoldsOfKind (λ app. Unit {0}) SignPiecesBegin) at.is (each_sign_piece_comes.begin start v begins.mild 2 at.crew at.there)
+    sign_pieces_begin = subst (HoldsOfKind (λ app. Unit {0}) SignPiecesBegin) at.is (each_sign_piece_comes.begin start v mild 2 at.crew at.there)
 
     signs_begin : SignsBegin path
-    signs_begin = subst (HoldsOfKind (λ app. Unit {0}) SignsBegin) at.is (each_first_sign_comes.begin start v begins.mild 2 at.crew at.there)
+    signs_begin = subst (HoldsOfKind (λ app. Unit {0}) SignsBegin) at.is (each_first_sign_comes.begin start v mild 2 at.crew at.there)
 
     same_now : path ≡ step.before.path
     same_now = path_is ended path step.before.path at step.before.here
@@ -229,15 +229,15 @@ module _ (start : Start) (plan : PathPlan) (most : ℕ) (begins : BeginsWithOneP
 
     wait_begins : IsToShow path → AwaitsFirstSign start (round_end values start v + 60800) u
     wait_begins to_show = ⊎_elim
-        (λ rises. absurd (no_round_opens start plan begins most v u step rises))
+        (λ rises. absurd (no_round_opens start mild most v u step rises))
         (λ waits. waits)
         (opens_on (round_end values start v + 60800) v u step (waiting to_show))
 
 pub first_signs_are_awaited : FirstSignsAreAwaited
-first_signs_are_awaited start plan most begins = record {
-  begins = λ v u step h. wait_begins start plan most begins v u step h.path h.here h.shows;
-  on = λ x v u step h. steps_on start plan most begins x v u step h;
-  next = λ x v u step h. opens_on start plan most begins x v u step h;
-  due = λ x v u step h late. none_late start plan most begins v u step h.path h.here h.by
-      (let end = until start plan most begins v u step h.path h.here in let soon = h.soon in omega (arith, end, soon, late)) h.waits;
+first_signs_are_awaited start most mild = record {
+  begins = λ v u step h. wait_begins start most mild v u step h.path h.here h.shows;
+  on = λ x v u step h. steps_on start most mild x v u step h;
+  next = λ x v u step h. opens_on start most mild x v u step h;
+  due = λ x v u step h late. none_late start most mild v u step h.path h.here h.by
+      (let end = until start most mild v u step h.path h.here in let soon = h.soon in omega (arith, end, soon, late)) h.waits;
 }

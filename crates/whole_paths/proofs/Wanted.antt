@@ -43,11 +43,20 @@ use Rattle.whole_paths.proofs.Offered.{Knows as knows}
 use Rattle.whole_paths.proofs.Saying.{ToSend}
 use Rattle.whole_paths.proofs.Settling.{sides}
 use Rattle.whole_paths.proofs.Turns.{TellsSteps, paths_between}
+use Rattle.actor_desk.specs.Books.{books_in}
+use Rattle.path_core.specs.Start.{first_turn, waiting_path}
+use Rattle.world_laws.specs.Actors.{ActorCrew}
+use Rattle.world_laws.specs.Openings.{PathPlan, Start, opened_world, path_begins}
+use Rattle.world_laws.specs.RoundDone.{reached}
+use Rattle.world_laws.specs.Worlds.{Turn}
+use Rattle.world_laws.proofs.Rounds.Lifting.{opened_lifted}
+use Rattle.whole_paths.specs.Between.{EachPathBetween}
+use Rattle.whole_paths.proofs.ByTurns.{Of, OfBooked, each_booked}
 
 -- ---- a reassembly book
 
 -- what it wants next never falls
-wanted_so : (b c : Arriving) → IsArrivalAsFar b c → next_wanted b ≤ next_wanted c
+pub wanted_so : (b c : Arriving) → IsArrivalAsFar b c → next_wanted b ≤ next_wanted c
 wanted_so b c up = by (is_end b.known_end (received b)) refl
   where
     ends : (o : Option ℕ) → is_end o (received b) ≡ true → o ≡ Some (received b)
@@ -73,7 +82,7 @@ wanted_up x six s = wanted_so (reassembly_of s six) (reassembly_of s (after_ask 
 
 -- an end that asks what is to be acknowledged is told so
 abbrev IsTold : Arriving → ReassemblyReply → Type 0
-IsTold b (ReassemblyReply.Ack next window) = next_wanted b ≤ next
+IsTold b (ReassemblyReply.Ack next window) = next ≡ next_wanted b
 IsTold b _ = Unit {0}
 
 either_told : (b : Arriving) (c : Bool) (r q : ReassemblyReply) → IsTold b r → IsTold b q → IsTold b (if c then r else q)
@@ -100,7 +109,7 @@ told_call b (ReassemblyCall.Read most) = by b.aborted
     by : (o : Option Bool) → IsTold b (arriving.reading o most b)
     by None = bytes (take most (filled b.places))
     by (Some by_peer) = tt
-told_call b ReassemblyCall.AckOut = omega arith
+told_call b ReassemblyCall.AckOut = refl
 told_call b (ReassemblyCall.Abort by_peer) = tt
 
 abbrev IsToldSo : Side → SixBooks → Reply → Type 0
@@ -125,6 +134,15 @@ ack_next place s six _ e low told h = h
 knows_next : (place : ℕ) (s : Side) (six : SixBooks) (r : Reply) (e f : PathEnd) → place ≤ next_wanted (reassembly_of s six) → IsToldSo s six r → Knows r e f → place ≤ e.receiving.next → place ≤ f.receiving.next
 knows_next place s six r e f low told (knows.stays x) h = (let same = x.next in omega (arith, same, h))
 knows_next place s six r e f low told (knows.asked x) h = (let same = x.next in let now = ack_next place s six r e low told h in omega (arith, same, now))
+
+-- no end knows more than that
+ack_no_more : (s : Side) (six : SixBooks) (r : Reply) (e : PathEnd) → IsToldSo s six r → e.receiving.next ≤ next_wanted (reassembly_of s six) → (after_ack_out r e).receiving.next ≤ next_wanted (reassembly_of s six)
+ack_no_more s six (Reply.Reassembly (ReassemblyReply.Ack next window)) e told h = omega (arith, told)
+ack_no_more s six _ e told h = h
+
+knows_no_more : (s : Side) (six : SixBooks) (r : Reply) (e f : PathEnd) → IsToldSo s six r → Knows r e f → e.receiving.next ≤ next_wanted (reassembly_of s six) → f.receiving.next ≤ next_wanted (reassembly_of s six)
+knows_no_more s six r e f told (knows.stays x) h = (let same = x.next in omega (arith, same, h))
+knows_no_more s six r e f told (knows.asked x) h = (let same = x.next in let now = ack_no_more s six r e told h in omega (arith, same, now))
 
 same_next : (place : ℕ) (e f : PathEnd) → Same e f → place ≤ e.receiving.next → place ≤ f.receiving.next
 same_next place e f x h = (let same = x.next in omega (arith, same, h))
@@ -229,3 +247,60 @@ module _ {C : Type 0} where
 
   pub what_is_wanted_is_told : (k : Codec C) → WhatIsWantedIsTold k
   what_is_wanted_is_told k = record { goes_on = paths_between k WantsOn others_want (takes_wants k) next_wants; sends = sends_wanted; begins = begins_wanting }
+
+  -- ---- no end knows more than its book wants next
+
+  abbrev pub KnowsNoMore : SixBooks → PathState C → Type 0
+  KnowsNoMore six p = (s : Side) → (end_at s p).receiving.next ≤ next_wanted (reassembly_of s six)
+
+  abbrev KnowsNoMoreOn : SixBooks → SixBooks → List Note → PathState C → PathState C → Type 0
+  KnowsNoMoreOn six after steps p q = KnowsNoMore six p → KnowsNoMore after q
+
+  settled_same : (s : Side) (ds : List Duty) (p : PathState C) → (end_at s (settled ds p)).receiving.next ≡ (end_at s p).receiving.next
+  settled_same A [] p = refl
+  settled_same B [] p = refl
+  settled_same s (d ∷ ds) p = elim (stands d p) as (λ b. (end_at s (if b then with_agenda (d ∷ ds) p else settled ds (passed d p))).receiving.next ≡ (end_at s p).receiving.next)
+      [ true ↦ agenda_next s (d ∷ ds) p | false ↦ settled_same s ds (passed d p) ∙ (passed_same s d p).next ]
+    where
+      agenda_next : (s : Side) (ds : List Duty) (p : PathState C) → (end_at s (with_agenda ds p)).receiving.next ≡ (end_at s p).receiving.next
+      agenda_next A ds p = refl
+      agenda_next B ds p = refl
+
+  pub others_no_more : (six : SixBooks) (x : Ask) (steps : List Note) (p : PathState C) → KnowsNoMoreOn six (after_ask x six) steps p p
+  others_no_more six x steps p h s = let low = h s in let up = wanted_up x six s in omega (arith, low, up)
+
+  pub takes_no_more : (k : Codec C) (six : SixBooks) (x : Ask) (steps : List Note) (p : PathState C) → asks_of k p ≡ Some x → TellsSteps (reply_of six x) steps → KnowsNoMoreOn six (after_ask x six) steps p (takes k (reply_of six x) p)
+  takes_no_more k six x steps p asks refuses = by p.agenda asks
+    where
+      by : (ds : List Duty) → let y : PathState C = with_agenda ds p in asks_of k y ≡ Some x → KnowsNoMoreOn six (after_ask x six) steps y (takes k (reply_of six x) y)
+      by [] asks = others_no_more six x steps (with_agenda [] p)
+      by (d ∷ ds) asks = λ h s.
+          let y : PathState C = with_agenda (d ∷ ds) p in
+          let q : PathState C = to k six x ds p d in
+          let is : x ≡ ask_for k d y = sym (same_Some (ask_for k d y) x asks) in
+          let told : IsToldSo (side_of d) six (reply_of six x) = told_so (side_of d) x six (subst (λ z. IsAt (side_of d) z) (sym is) (asks_no_more k y d).side) in
+          let now : (end_at s q).receiving.next ≤ next_wanted (reassembly_of s six) = ⊎_elim
+          (λ own. knows_no_more s six (reply_of six x) (end_at s y) (end_at s q) (subst (λ t. IsToldSo t six (reply_of six x)) own told) (subst (λ t. Knows (reply_of six x) (end_at t y) (end_at t q)) own (own_knows k (reply_of six x) y d)) (h s))
+          (λ away. (let same = (subst (λ t. Same (end_at t y) (end_at t q)) away (other_same k (reply_of six x) y d)).next in let low = h s in omega (arith, same, low)))
+          (sides s (side_of d)) in
+          let up = wanted_up x six s in let same = settled_same s q.agenda q in omega (arith, now, up, same)
+
+  pub next_no_more : (six : SixBooks) (steps : List Note) (p : PathState C) → is_nil p.agenda ≡ true → KnowsNoMoreOn six six steps p (next_round p)
+  next_no_more six steps p over h A = let low = h A in let same = settled_same A start_of_turn (with_agenda start_of_turn (record p { clock = p.until; until = p.until + 100 })) in omega (arith, low, same)
+  next_no_more six steps p over h B = let low = h B in let same = settled_same B start_of_turn (with_agenda start_of_turn (record p { clock = p.until; until = p.until + 100 })) in omega (arith, low, same)
+
+  abbrev no_more_between : (k : Codec C) → EachPathBetween k KnowsNoMoreOn
+  no_more_between k = paths_between k KnowsNoMoreOn others_no_more (takes_no_more k) next_no_more
+
+-- on path 0, at every moment
+pub first_knows_no_more : {C : Type 0} (k : Codec C) (start : Start) (turns : List Turn) → OfBooked k start KnowsNoMoreOn (no_more_between k) KnowsNoMore (reached k start turns)
+first_knows_no_more {C} k start = each_booked k start KnowsNoMoreOn (no_more_between k) KnowsNoMore opened (λ turns turn steps p q here there on h. on h)
+  where
+    opened : OfBooked k start KnowsNoMoreOn (no_more_between k) KnowsNoMore (opened_world start)
+    opened = record {
+      each = λ c there. (opened_lifted (λ (c : ActorCrew C). Of (KnowsNoMore (books_in (opened_world {C = C} start).books)) c.member) start tt tt (λ number plan at. first number plan)).each 2 c there;
+    }
+      where
+        first : (number : ℕ) (plan : PathPlan) → KnowsNoMore (books_in (opened_world {C = C} start).books) (first_turn {C = C} (path_begins start number plan) start.lines)
+        first number plan A = let same = settled_same A start_of_turn (with_agenda start_of_turn (waiting_path {C = C} (path_begins start number plan) start.lines)) in omega (arith, same)
+        first number plan B = let same = settled_same B start_of_turn (with_agenda start_of_turn (waiting_path {C = C} (path_begins start number plan) start.lines)) in omega (arith, same)

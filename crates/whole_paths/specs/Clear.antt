@@ -12,7 +12,7 @@ use Rattle.path_core.specs.State.{PathState, end_at}
 use Rattle.path_core.specs.Values.{Carried, values}
 use Rattle.world_laws.specs.Actors.{ActorCrew}
 use Rattle.world_laws.specs.Members.{HoldsOfKind}
-use Rattle.world_laws.specs.Openings.{PathPlan, Start}
+use Rattle.world_laws.specs.Openings.{Start}
 use Rattle.world_laws.specs.Promises.{arrived_at}
 use Rattle.world_laws.specs.RoundDone.{reached}
 use Rattle.world_laws.specs.Worlds.{Turn}
@@ -37,14 +37,14 @@ abbrev pub AHearsNoEndBefore : Type 0
 AHearsNoEndBefore = (start : Start) (turns : List Turn) → IsMildStart start → (p : PathState Carried) → IsPathAt 0 (reached values start turns) p → p.a.modes.clear ≡ false
     → HearsNoEnd p.a
 
--- over one path A's side knows no end of B's stream until then
+-- nor does A's side know the end of B's stream, over any number of paths: until then no other path does anything
 abbrev pub AIsToldNoEndBefore : Type 0
-AIsToldNoEndBefore = (start : Start) (plan : PathPlan) (turns : List Turn) → start.paths ≡ plan ∷ [] → IsMildStart start → (p : PathState Carried) → IsPathAt 0 (reached values start turns) p
+AIsToldNoEndBefore = (start : Start) (turns : List Turn) → IsMildStart start → (p : PathState Carried) → IsPathAt 0 (reached values start turns) p
     → p.a.modes.clear ≡ false → (arrived_at A (reached values start turns)).known_end ≡ None
 
--- Over one path A's end may send a DSS only where B's may (RFC 8684, section 3.1).
+-- Over any number of paths A's end of path 0 may send a DSS only where B's may (RFC 8684, section 3.1).
 abbrev pub BIsClearFirst : Type 0
-BIsClearFirst = (start : Start) (plan : PathPlan) (turns : List Turn) → start.paths ≡ plan ∷ [] → IsMildStart start → (p : PathState Carried) → IsPathAt 0 (reached values start turns) p
+BIsClearFirst = (start : Start) (turns : List Turn) → IsMildStart start → (p : PathState Carried) → IsPathAt 0 (reached values start turns) p
     → p.a.modes.clear ≡ true → p.b.modes.clear ≡ true
 
 -- And where B's may A's is past the handshake, and knows B's key, as long as no end is dead, on path 0 of a mild connection.
@@ -54,12 +54,12 @@ AHasTheKeyFirst = (start : Start) (turns : List Turn) → IsMildStart start → 
 
 -- and until B's may it sent nothing behind its SYN
 abbrev pub BSendsNothingBefore : Type 0
-BSendsNothingBefore = (start : Start) (plan : PathPlan) (turns : List Turn) → start.paths ≡ plan ∷ [] → IsMildStart start → (p : PathState Carried) → IsPathAt 0 (reached values start turns) p
+BSendsNothingBefore = (start : Start) (turns : List Turn) → IsMildStart start → (p : PathState Carried) → IsPathAt 0 (reached values start turns) p
     → p.b.modes.clear ≡ false → p.b.tcp.send.nxt ≤ 1
 
 -- and until an end may send one nothing came to it behind its peer's SYN, as long as no end is dead
 abbrev pub NothingComesBefore : Type 0
-NothingComesBefore = (start : Start) (plan : PathPlan) (turns : List Turn) → start.paths ≡ plan ∷ [] → IsMildStart start → (p : PathState Carried) → IsPathAt 0 (reached values start turns) p
+NothingComesBefore = (start : Start) (turns : List Turn) → IsMildStart start → (p : PathState Carried) → IsPathAt 0 (reached values start turns) p
     → IsAlive p → (s : Side) → (end_at s p).modes.clear ≡ false → (end_at s p).tcp.recv.edge ≡ 1
 
 -- A's first piece isn't acknowledged, before which nothing came to B behind the SYN.
@@ -73,12 +73,12 @@ pub record HasFirstPiece (p : PathState Carried) : Type 0 where
 
 -- So it is where a turn is over, B may send none, and both ends are past the handshake.
 abbrev pub TheFirstPieceWaits : Type 0
-TheFirstPieceWaits = (start : Start) (plan : PathPlan) (turns : List Turn) → start.paths ≡ plan ∷ [] → IsMildStart start → (p : PathState Carried) → IsPathAt 0 (reached values start turns) p
+TheFirstPieceWaits = (start : Start) (turns : List Turn) → IsMildStart start → (p : PathState Carried) → IsPathAt 0 (reached values start turns) p
     → IsAlive p → p.agenda ≡ [] → ((s : Side) → 3 ≤ stage (end_at s p).tcp.state) → p.b.modes.clear ≡ false → HasFirstPiece p
 
 -- And where A's end may send none yet, at the end of a turn an end of B's without a record was granted nothing, and knows of no window that is shut.
 abbrev pub BIsIdleBefore : Type 0
-BIsIdleBefore = (start : Start) (plan : PathPlan) (turns : List Turn) → start.paths ≡ plan ∷ [] → IsMildStart start → 1 ≤ start.buffer → (p : PathState Carried) → IsPathAt 0 (reached values start turns) p
+BIsIdleBefore = (start : Start) (turns : List Turn) → IsMildStart start → 1 ≤ start.buffer → (p : PathState Carried) → IsPathAt 0 (reached values start turns) p
     → IsAlive p → p.agenda ≡ [] → p.a.modes.clear ≡ false → p.b.modes.clear ≡ true → p.b.tcp.send.records ≡ [] → (p.b.sending.granted ≡ []) × (p.b.sending.shut ≡ false)
 
 module _ {C : Type 0} where

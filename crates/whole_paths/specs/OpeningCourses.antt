@@ -1,5 +1,6 @@
--- A connection over one path from its beginning on: after rounds enough the path is whole, or all of both streams is with the peers, or an end of it died.
-use Rattle.std.specs.Prelude.{ℕ, ◌+◌, ◌-◌, ◌*◌, ◌^◌, ◌≡◌, ◌<◌, ◌≤◌, ◌⊎◌, true, false, List, ◌++◌, length}
+-- A connection from its beginning on: after rounds enough path 0 is whole, or all of both streams is with the peers, or an end of it died.
+use Rattle.std.specs.Prelude.{ℕ, ◌+◌, ◌-◌, ◌*◌, ◌^◌, ◌≡◌, ◌<◌, ◌≤◌, ◌⊎◌, true, false, Some, List, ◌++◌, length}
+use Rattle.std.specs.List.{slice_get}
 use Rattle.sides.specs.declared.side.Side.TheVariants.{B}
 use Rattle.path_core.specs.State.{PathState}
 use Rattle.path_core.specs.Values.{Carried, values}
@@ -14,10 +15,12 @@ use Rattle.whole_paths.specs.Courses.{round_end}
 use Rattle.whole_paths.specs.Delivery.{AllIsThere}
 use Rattle.whole_paths.specs.Finish.{AnEndDied, IsPathAt, IsWhole, Patience, harmed, rounds_in}
 use Rattle.whole_paths.specs.GoingOn.{steps_of}
+use Rattle.whole_paths.specs.Mild.{IsMildStart}
 use Rattle.whole_paths.specs.OnePathScripts.{Allowance, BeginsWithOnePath, for_all_news, rounds_within}
 use Rattle.whole_paths.specs.OnlyPaths.{news_within}
 use Rattle.whole_paths.specs.OpeningWaits.{AwaitsOpening}
 use Rattle.whole_paths.specs.Opened.{opened_or_harmed}
+use Rattle.whole_paths.specs.Serving.{ServesAt}
 use Rattle.whole_paths.specs.SignWaits.{AwaitsFirstSign}
 use Rattle.whole_paths.specs.Straying.{IsOpenFrom}
 
@@ -61,7 +64,21 @@ pub record AwaitsAStep (start : Start) (most n x : ℕ) (turns : List Turn) : Ty
 abbrev pub IsOpenOrDone : WorldState Carried → Type 0
 IsOpenOrDone w = IsWhole 0 w ⊎ AllIsThere w
 
--- in fewer than 2^64 - 1 turns
+-- a mild connection that has a path 0, no end of which ever stands by
+pub record BeginsServing (start : Start) : Type 0 where
+  pub mild : IsMildStart start
+  pub plan : PathPlan
+  pub there : slice_get start.paths 0 ≡ Some plan
+  pub buffer : 1 ≤ start.buffer
+  pub serves : (turns : List Turn) → ServesAt 0 (reached values start turns)
+
+-- that path, in fewer than 2^64 - 1 turns, whatever becomes of the others
+abbrev pub FirstPathsOpenWithin : Allowance → Type 0
+FirstPathsOpenWithin enough = (start : Start) (turns : List Turn) (most : ℕ) → BeginsServing start
+    → AreLawful values turns (opened_world start) → length turns < 2 ^ 64 - 1 → harmed values 0 turns (opened_world start) ≤ most
+    → enough start most < 100 * rounds_in turns → IsOpenOrDone (reached values start turns) ⊎ AnEndDied 0 (reached values start turns)
+
+-- the only one
 abbrev pub OpensWithin : Allowance → Type 0
 OpensWithin enough = (start : Start) (plan : PathPlan) (turns : List Turn) (most : ℕ) → BeginsWithOnePath start plan
     → AreLawful values turns (opened_world start) → length turns < 2 ^ 64 - 1 → harmed values 0 turns (opened_world start) ≤ most

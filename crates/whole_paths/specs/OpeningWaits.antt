@@ -8,7 +8,7 @@ use Rattle.path_core.specs.Values.{Carried, values}
 use Rattle.sides.specs.Side.{peer}
 use Rattle.world_laws.specs.Actors.{ActorCrew}
 use Rattle.world_laws.specs.Members.{HoldsOfKind}
-use Rattle.world_laws.specs.Openings.{PathPlan, Start}
+use Rattle.world_laws.specs.Openings.{Start}
 use Rattle.world_laws.specs.RoundDone.{reached}
 use Rattle.world_laws.specs.Worlds.{Turn}
 use Rattle.whole_paths.specs.AsFar.{stage}
@@ -16,7 +16,6 @@ use Rattle.whole_paths.specs.Courses.{BeginsARound, TakesAStep, round_end}
 use Rattle.whole_paths.specs.Delivery.{HasFinished}
 use Rattle.whole_paths.specs.Finish.{IsPathAt}
 use Rattle.whole_paths.specs.Mild.{IsMildStart}
-use Rattle.whole_paths.specs.OnePathScripts.{BeginsWithOnePath}
 use Rattle.whole_paths.specs.OpenCourses.{IsNow}
 use Rattle.whole_paths.specs.Opened.{opened_or_harmed}
 use Rattle.whole_paths.specs.SynAcks.{IsToBeAnswered}
@@ -101,6 +100,6 @@ module _ (start : Start) (most : ℕ) where
     pub due : (x : ℕ) (v u : List Turn) → AliveOpens v u → AwaitsOpening start x v → x < round_end values start v
         → (opened_or_harmed start v < opened_or_harmed start u) ⊎ AHasFinished start v
 
--- in each mild connection over one path
+-- in each mild connection, over any number of paths
 abbrev pub OpeningsAreAwaited : Type 0
-OpeningsAreAwaited = (start : Start) (plan : PathPlan) (most : ℕ) → BeginsWithOnePath start plan → OpeningIsAwaited start most
+OpeningsAreAwaited = (start : Start) (most : ℕ) → IsMildStart start → OpeningIsAwaited start most

@@ -5,15 +5,15 @@ use Rattle.subflow_send.specs.declared.record.RecordKind.TheVariants.{Data}
 use Rattle.subflow_tcp.specs.States.{is_closed_to_segments}
 use Rattle.path_core.specs.State.{PathState}
 use Rattle.path_core.specs.Values.{Carried, values}
-use Rattle.world_laws.specs.Openings.{PathPlan, Start}
+use Rattle.world_laws.specs.Openings.{Start}
 use Rattle.world_laws.specs.RoundDone.{reached}
 use Rattle.world_laws.specs.Worlds.{Turn}
 use Rattle.whole_paths.specs.AsFar.{stage}
 use Rattle.whole_paths.specs.Courses.{round_end}
 use Rattle.whole_paths.specs.Finish.{IsPathAt}
+use Rattle.whole_paths.specs.Mild.{IsMildStart}
 use Rattle.whole_paths.specs.FirstPieces.{IsFirstPieceAwaited}
 use Rattle.whole_paths.specs.FirstSigns.{IsSignAwaited, WaitsAtItsEnd}
-use Rattle.whole_paths.specs.OnePathScripts.{BeginsWithOnePath}
 use Rattle.whole_paths.specs.Opened.{opened_or_harmed}
 use Rattle.whole_paths.specs.SignPieces.{IsSignPieceAwaited, WantsASign}
 use Rattle.whole_paths.specs.OpeningWaits.{AliveOpens, AliveSteps}
@@ -55,6 +55,6 @@ pub record FirstSignIsAwaited (start : Start) (most : ℕ) : Type 0 where
   pub next : (x : ℕ) (v u : List Turn) → AliveOpens start most v u → AwaitsFirstSign start x v → (opened_or_harmed start v < opened_or_harmed start u) ⊎ AwaitsFirstSign start x u
   pub due : (x : ℕ) (v u : List Turn) → AliveOpens start most v u → AwaitsFirstSign start x v → x < round_end values start v → ⊥
 
--- in each mild connection over one path, while no end of path 0 is dead
+-- in each mild connection over any number of paths, while no end of path 0 is dead
 abbrev pub FirstSignsAreAwaited : Type 0
-FirstSignsAreAwaited = (start : Start) (plan : PathPlan) (most : ℕ) → BeginsWithOnePath start plan → FirstSignIsAwaited start most
+FirstSignsAreAwaited = (start : Start) (most : ℕ) → IsMildStart start → FirstSignIsAwaited start most

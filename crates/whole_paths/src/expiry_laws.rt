@@ -17,7 +17,7 @@ pub fn mild_ends_die_of_expiries()
 {}
 
 /// A law: no side counts the address of path 0 as removed, always, where no line of the script takes it back (RFC 8684, section 3.4.2) or lets
-/// a path die.
+/// path 0 die.
 ///
 /// Neither book is told to take id 0 back, no path has it to note, no segment says so, and no end hears it.
 pub fn first_addresses_stay()

@@ -1,5 +1,5 @@
-use Rattle.whole_paths.proofs.PriorityItems as items
+use Rattle.whole_paths.proofs.HeardWords as words
 use Rattle.whole_paths.proofs.holder_laws.backups_are_said.Goals as goal
 
 pub returns : goal.returns
-returns c = items.options_say
+returns c = words.backups_are_said

@@ -1,6 +1,6 @@
--- A segment takes an address back only where this stands in what its end has to note.
-use Rattle.std.proofs.Common.{◌≡◌, refl, ap, ℕ, ◌-◌, ◌&&◌, ◌||◌, ◌==◌, not, inl, inr, Bool, true, false, if◌then◌else◌, Option, Some, None, List, [], ◌∷◌}
-use Rattle.std.proofs.lemmas.Bool.{or_cases, both_ways, false≢true}
+-- A segment says that an address is taken back, or a priority, only where this stands in what its end has to note.
+use Rattle.std.proofs.Common.{◌≡◌, refl, sym, ap, ◌∙◌, ℕ, ◌-◌, ◌&&◌, ◌||◌, not, Bool, true, false, if◌then◌else◌, Option, Some, None, List, ◌∷◌, []}
+use Rattle.std.proofs.lemmas.Bool.{both_ways, false≢true}
 use Rattle.std.specs.List.{list_any}
 use Rattle.std.specs.Option.{IfSome}
 use Rattle.sides.specs.declared.side.Side.{Side}
@@ -20,7 +20,7 @@ use Rattle.path_agenda.specs.declared.notice.OwnNotice.{OwnNotice}
 use Rattle.path_agenda.specs.declared.heard.Heard.{Heard}
 use Rattle.path_agenda.specs.Words.{first_of}
 use Rattle.path_core.specs.End.{PathEnd}
-use Rattle.path_core.specs.Looking.{first_sends, segment_sent, broken_by, heard_sends, unsent_sends, step_sends}
+use Rattle.path_core.specs.Looking.{first_sends, segment_sent, broken_by, heard_sends, unsent_sends, step_sends, send_of}
 use Rattle.path_core.specs.State.{PathState, end_at}
 use Rattle.path_core.specs.Emission.{first_unsent, first_record, ack_resent, resend_said, answer_said}
 use Rattle.path_core.specs.MpJoin.{is_joined, join_options, third_options}
@@ -32,21 +32,13 @@ use Rattle.path_core.specs.Modes.{receives_infinite}
 use Rattle.path_core.specs.DssOut.{owes_mapping, plain_options, is_first_piece, first_piece_options, piece_options, fin_options, fail_options, fail_beside, infinite_or, mapped_options}
 use Rattle.path_core.specs.OptionsOut.{capable_options, syn_options, key_options, opening_options, ack_options, record_options, ack_said, carried_said, syn_ack_said, fin_said, reset_said, record_or_ack, broken_options, noted_said, notice_option}
 use Rattle.path_core.specs.Profile.{Profile}
-use Rattle.path_core.specs.Looking.{send_of}
-use Rattle.path_segments.specs.declared.segment.PathOption.TheVariants.{Remove}
-use Rattle.whole_paths.proofs.QueuedRemovals.{is_note, is_noted, is_queued}
+use Rattle.whole_paths.specs.Priorities.{PrioritiesAreNoted, has_priority, says_priority_in}
+use Rattle.whole_paths.proofs.Saying.{ToSend}
+use Rattle.whole_paths.proofs.NoticeWords.{Word, either_way, is_note, is_noted, is_queued, ranks, removes, same_options, same_queue, is_said, is_said_in}
 
--- an option that takes the id back, and a segment with one
-abbrev pub takes_back : ℕ → PlainOption → Bool
-takes_back id (Remove ids) = list_any (λ other. other == id) ids
-takes_back id _ = false
-
-abbrev pub takes_back_in : ℕ → PlainSegment → Bool
-takes_back_in id segment = list_any (takes_back id) segment.options
-
-module _ (id : ℕ) (c : Profile) (s : Side) (e : PathEnd) where
+module _ (word : Word) (c : Profile) (s : Side) (e : PathEnd) where
   abbrev HasNone : List PlainOption → Type 0
-  HasNone options = list_any (takes_back id) options ≡ false
+  HasNone options = list_any (is_said word) options ≡ false
 
   either_none : (b : Bool) (xs ys : List PlainOption) → HasNone xs → HasNone ys → HasNone (if b then xs else ys)
   either_none = elim [ true ↦ λ xs ys x y. x | false ↦ λ xs ys x y. y ]
@@ -108,7 +100,7 @@ module _ (id : ℕ) (c : Profile) (s : Side) (e : PathEnd) where
   -- ---- segments
 
   abbrev SaysNone : PlainSegment → Type 0
-  SaysNone segment = takes_back_in id segment ≡ false
+  SaysNone segment = is_said_in word segment ≡ false
 
   either_says : (b : Bool) (x y : PlainSegment) → SaysNone x → SaysNone y → SaysNone (if b then x else y)
   either_says = elim [ true ↦ λ x y g h. g | false ↦ λ x y g h. h ]
@@ -129,94 +121,102 @@ module _ (id : ℕ) (c : Profile) (s : Side) (e : PathEnd) where
 
   -- ---- a notice
 
-  -- an option takes back what its notice does
-  option_notes : (notice : OwnNotice) → takes_back id (notice_option notice e.modes) || false ≡ true → is_note id notice ≡ true
-  option_notes (OwnNotice.Removes other) is =
-      elim (or_cases ((other == id) || false) false is) [ inl here ↦ elim (or_cases (other == id) false here) [ inl there ↦ there | inr never ↦ absurd (false≢true never) ] | inr never ↦ absurd (false≢true never) ]
+  -- an option says what its notice does
+  option_notes : (notice : OwnNotice) → is_said word (notice_option notice e.modes) || false ≡ true → is_note word notice ≡ true
+  option_notes (OwnNotice.Removes id) is = either_way (removes word id) (either_way (removes word id || false) is)
+  option_notes (OwnNotice.Prio backup) is = either_way (ranks word) is
   option_notes _ is = absurd (false≢true is)
 
-  first_notes : (queue : List OwnNotice) → takes_back_in id (noted_said c s (first_of queue) e) ≡ true → is_queued id queue ≡ true
-  first_notes [] is = absurd (both_ways (takes_back_in id (noted_said c s None e)) (ack_none None) is)
-  first_notes (notice ∷ queue) is = ap (λ b. b || is_queued id queue) (option_notes notice is)
+  first_notes : (queue : List OwnNotice) → is_said_in word (noted_said c s (first_of queue) e) ≡ true → is_queued word queue ≡ true
+  first_notes [] is = absurd (both_ways (is_said_in word (noted_said c s None e)) (ack_none None) is)
+  first_notes (notice ∷ queue) is = ap (λ b. b || is_queued word queue) (option_notes notice is)
 
-  none_is : (segment : PlainSegment) → SaysNone segment → takes_back_in id segment ≡ true → is_noted id e ≡ true
-  none_is segment none is = absurd (both_ways (takes_back_in id segment) none is)
+  none_is : (segment : PlainSegment) → SaysNone segment → is_said_in word segment ≡ true → is_noted word e ≡ true
+  none_is segment none is = absurd (both_ways (is_said_in word segment) none is)
 
   -- ---- what each duty sends
 
-  plain_says : takes_back_in id (ack_said c s e.tcp.send.nxt None e) ≡ true → is_noted id e ≡ true
+  plain_says : is_said_in word (ack_said c s e.tcp.send.nxt None e) ≡ true → is_noted word e ≡ true
   plain_says = none_is (ack_said c s e.tcp.send.nxt None e) (ack_none None)
 
-  fin_says : takes_back_in id (fin_said c e) ≡ true → is_noted id e ≡ true
+  fin_says : is_said_in word (fin_said c e) ≡ true → is_noted word e ≡ true
   fin_says = none_is (fin_said c e) (fin_none (fin_position e.tcp.send))
 
-  unsent_says : (o : Option Record) → takes_back_in id (record_or_ack c s o e) ≡ true → is_noted id e ≡ true
+  unsent_says : (o : Option Record) → is_said_in word (record_or_ack c s o e) ≡ true → is_noted word e ≡ true
   unsent_says o = none_is (record_or_ack c s o e) (record_says o)
 
-  reset_says : (reason : Option ℕ) → takes_back_in id (reset_said c reason e) ≡ true → is_noted id e ≡ true
+  reset_says : (reason : Option ℕ) → is_said_in word (reset_said c reason e) ≡ true → is_noted word e ≡ true
   reset_says reason = none_is (reset_said c reason e) (either_none e.modes.identity [] (broken_options e.treated.failed_mapping reason) refl (broken_none e.treated.failed_mapping reason))
 
-  syn_ack_says : takes_back_in id (syn_ack_said c s e) ≡ true → is_noted id e ≡ true
+  syn_ack_says : is_said_in word (syn_ack_said c s e) ≡ true → is_noted word e ≡ true
   syn_ack_says = none_is (syn_ack_said c s e) syn_none
 
-  answer_says : takes_back_in id (answer_said c s e) ≡ true → is_noted id e ≡ true
+  answer_says : is_said_in word (answer_said c s e) ≡ true → is_noted word e ≡ true
   answer_says = none_is (answer_said c s e) (either_says e.tcp.due.syn_ack (syn_ack_said c s e) (ack_said c s e.tcp.send.nxt None e) syn_none (ack_none None))
 
-  resend_says : takes_back_in id (resend_said c s e) ≡ true → is_noted id e ≡ true
+  resend_says : is_said_in word (resend_said c s e) ≡ true → is_noted word e ≡ true
   resend_says = none_is (resend_said c s e) (either_says (has_records e.tcp) (record_or_ack c s (first_record e) e) (ack_resent c s e) (record_says (first_record e)) resent_says)
 
-  data_fin_says : takes_back_in id (ack_said c s e.tcp.send.nxt e.sending.known_end e) ≡ true → is_noted id e ≡ true
+  data_fin_says : is_said_in word (ack_said c s e.tcp.send.nxt e.sending.known_end e) ≡ true → is_noted word e ≡ true
   data_fin_says = none_is (ack_said c s e.tcp.send.nxt e.sending.known_end e) (ack_none e.sending.known_end)
 
-  fast_close_says : takes_back_in id (carried_said c s e.notices.carrier e) ≡ true → is_noted id e ≡ true
+  fast_close_says : is_said_in word (carried_said c s e.notices.carrier e) ≡ true → is_noted word e ≡ true
   fast_close_says = none_is (carried_said c s e.notices.carrier e) (carried_says e.notices.carrier)
 
 either_some : {X : Type 0} (P : X → Type 0) (b : Bool) (x y : Option X) → IfSome x P → IfSome y P → IfSome (if b then x else y) P
 either_some P true x y g h = g
 either_some P false x y g h = h
 
-module _ {C : Type 0} (id : ℕ) (p : PathState C) where
-  broken_noted : (s : Side) (reason : ℕ) → IfSome (broken_by s reason p) (λ t. takes_back_in id (segment_sent p t) ≡ true → is_noted id (end_at t.from p) ≡ true)
-  broken_noted s reason = either_some _ (end_at s p).treated.asked None _ tt (reset_says id p.profile s (end_at s p) (Some reason))
+module _ {C : Type 0} (word : Word) (p : PathState C) where
+  broken_noted : (s : Side) (reason : ℕ) → IfSome (broken_by s reason p) (λ t. is_said_in word (segment_sent p t) ≡ true → is_noted word (end_at t.from p) ≡ true)
+  broken_noted s reason = either_some _ (end_at s p).treated.asked None _ tt (reset_says word p.profile s (end_at s p) (Some reason))
 
-  item_noted : (s : Side) (o : Option Heard) → IfSome (heard_sends s o p) (λ t. takes_back_in id (segment_sent p t) ≡ true → is_noted id (end_at t.from p) ≡ true)
+  item_noted : (s : Side) (o : Option Heard) → IfSome (heard_sends s o p) (λ t. is_said_in word (segment_sent p t) ≡ true → is_noted word (end_at t.from p) ≡ true)
   item_noted s (Some (Heard.Mapping fin)) = either_some _ (is_clash (end_at s p)) (broken_by s 1 p) None (broken_noted s 1) tt
   item_noted s _ = tt
 
-  unsent_noted : (s : Side) (o : Option Record) → IfSome (unsent_sends s o) (λ t. takes_back_in id (segment_sent p t) ≡ true → is_noted id (end_at t.from p) ≡ true)
+  unsent_noted : (s : Side) (o : Option Record) → IfSome (unsent_sends s o) (λ t. is_said_in word (segment_sent p t) ≡ true → is_noted word (end_at t.from p) ≡ true)
   unsent_noted s None = tt
-  unsent_noted s (Some r) = unsent_says id p.profile s (end_at s p) (first_unsent (end_at s p))
+  unsent_noted s (Some r) = unsent_says word p.profile s (end_at s p) (first_unsent (end_at s p))
 
-  step_noted : (d : StepDuty) → IfSome (step_sends d p) (λ t. takes_back_in id (segment_sent p t) ≡ true → is_noted id (end_at t.from p) ≡ true)
+  step_noted : (d : StepDuty) → IfSome (step_sends d p) (λ t. is_said_in word (segment_sent p t) ≡ true → is_noted word (end_at t.from p) ≡ true)
   step_noted (StepDuty.Data s) = unsent_noted s (first_unsent (end_at s p))
   step_noted (StepDuty.Heard s index) = item_noted s (item_of index (end_at s p))
   step_noted (StepDuty.PlainAck s) = either_some _ (breaks_by_ack p.profile (end_at s p)) (broken_by s 6 p) None (broken_noted s 6) tt
   step_noted (StepDuty.Unmapped s) = broken_noted s 6
   step_noted _ = tt
 
-  send_noted : (d : SendDuty) → IfSome (send_of d) (λ t. takes_back_in id (segment_sent p t) ≡ true → is_noted id (end_at t.from p) ≡ true)
-  send_noted (SendDuty.Update s) = plain_says id p.profile s (end_at s p)
-  send_noted (SendDuty.Acknowledge s) = plain_says id p.profile s (end_at s p)
-  send_noted (SendDuty.Syn s) = unsent_says id p.profile s (end_at s p) (first_unsent (end_at s p))
-  send_noted (SendDuty.FastClose s) = fast_close_says id p.profile s (end_at s p)
-  send_noted (SendDuty.Notice s) = first_notes id p.profile s (end_at s p) (end_at s p).notices.queue
-  send_noted (SendDuty.DataFin s) = data_fin_says id p.profile s (end_at s p)
-  send_noted (SendDuty.Fin s) = fin_says id p.profile s (end_at s p)
-  send_noted (SendDuty.SynAck s) = syn_ack_says id p.profile s (end_at s p)
+  send_noted : (d : SendDuty) → IfSome (send_of d) (λ t. is_said_in word (segment_sent p t) ≡ true → is_noted word (end_at t.from p) ≡ true)
+  send_noted (SendDuty.Update s) = plain_says word p.profile s (end_at s p)
+  send_noted (SendDuty.Acknowledge s) = plain_says word p.profile s (end_at s p)
+  send_noted (SendDuty.Syn s) = unsent_says word p.profile s (end_at s p) (first_unsent (end_at s p))
+  send_noted (SendDuty.FastClose s) = fast_close_says word p.profile s (end_at s p)
+  send_noted (SendDuty.Notice s) = first_notes word p.profile s (end_at s p) (end_at s p).notices.queue
+  send_noted (SendDuty.DataFin s) = data_fin_says word p.profile s (end_at s p)
+  send_noted (SendDuty.Fin s) = fin_says word p.profile s (end_at s p)
+  send_noted (SendDuty.SynAck s) = syn_ack_says word p.profile s (end_at s p)
   send_noted (SendDuty.Refuse s) = λ is. absurd (false≢true is)
-  send_noted (SendDuty.Again s) = unsent_says id p.profile s (end_at s p) (first_record (end_at s p))
-  send_noted (SendDuty.Answer s) = answer_says id p.profile s (end_at s p)
+  send_noted (SendDuty.Again s) = unsent_says word p.profile s (end_at s p) (first_record (end_at s p))
+  send_noted (SendDuty.Answer s) = answer_says word p.profile s (end_at s p)
   send_noted (SendDuty.ResetAnswer s) = λ is. absurd (false≢true is)
-  send_noted (SendDuty.Resend s) = resend_says id p.profile s (end_at s p)
-  send_noted (SendDuty.BreakReset s reason) = reset_says id p.profile s (end_at s p) (Some reason)
-  send_noted (SendDuty.Reset s) = reset_says id p.profile s (end_at s p) None
-  send_noted (SendDuty.ResetNoted s) = reset_says id p.profile s (end_at s p) None
+  send_noted (SendDuty.Resend s) = resend_says word p.profile s (end_at s p)
+  send_noted (SendDuty.BreakReset s reason) = reset_says word p.profile s (end_at s p) (Some reason)
+  send_noted (SendDuty.Reset s) = reset_says word p.profile s (end_at s p) None
+  send_noted (SendDuty.ResetNoted s) = reset_says word p.profile s (end_at s p) None
 
-  -- where the first duty sends an announcement, it stands in what the end has to note
-  pub first_noted : (ds : List Duty) → IfSome (first_sends ds p) (λ t. takes_back_in id (segment_sent p t) ≡ true → is_noted id (end_at t.from p) ≡ true)
+  -- where the first duty sends a segment that says it, it stands in what the end has to note
+  pub first_noted : (ds : List Duty) → IfSome (first_sends ds p) (λ t. is_said_in word (segment_sent p t) ≡ true → is_noted word (end_at t.from p) ≡ true)
   first_noted [] = tt
   first_noted (Duty.Send d ∷ ds) = send_noted d
   first_noted (Duty.Step d ∷ ds) = step_noted d
   first_noted (Duty.Ask d ∷ ds) = tt
   first_noted (Duty.Silent d ∷ ds) = tt
   first_noted (Duty.End ∷ ds) = tt
+
+pub priorities_are_noted : {C : Type 0} (p : PathState C) → PrioritiesAreNoted p
+priorities_are_noted p ds = by (first_sends ds p) (first_noted Word.priority p ds)
+  where
+    by : (o : Option ToSend) → IfSome o (λ t. is_said_in Word.priority (segment_sent p t) ≡ true → is_noted Word.priority (end_at t.from p) ≡ true)
+        → IfSome o (λ t. says_priority_in (segment_sent p t) ≡ true → has_priority (end_at t.from p) ≡ true)
+    by None h = tt
+    by (Some t) h = λ is. sym (same_queue (end_at t.from p).notices.queue) ∙ h (same_options (segment_sent p t).options ∙ is)

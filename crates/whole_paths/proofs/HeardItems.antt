@@ -1,10 +1,9 @@
--- What an end has to treat of a copy stays what the copy said that came last, or is forgotten; and what of it takes an address back.
-use Rattle.path_agenda.specs.declared.notice.PeerNotice.{PeerNotice}
+-- What an end has to treat of a copy stays what the copy said that came last, or is forgotten.
 use Rattle.path_core.specs.Treated.{Treated}
-use Rattle.world_laws.specs.Writes.{copy_said}
-use Rattle.world_laws.proofs.Writes.Steps.{Lasts}
+use Rattle.world_laws.specs.Writes.{copy_said, Writes, OnlyAt, EndView, writes, side_of}
+use Rattle.world_laws.proofs.Writes.Steps.{Lasts, both_ends, unwritten}
 use Rattle.whole_paths.proofs.Pieces.{is_event}
-use Rattle.std.proofs.Common.{◌≡◌, refl, sym, ◌∙◌, ap, subst, ℕ, ◌==◌, Bool, true, false, if◌then◌else◌, Option, Some, None, List, []}
+use Rattle.std.proofs.Common.{◌≡◌, refl, sym, ◌∙◌, ap, subst, ℕ, Bool, true, false, if◌then◌else◌, Option, Some, None, List, []}
 use Rattle.std.proofs.lemmas.Bool.{false≢true}
 use Rattle.std.specs.List.{list_any}
 use Rattle.sides.specs.declared.side.Side.{Side}
@@ -35,20 +34,11 @@ use Rattle.path_core.specs.DssIn.{is_clash, counts}
 use Rattle.path_core.specs.Treating.{answered_heard, answered_item, item_of, item_passed, heard_passed}
 use Rattle.path_core.specs.Fallback.{breaks_by_ack}
 use Rattle.path_core.specs.Addresses.{with_priority, having_noted, after_peer_notice}
-use Rattle.world_laws.specs.Writes.{Writes, OnlyAt, EndView, writes, side_of}
 use Rattle.path_core.specs.declared.events.Event.{Event}
 use Rattle.world_laws.proofs.Falls.FailedChecks.{infinite_came_so, fail_answered_so}
 use Rattle.world_laws.proofs.Writes.Paths.{writes_no_more}
-use Rattle.world_laws.proofs.Writes.Steps.{both_ends, unwritten}
 
 -- ---- an end
-
-abbrev pub is_note : ℕ → Heard → Bool
-is_note id (Heard.Notice (PeerNotice.Removed other)) = other == id
-is_note id _ = false
-
-abbrev pub is_queued : ℕ → List Heard → Bool
-is_queued id items = list_any (is_note id) items
 
 -- nothing of any kind is new
 abbrev pub EndSheds : PathEnd → PathEnd → Type 0
