@@ -1,5 +1,5 @@
 -- Where in a round a path asked for bytes on standby, its side's book told it so in that round, for another path that lived then and is no backup.
-use Rattle.std.proofs.Common.{◌≡◌, refl, sym, subst, ap, ◌∙◌, ◌⊎◌, inl, inr, ⊎_elim, ℕ, ◌+◌, arith, Bool, true, false, true≢false, if◌then◌else◌, Option, Some, List, [], ◌∷◌, ◌++◌, append_assoc, drop, length, set}
+use Rattle.std.proofs.Common.{◌≡◌, refl, sym, subst, ap, ◌∙◌, ◌⊎◌, inl, inr, ⊎_elim, ℕ, ◌+◌, arith, Bool, true, false, true≢false, if◌then◌else◌, Option, Some, List, [], ◌∷◌, ◌++◌, append_assoc, drop, length, set, map}
 use Rattle.std.specs.List.{list_any, slice_get}
 use Rattle.std.proofs.Math.Seq.{drop-append_seam}
 use Rattle.std.proofs.lemmas.Bool.{both_ways, cases_eq, or_parts}
@@ -10,6 +10,7 @@ use Rattle.sides.specs.declared.side.Side.TheVariants.{A, B}
 use Rattle.control_book.specs.declared.call.ControlCall.TheVariants as control_calls
 use Rattle.control_book.specs.Registry.{standby}
 use Rattle.stream_lanes.proofs.Lists.{set_other, set_same}
+use Rattle.subflow_tcp.specs.States.{is_dead}
 use Rattle.actor_desk.specs.Books.{books_in}
 use Rattle.actor_desk.specs.Desk.{SixBooks, control_of, reply_of}
 use Rattle.actor_desk.specs.declared.ask.Ask.{Ask}
@@ -38,10 +39,14 @@ use Rattle.world_laws.proofs.Asks.SendBooks.{last_more}
 use Rattle.world_laws.proofs.Standby.LooksAlone.{takes_stands}
 use Rattle.whole_paths.specs.Finish.{IsPathAt}
 use Rattle.whole_paths.specs.StandbyPaths.{IsServedBeside, control_in}
-use Rattle.whole_paths.specs.StandbyRounds.{WasServedBeside, WhoStoodByWasServed}
+use Rattle.whole_paths.specs.News.{ActorCounts}
+use Rattle.whole_paths.specs.News.{Counts as counting}
+use Rattle.whole_paths.specs.StandbyRounds.{WaitsForAnother, WasServedBeside, WhoStoodByWaits, WhoStoodByWasServed}
+use Rattle.whole_paths.specs.StandbyRounds.{WaitsForAnother as waits}
 use Rattle.whole_paths.proofs.Holding.{IsNamed}
 use Rattle.whole_paths.proofs.LivingPaths.{Known, always_known, known_asked}
 use Rattle.whole_paths.proofs.LooksFirst.{IsToLook, NoneLooks, answered_none, asks_as_it_stands, asks_no_look, begins_looks, look_next, looker_asks_none, looks_on, settled_looks, settled_none}
+use Rattle.whole_paths.proofs.News.{each_news_counts}
 use Rattle.whole_paths.proofs.Refused.{first_there, steps_so}
 use Rattle.whole_paths.proofs.RoundLives.{LivedFirst, Since, StaysPast, begins_so, past_asked, since_asked, since_begun}
 use Rattle.whole_paths.proofs.StandbyPaths.{standby_served}
@@ -289,3 +294,16 @@ who_stood_by_was_served {C = C} k start since order begins number p here s stood
 
         now : StaysPast k s other w
         now = subst (StaysPast k s other) t.there (steps_so k (StaysPast k s other) (λ u h actor c x at asking. past_asked k s other u actor c x at h) t.later v (record { path = t.beside.path; here = t.beside.here; past = t.beside.living.past }))
+
+pub who_stood_by_waits : {C : Type 0} (k : Codec C) → WhoStoodByWaits k
+who_stood_by_waits {C = C} k start since order begins number p here s stood = by (is_dead (end_at s t.path).tcp.state) refl
+  where
+    t : WasServedBeside k s number (reached k start since) (after_steps k order (reached k start since))
+    t = who_stood_by_was_served k start since order begins number p here s stood
+
+    by : (b : Bool) → is_dead (end_at s t.path).tcp.state ≡ b → WaitsForAnother k start s number (reached k start since) (after_steps k order (reached k start since))
+    by false alive = waits.lives t alive
+    by true dead = waits.counts (each_news_counts k start since (map (λ actor. Turn.Step actor) order) (2 + t.beside.other) t.was.crew t.here.crew t.was.there t.here.there died)
+      where
+        died : ActorCounts t.was.crew.member t.here.crew.member
+        died = subst (λ (m : Actor C). ActorCounts m t.here.crew.member) (sym t.was.is) (subst (λ (m : Actor C). ActorCounts (Path t.first) m) (sym t.here.is) (counting.dies s t.lived dead))

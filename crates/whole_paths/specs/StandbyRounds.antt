@@ -1,5 +1,5 @@
 -- Where in a round a path asked for bytes on standby, another one lived in that round that is no backup (RFC 8684, section 3.3.8).
-use Rattle.std.specs.Prelude.{ℕ, ◌+◌, ◌≡◌, ◌≤◌, true, false, List}
+use Rattle.std.specs.Prelude.{ℕ, ◌+◌, ◌≡◌, ◌<◌, ◌≤◌, true, false, List}
 use Rattle.sides.specs.declared.side.Side.{Side}
 use Rattle.subflow_tcp.specs.States.{is_dead}
 use Rattle.path_core.specs.Codec.{Codec}
@@ -10,6 +10,7 @@ use Rattle.world_laws.specs.RoundNumbers.{BeginsRound, after_steps, last_on_stan
 use Rattle.world_laws.specs.Worlds.{Turn, WorldState}
 use Rattle.whole_paths.specs.AsFar.{stage}
 use Rattle.whole_paths.specs.Finish.{IsPathAt}
+use Rattle.whole_paths.specs.News.{news}
 use Rattle.whole_paths.specs.StandbyPaths.{IsServedBeside}
 
 module _ {C : Type 0} (k : Codec C) where
@@ -31,3 +32,12 @@ module _ {C : Type 0} (k : Codec C) where
   abbrev pub WhoStoodByWasServed : Type 0
   WhoStoodByWasServed = (start : Start) (since : List Turn) (order : List ℕ) → let begun = reached k start since in BeginsRound k start begun → let w = after_steps k order begun in
       (number : ℕ) (p : PathState C) → IsPathAt number w p → (s : Side) → last_on_standby s false (steps_since (2 + number) begun w) ≡ true → WasServedBeside s number begun w
+
+  -- That path lives still, or it died in the round, and something became of the connection.
+  pub data WaitsForAnother (start : Start) (s : Side) (number : ℕ) (begun w : WorldState C) : Type 0 where
+    lives : (t : WasServedBeside s number begun w) → is_dead (end_at s t.path).tcp.state ≡ false → WaitsForAnother start s number begun w
+    counts : news start begun < news start w → WaitsForAnother start s number begun w
+
+  abbrev pub WhoStoodByWaits : Type 0
+  WhoStoodByWaits = (start : Start) (since : List Turn) (order : List ℕ) → let begun = reached k start since in BeginsRound k start begun → let w = after_steps k order begun in
+      (number : ℕ) (p : PathState C) → IsPathAt number w p → (s : Side) → last_on_standby s false (steps_since (2 + number) begun w) ≡ true → WaitsForAnother start s number begun w

@@ -13,7 +13,7 @@ ghost use Rattle.whole_paths.specs.HolderWaits.{HoldersLetGo};
 ghost use Rattle.whole_paths.specs.Holders.{HoldersLive, WhatIsTriedIsAwaited};
 ghost use Rattle.whole_paths.specs.LivingPaths.{LivingPathsLive};
 ghost use Rattle.whole_paths.specs.StandbyPaths.{StandbyIsForAnother};
-ghost use Rattle.whole_paths.specs.StandbyRounds.{WhoStoodByWasServed};
+ghost use Rattle.whole_paths.specs.StandbyRounds.{WhoStoodByWaits, WhoStoodByWasServed};
 ghost use Rattle.whole_paths.specs.ManyGoingOn.{PathsGoOn};
 ghost use Rattle.whole_paths.specs.MissingBytes.{WhatIsMissingIsAwaited};
 ghost use Rattle.whole_paths.specs.Priorities.{BackupsAreSaid, PrioritiesComeByLines, WhoSaysAPriorityNotesIt};
@@ -56,9 +56,18 @@ pub fn standby_is_for_another()
 {}
 
 /// A law: where a path asked for bytes on standby in a round, there was such another path at a moment of that round.
+///
+/// That one's end of the side lived as the round began, and is past the handshake now.
 pub fn who_stood_by_was_served()
     ensures octets { WhoStoodByWasServed octets }
     ensures values { WhoStoodByWasServed values }
+{}
+
+/// A law: where a path asked for bytes on standby in a round, another path lives on that was no backup at a moment of it; or that one died in the round,
+/// which counts as news of the connection.
+pub fn who_stood_by_waits()
+    ensures octets { WhoStoodByWaits octets }
+    ensures values { WhoStoodByWaits values }
 {}
 
 /// A law: a path gives back no byte twice: how many bytes are acknowledged, or were tried by it and are held no longer, never falls by any turns, and is

@@ -148,6 +148,7 @@ pub use holder_laws::who_heard_of_no_backup_tells_none;
 pub use holder_laws::who_is_no_backup_serves;
 pub use holder_laws::who_says_a_priority_notes_it;
 pub use holder_laws::who_serves_asks_so;
+pub use holder_laws::who_stood_by_waits;
 pub use holder_laws::who_stood_by_was_served;
 pub use laws::a_copy_leaves_by_arriving;
 pub use laws::clear_ends_are_past;
