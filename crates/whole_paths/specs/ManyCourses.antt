@@ -1,13 +1,13 @@
 -- What a mild connection over any number of paths waits for while one of them is open and doesn't stand by: all of both streams is there in the end.
 use Rattle.std.specs.Prelude.{ℕ, suc, ◌+◌, ◌*◌, ◌^◌, ◌-◌, ◌≡◌, ◌<◌, ◌≤◌, false, List, ◌++◌, length}
 use Rattle.sides.specs.declared.side.Side.{Side}
-use Rattle.path_core.specs.Values.{Carried, values}
+use Rattle.path_core.specs.Values.{values}
 use Rattle.world_laws.specs.declared.outcome.Outcome.TheVariants.{Delivered}
 use Rattle.world_laws.specs.Openings.{Start}
 use Rattle.world_laws.specs.Outcomes.{outcome_of}
 use Rattle.world_laws.specs.RoundDone.{reached}
 use Rattle.world_laws.specs.RoundNumbers.{last_on_standby, steps_since}
-use Rattle.world_laws.specs.Worlds.{Turn, WorldState, AreLawful}
+use Rattle.world_laws.specs.Worlds.{Turn, AreLawful}
 use Rattle.whole_paths.specs.CountedCourses.{harms_at}
 use Rattle.whole_paths.specs.Delivery.{AllIsThere}
 use Rattle.whole_paths.specs.Finish.{IsWhole, rounds_in}
