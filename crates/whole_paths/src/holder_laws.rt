@@ -20,7 +20,7 @@ ghost use Rattle.whole_paths.specs.Priorities.{BackupsAreSaid, PrioritiesComeByL
 ghost use Rattle.whole_paths.specs.Refusals.{WhoAsksIsRefused};
 ghost use Rattle.whole_paths.specs.RegularPaths.{RegularPathsDeliver};
 ghost use Rattle.whole_paths.specs.ReturnWaits.{AllNewsIsBounded, ReturnsAreAwaitedAlways};
-ghost use Rattle.whole_paths.specs.Serving.{WhoServesAsksSo};
+ghost use Rattle.whole_paths.specs.Serving.{WhoServesAsksSo, WhoServesSinceAsksSo};
 
 /// A law: a byte that a path tried and that isn't acknowledged stands in a piece that the path's end waits for, whatever the links do, over any number of
 /// paths (RFC 8684, section 3.3.6).
@@ -164,10 +164,13 @@ pub fn paths_go_on()
 
 /// A law: a path whose ends stand by at no moment never asks for bytes on standby, over any number of paths (RFC 8684, section 3.3.8).
 ///
-/// So it isn't refused as a backup. `many_paths_bring_all` asks for no more of path 0.
+/// So it isn't refused as a backup. The same holds since any moment from which on its ends stand by at none (`since`), whatever they did before:
+/// `each_path_takes_over` asks for no more.
 pub fn who_serves_asks_so()
     ensures values { WhoServesAsksSo values }
     ensures octets { WhoServesAsksSo octets }
+    ensures since { WhoServesSinceAsksSo values }
+    ensures since_octets { WhoServesSinceAsksSo octets }
 {}
 
 /// A law: a path that told no side that it is a backup stood by at neither end, at no moment, over any number of paths (RFC 8684, section 3.3.8).
