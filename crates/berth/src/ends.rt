@@ -13,11 +13,11 @@ use std::sync::{Arc, Wait};
 pub struct Giver<W: Drop, D: Deed<W>> {
     berth: Berth<W, D>,
     seat: BerthSeat<W>,
-    // How many jobs were taken back since the worker last did one.
+    // How many jobs were taken back since the worker last did one, and that one.
     recalled: u32,
 }
 
-// A worker is woken for each 256th job in a row that was taken back; one that is awake takes what is there.
+// A worker is woken for its first job, and for each 256th in a row that it left; one that is awake takes what is there.
 const SELDOM: u32 = 256;
 
 impl<W: Drop, D: Deed<W>> Model for Giver<W, D> {
@@ -82,7 +82,7 @@ impl<W: Drop, D: Deed<W>> Giver<W, D> {
 
     // The worker is woken seldom: a turn is shorter than to wake it, and who gives it waits for it or makes it.
     fn wake(&self) {
-        if self.recalled % SELDOM == SELDOM - 1 {
+        if self.recalled % SELDOM == 0 {
             self.berth.wake();
         }
     }
@@ -111,7 +111,7 @@ impl<W: Drop, D: Deed<W>> Giver<W, D> {
         ensures rests { self.new ≡ None }
     {
         self.berth.wait_until_done(rt, &mut self.seat);
-        self.recalled = 0;
+        self.recalled = 1;
         self.berth.take_back(&mut self.seat)
     }
 

@@ -1,7 +1,9 @@
 -- Data ACKs of a segment, one after the other.
-use Rattle.std.proofs.Common.{◌≡◌, refl, ap, ◌∙◌, sym, ℕ, ◌≤◌, Bool, true, false, nat_lt, if◌then◌else◌, Option, Some, None, Result, Ok, Err, List, [], ◌∷◌, ◌++◌, arith, true≢false}
+use Rattle.std.proofs.Common.{◌≡◌, refl, ap, ◌∙◌, sym, ℕ, ◌≤◌, Bool, true, false, ◌||◌, nat_lt, if◌then◌else◌, Option, Some, None, Result, Ok, Err, List, [], ◌∷◌, ◌++◌, arith, true≢false}
 use Rattle.std.proofs.lemmas.Bool.Decides.{nat_tests}
 use Rattle.std.proofs.lemmas.List.{append-nil, append_assoc}
+use Rattle.std.proofs.lemmas.List.Folds.{list_any-append}
+use Rattle.std.specs.List.{list_any}
 use Rattle.sides.specs.declared.side.Side.{Side}
 use Rattle.sides.specs.declared.side.Side.TheVariants.{A, B}
 use Rattle.sides.specs.Side.{peer}
@@ -16,7 +18,7 @@ use Rattle.judge_rules.specs.declared.finding.Finding.TheVariants.{Falls, NotSee
 use Rattle.judge_rules.specs.declared.finding.Rule.TheVariants as rule
 use Rattle.judge_rules.specs.declared.finding.Verdict.{Verdict}
 use Rattle.judge_rules.specs.declared.finding.Verdict.TheVariants as verdict
-use Rattle.judge_rules.specs.Acks.{ack_by, ack_place, behind_fin, judged_ack, not_below}
+use Rattle.judge_rules.specs.Acks.{ack_by, ack_place, judged_ack, most_seen, not_below}
 use Rattle.judge_rules.specs.Numbers.{place_near}
 use Rattle.seen_connections.specs.declared.connections.Keys.{Keys}
 use Rattle.seen_connections.specs.Connections.{key_of}
@@ -25,8 +27,8 @@ use Rattle.seen_streams.specs.State.{Found, StreamValue}
 use Rattle.seen_streams.specs.Acks.{Acked, ack_counted, ack_facts, acked_by, acked_with}
 use Rattle.rule_book.specs.Facts.{Facts}
 use Rattle.rule_book.specs.Signals.{KeyedValue, judged_in, kept_option, keyed_by, keyed_each, keyed_one, keyed_seen, with_a}
-use Rattle.rule_book.specs.Stream.{acked_each, acked_one, behind_acks, failed_each}
-use Rattle.judge_laws.specs.Acknowledges.{WasSeen}
+use Rattle.rule_book.specs.Stream.{acked_each, acked_one, behind_acks, closes_fast, failed_each}
+use Rattle.judge_laws.specs.Acknowledges.{WasSeen, shows_fast_close}
 use Rattle.judge_laws.specs.GoesOn.{broke}
 use Rattle.judge_laws.proofs.Going.{acked_each_goes, failed_each_goes}
 use Rattle.judge_laws.proofs.Shown.{kept_before, told_there}
@@ -41,17 +43,17 @@ not_below_is (Some after) place r h = by (nat_lt place after) h
     by true e = cc
     by false e = cc
 
-ack_is : (facts : AckFacts) (place r : ℕ) → judged_ack facts place ≡ Ok r → (place ≡ r) × (place ≤ behind_fin facts.fin facts.whole)
-ack_is facts place r h = by (nat_lt (behind_fin facts.fin facts.whole) place) refl h
+ack_is : (facts : AckFacts) (place r : ℕ) → judged_ack facts place ≡ Ok r → (place ≡ r) × (place ≤ most_seen facts)
+ack_is facts place r h = by (nat_lt (most_seen facts) place) refl h
   where
-    by : (b : Bool) → nat_lt (behind_fin facts.fin facts.whole) place ≡ b
-        → (if b then Err (NotSeen place (behind_fin facts.fin facts.whole)) else not_below facts.highest place) ≡ Ok r
-        → (place ≡ r) × (place ≤ behind_fin facts.fin facts.whole)
+    by : (b : Bool) → nat_lt (most_seen facts) place ≡ b
+        → (if b then Err (NotSeen place (most_seen facts)) else not_below facts.highest place) ≡ Ok r
+        → (place ≡ r) × (place ≤ most_seen facts)
     by true e k = cc
     by false e k = (not_below_is facts.highest place r k, grind (arith, nat_tests, e))
 
 ack_seen : (facts : AckFacts) (number : DataNumber) (near : Option ℕ) (r : ℕ) → ack_by facts number near ≡ Ok r
-    → (place : ℕ) × (near ≡ Some place) × (place ≤ behind_fin facts.fin facts.whole)
+    → (place : ℕ) × (near ≡ Some place) × (place ≤ most_seen facts)
 ack_seen facts number None r h = cc
 ack_seen facts number (Some place) r h = (place, refl, (ack_is facts place r h).1)
 
@@ -62,23 +64,23 @@ kept_ok (Err finding) packet acked kept =
     absurd (true≢false (sym (told_there (record { rule = rule.DataAck; packet = packet; fault = Found finding }) acked.stream.broken) ∙ kept))
 
 seen_by : (facts : Facts) (first : ℕ) (peers : StreamValue) (number : DataNumber) (acked : Acked)
-    → broke rule.DataAck (acked_with facts.at_sender facts.packet first peers number acked).stream ≡ false → WasSeen peers first number
+    → broke rule.DataAck (acked_with facts.at_sender facts.plain facts.packet first peers number acked).stream ≡ false → WasSeen peers facts.plain first number
 seen_by facts first peers number acked kept =
-    let ok = kept_ok (ack_place (ack_facts facts.at_sender first peers acked.lane) number) facts.packet (ack_counted acked) kept in
-    let is = ack_seen (ack_facts facts.at_sender first peers acked.lane) number (place_near first peers.top number) ok.0 ok.1 in
+    let ok = kept_ok (ack_place (ack_facts facts.at_sender facts.plain first peers acked.lane) number) facts.packet (ack_counted acked) kept in
+    let is = ack_seen (ack_facts facts.at_sender facts.plain first peers acked.lane) number (place_near first peers.top number) ok.0 ok.1 in
     record { place = is.0; means = is.1; seen = is.2 }
 
 each_seen : (facts : Facts) (first : ℕ) (peers : StreamValue) (number : DataNumber) (mapping : Option DssMap) (fin : Bool) (before after : List OptionValue) (acked : Acked)
-    → broke rule.DataAck (acked_each facts first peers (before ++ Dss (Some number) mapping fin ∷ after) acked).stream ≡ false → WasSeen peers first number
+    → broke rule.DataAck (acked_each facts first peers (before ++ Dss (Some number) mapping fin ∷ after) acked).stream ≡ false → WasSeen peers facts.plain first number
 each_seen facts first peers number mapping fin [] after acked kept =
-    let next = acked_with facts.at_sender facts.packet first peers number acked in
+    let next = acked_with facts.at_sender facts.plain facts.packet first peers number acked in
     seen_by facts first peers number acked
     (kept_before next.stream (acked_each facts first peers after next).stream rule.DataAck (acked_each_goes facts first peers after next) kept)
 each_seen facts first peers number mapping fin (option ∷ before) after acked kept =
     each_seen facts first peers number mapping fin before after (acked_one facts first peers option acked) kept
 
 pub acks_seen : (facts : Facts) (first : ℕ) (peers : StreamValue) (number : DataNumber) (mapping : Option DssMap) (fin : Bool) (before after : List OptionValue) (acked : Acked)
-    → broke rule.DataAck (behind_acks facts (Some first) peers (before ++ Dss (Some number) mapping fin ∷ after) acked).stream ≡ false → WasSeen peers first number
+    → broke rule.DataAck (behind_acks facts (Some first) peers (before ++ Dss (Some number) mapping fin ∷ after) acked).stream ≡ false → WasSeen peers facts.plain first number
 acks_seen facts first peers number mapping fin before after acked kept =
     let options = before ++ Dss (Some number) mapping fin ∷ after in
     let all = acked_each facts first peers options acked in
@@ -142,3 +144,40 @@ seen_key facts (Formless octets) state = refl
 pub each_key : (facts : Facts) (options : List SeenValue) (state : KeyedValue) → key_of (peer facts.side) (keyed_each facts options state).keys ≡ key_of (peer facts.side) state.keys
 each_key facts [] state = refl
 each_key facts (option ∷ options) state = each_key facts options (keyed_seen facts option state) ∙ seen_key facts option state
+
+-- ---- an MP_FASTCLOSE stays
+
+or_false : (b : Bool) → (b || false) ≡ b
+or_false true = refl
+or_false false = refl
+
+or_again : (a b c : Bool) → ((a || b) || c) ≡ (a || (b || c))
+or_again true b c = refl
+or_again false b c = refl
+
+by_fast : (v : Verdict) (facts : Facts) (flag_a flag_c : Bool) (keys : CapableKeys) (state : KeyedValue)
+    → list_any closes_fast (keyed_by v facts (Capable flag_a flag_c keys) keys state).options ≡ list_any closes_fast state.options
+by_fast verdict.PassedOver facts flag_a flag_c keys state = refl
+by_fast verdict.Kept facts flag_a flag_c keys state =
+    list_any-append closes_fast state.options (Capable flag_a flag_c keys ∷ []) ∙ or_false (list_any closes_fast state.options)
+by_fast (verdict.Broke finding) facts flag_a flag_c keys state = refl
+
+one_fast : (facts : Facts) (option : OptionValue) (state : KeyedValue)
+    → list_any closes_fast (keyed_one facts option state).options ≡ (list_any closes_fast state.options || closes_fast option)
+one_fast facts (Capable flag_a flag_c keys) state =
+    by_fast (judged_in facts.flow.opening facts.side state.keys keys) facts flag_a flag_c keys state ∙ sym (or_false (list_any closes_fast state.options))
+one_fast facts option state =
+    list_any-append closes_fast state.options (option ∷ []) ∙ ap (λ (b : Bool). list_any closes_fast state.options || b) (or_false (closes_fast option))
+
+seen_fast : (facts : Facts) (option : SeenValue) (state : KeyedValue)
+    → list_any closes_fast (keyed_seen facts option state).options ≡ (list_any closes_fast state.options || shows_fast_close option)
+seen_fast facts (Readable option) state = one_fast facts option state
+seen_fast facts (Formless octets) state = sym (or_false (list_any closes_fast state.options))
+
+pub each_fast : (facts : Facts) (options : List SeenValue) (state : KeyedValue)
+    → list_any closes_fast (keyed_each facts options state).options ≡ (list_any closes_fast state.options || list_any shows_fast_close options)
+each_fast facts [] state = sym (or_false (list_any closes_fast state.options))
+each_fast facts (option ∷ options) state =
+    each_fast facts options (keyed_seen facts option state)
+    ∙ ap (λ (b : Bool). b || list_any shows_fast_close options) (seen_fast facts option state)
+    ∙ or_again (list_any closes_fast state.options) (shows_fast_close option) (list_any shows_fast_close options)

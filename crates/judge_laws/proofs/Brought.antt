@@ -22,17 +22,17 @@ use Rattle.seen_streams.specs.Acks.{Acked}
 use Rattle.seen_streams.specs.Content.{is_between}
 use Rattle.seen_streams.specs.Positions.{position_of}
 use Rattle.seen_streams.specs.State.{LaneValue, StreamValue, place_of}
-use Rattle.rule_book.specs.Facts.{Facts, first_of, own_base, own_lane, payload_at}
+use Rattle.rule_book.specs.Facts.{Facts, first_of, own_base, own_lane, payload_at, peers_lane}
 use Rattle.rule_book.specs.Signals.{KeyedValue, judged_options, keyed_each, told_formless}
 use Rattle.rule_book.specs.State.{BookValue, JudgedValue, LanesValue, stream_at, with_stream}
-use Rattle.rule_book.specs.Stream.{Left, gap_counted, judged_at, judged_by, judged_from}
+use Rattle.rule_book.specs.Stream.{Left, gap_counted, judged_at, judged_by, judged_from, plain_beside, plain_on, with_plain}
 use Rattle.rule_book.specs.Judged.{Told, judged, judged_belonging, judged_flow, judged_formed, judged_in_flow, judged_known, judged_opened, judged_place, judged_side, opened_facts, grown, put_back}
-use Rattle.judge_laws.specs.Acknowledges.{Acknowledges, WasSeen}
+use Rattle.judge_laws.specs.Acknowledges.{Acknowledges, WasSeen, plain_for}
 use Rattle.judge_laws.specs.Brings.{Brings, IsOf, ready_for, taken_by}
 use Rattle.judge_laws.specs.GoesOn.{broke, stream_in}
 use Rattle.judge_laws.specs.Laws.{has_octet}
 use Rattle.judge_laws.specs.Tells.{IsMeant, KeepsMappings, Tells}
-use Rattle.judge_laws.proofs.Acknowledged.{each_key, option_stays}
+use Rattle.judge_laws.proofs.Acknowledged.{each_fast, each_key, option_stays}
 use Rattle.judge_laws.proofs.Books.{own_stream, peers_stream, set_there}
 use Rattle.judge_laws.proofs.Flows.{KeyStays, key_flows, told_stay}
 use Rattle.judge_laws.proofs.Keyed.{keys_told}
@@ -60,7 +60,7 @@ module _ (facts : Facts) (position : ℕ) (options : List SeenValue) (keys : Key
   before = record left { book = with_stream facts.side made.stream left.book }
 
   abbrev acked : Acked
-  acked = judged_at facts position made.options made.keys (stream_at (peer facts.side) before.book) (stream_at facts.side before.book) (own_lane facts before.lanes)
+  acked = judged_at (with_plain made.options before facts) position made.options made.keys (stream_at (peer facts.side) before.book) (stream_at facts.side before.book) (own_lane facts before.lanes)
 
   abbrev told : Told
   told = record { left = judged_by facts position made.options made.keys before; keys = made.keys }
@@ -85,17 +85,18 @@ module _ (facts : Facts) (position : ℕ) (options : List SeenValue) (keys : Key
       let lane : own_lane facts told.left.lanes ≡ acked.lane = lane_there facts.is_opener acked.lane (gap_counted facts before).lanes in
       let peers : stream_at (peer facts.side) before.book ≡ stream_at (peer facts.side) left.book = peers_stream facts.side made.stream left.book in
       ap (λ (s : StreamValue). option_map (λ o. o.octet) (s.octet place)) own
-      ∙ at_shows facts position made.options made.keys (stream_at (peer facts.side) before.book) (stream_at facts.side before.book) (own_lane facts before.lanes)
+      ∙ at_shows (with_plain made.options before facts) position made.options made.keys (stream_at (peer facts.side) before.book) (stream_at facts.side before.book) (own_lane facts before.lanes)
       p place octet (ap (broke rule.PlaceContent) (sym own) ∙ kept) within held (ap (λ (l : LaneValue). place_of l p) (sym lane) ∙ placed)
       (subst (λ (s : StreamValue). s.acknowledged ≤ place) (sym peers) few)
 
   told_acks : (known : ℕ) (number : DataNumber) (mapping : Option DssMap) (fin : Bool) (front back : List OptionValue)
       → first_of (peer facts.side) made.keys ≡ Some known → made.options ≡ front ++ Dss (Some number) mapping fin ∷ back
-      → broke rule.DataAck (stream_at facts.side told.left.book) ≡ false → WasSeen (stream_at (peer facts.side) left.book) known number
+      → broke rule.DataAck (stream_at facts.side told.left.book) ≡ false
+      → WasSeen (stream_at (peer facts.side) left.book) (plain_beside made.options facts.flow.opening (stream_at (peer facts.side) left.book) (peers_lane facts left.lanes)) known number
   told_acks known number mapping fin front back key among kept =
       let own : stream_at facts.side told.left.book ≡ acked.stream = own_stream facts.side acked.stream (gap_counted facts before).book in
-      subst (λ (s : StreamValue). WasSeen s known number) (peers_stream facts.side made.stream left.book)
-      (at_acks facts position made.options made.keys (stream_at (peer facts.side) before.book) (stream_at facts.side before.book) (own_lane facts before.lanes)
+      subst (λ (s : StreamValue). WasSeen s (plain_beside made.options facts.flow.opening s (peers_lane facts left.lanes)) known number) (peers_stream facts.side made.stream left.book)
+      (at_acks (with_plain made.options before facts) position made.options made.keys (stream_at (peer facts.side) before.book) (stream_at facts.side before.book) (own_lane facts before.lanes)
       known number mapping fin front back key among (ap (broke rule.DataAck) (sym own) ∙ kept))
 
   told_learns : (known : ℕ) (ack : Option DataNumber) (mapping : DssMap) (fin : Bool) (front back : List OptionValue) → first_of facts.side made.keys ≡ Some known
@@ -105,7 +106,7 @@ module _ (facts : Facts) (position : ℕ) (options : List SeenValue) (keys : Key
   told_learns known ack mapping fin front back key among finite checksum kept =
       let own : stream_at facts.side told.left.book ≡ acked.stream = own_stream facts.side acked.stream (gap_counted facts before).book in
       let lane : own_lane facts told.left.lanes ≡ acked.lane = lane_there facts.is_opener acked.lane (gap_counted facts before).lanes in
-      let is = at_tells facts position made.options made.keys (stream_at (peer facts.side) before.book) (stream_at facts.side before.book) (own_lane facts before.lanes)
+      let is = at_tells (with_plain made.options before facts) position made.options made.keys (stream_at (peer facts.side) before.book) (stream_at facts.side before.book) (own_lane facts before.lanes)
       known ack mapping fin front back key among finite checksum (subst KeepsMappings own kept) in
       (is.0, is.1, ap (λ (l : LaneValue). l.summed is.0) lane ∙ is.2)
 
@@ -187,16 +188,20 @@ module _ (at : Option Side) (check_sums : Bool) (state : JudgedValue) (packet : 
 
   pub segment_acks : (number : DataNumber) (stream : StreamValue) → stream_in (judged at check_sums state packet seen) connection side ≡ Some stream
       → broke rule.DataAck stream ≡ false → (ack : Acknowledges at check_sums state packet seen connection side it number)
-      → WasSeen (stream_at (peer side) it.book) ack.first number
+      → WasSeen (stream_at (peer side) it.book) (plain_for it.keys.checksums seen it.flow.opening (stream_at (peer side) it.book) (peers_lane it.facts it.lanes)) ack.first number
   segment_acks number stream there kept ack =
       let same : stream_at side left_told.left.book ≡ stream = some_same (stream_at side left_told.left.book) stream (sym stream_is ∙ there) in
       let start = first known it.position options_of it.keys formed in
       let stays = option_stays known ack.before (Some number) ack.mapping ack.fin ack.after start in
-      subst (λ (s : StreamValue). WasSeen s ack.first number) (peers_stream side (told_formless packet options_of (stream_at side it.book)) it.book)
+      subst (λ (f : Facts). WasSeen (stream_at (peer side) it.book) (plain_for it.keys.checksums seen it.flow.opening (stream_at (peer side) it.book) (peers_lane f it.lanes)) ack.first number) it.has_facts
+      (subst (λ (b : Bool). WasSeen (stream_at (peer side) it.book) (if b then plain_on it.flow.opening (stream_at (peer side) it.book) (peers_lane known it.lanes) else 0) ack.first number)
+      (each_fast known options_of start)
+      (subst (λ (s : StreamValue). WasSeen s (plain_beside (keyed_each known options_of start).options it.flow.opening s (peers_lane known it.lanes)) ack.first number)
+      (peers_stream side (told_formless packet options_of (stream_at side it.book)) it.book)
       (told_acks known it.position options_of it.keys formed ack.first number ack.mapping ack.fin stays.0 stays.1
       (ap (option_map first_number) (each_key known options_of start) ∙ ack.has_first)
       (ap (λ (os : List SeenValue). (keyed_each known os start).options) ack.among ∙ stays.2)
-      (ap (broke rule.DataAck) same ∙ kept))
+      (ap (broke rule.DataAck) same ∙ kept))))
 
   pub segment_tells : (mapping : DssMap) (fin : Bool) (stream : StreamValue) → stream_in (judged at check_sums state packet seen) connection side ≡ Some stream
       → KeepsMappings stream → (t : Tells at check_sums state packet seen connection side it mapping fin)

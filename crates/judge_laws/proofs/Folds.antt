@@ -283,7 +283,7 @@ module _ {Q : StreamValue → LaneValue → Type 0} (keep : AcksKeep Q) where
       → Q (acked_one facts known peers option acked).stream (acked_one facts known peers option acked).lane
   acked_one_so facts known peers (Dss (Some number) mapping fin) acked h =
       let s = acked.stream in
-      acked_by_so (ack_place (ack_facts facts.at_sender known peers acked.lane) number) facts.packet (ack_counted acked)
+      acked_by_so (ack_place (ack_facts facts.at_sender facts.plain known peers acked.lane) number) facts.packet (ack_counted acked)
       ((keep.telling acked.lane).counts s s.keys s.joins s.mappings s.sums (counted s.data_acks) h)
   acked_one_so facts known peers option acked h = h
 

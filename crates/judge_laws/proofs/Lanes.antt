@@ -28,7 +28,7 @@ use Rattle.rule_book.specs.Facts.{Facts, first_of, own_base, own_lane}
 use Rattle.rule_book.specs.Judged.{Told, empty_lanes, grown, judged, judged_belonging, judged_flow, judged_formed, judged_in_flow, judged_known, judged_place, opened_facts, put_back, side_of, with_wrong_token}
 use Rattle.rule_book.specs.Signals.{KeyedValue, judged_options, told_formless}
 use Rattle.rule_book.specs.State.{BookValue, JudgedValue, LanesValue, stream_at, with_stream}
-use Rattle.rule_book.specs.Stream.{Left, judged_at, judged_from, judged_positions}
+use Rattle.rule_book.specs.Stream.{Left, judged_at, judged_from, judged_positions, with_plain}
 use Rattle.capture_verdict.specs.Judging.{judged_if_seen, judged_packets}
 use Rattle.judge_laws.proofs.Books.{grown_stays, set_either}
 use Rattle.judge_laws.proofs.Flows.{FlowsGo, flows_same, key_flows, taken_flows}
@@ -94,8 +94,8 @@ from_lanes facts (Some position) options keys left =
     let lane = own_lane facts left.lanes in
     let peers = stream_at (peer facts.side) left.book in
     let stream = stream_at facts.side left.book in
-    one_goes facts.is_opener (judged_at facts position options keys peers stream lane).lane left.lanes
-    (at_so facts position options keys peers stream lane (steps (first_of facts.side keys) lane) (lane_same lane))
+    one_goes facts.is_opener (judged_at (with_plain options left facts) position options keys peers stream lane).lane left.lanes
+    (at_so (with_plain options left facts) position options keys peers stream lane (steps (first_of facts.side keys) lane) (lane_same lane))
 
 positions_lanes : (facts : Facts) (options : List OptionValue) (keys : Keys) (left : Left) → BothGo left.lanes (judged_positions facts options keys left).lanes
 positions_lanes facts options keys left =

@@ -8,10 +8,11 @@ use Rattle.capture_reader.specs.Seen.{Seen, segment_in_packet}
 use Rattle.judge_rules.specs.declared.finding.Rule.TheVariants as rule
 use Rattle.seen_streams.specs.State.{StreamValue}
 use Rattle.rule_book.specs.Judged.{judged, nothing_judged}
+use Rattle.rule_book.specs.Facts.{peers_lane}
 use Rattle.rule_book.specs.State.{JudgedValue, stream_at}
 use Rattle.capture_verdict.specs.Judging.{judged_if_seen, judged_packets}
 use Rattle.capture_verdict.specs.Sent.{IsSent}
-use Rattle.judge_laws.specs.Acknowledges.{WasSeen}
+use Rattle.judge_laws.specs.Acknowledges.{WasSeen, plain_for}
 use Rattle.judge_laws.specs.Brings.{IsOf}
 use Rattle.judge_laws.specs.GoesOn.{GoesOn, StreamsGoOn, broke, stream_in}
 use Rattle.judge_laws.specs.Behind.{judged_first}
@@ -92,7 +93,7 @@ brought_stays at check_sums packets connection side place octet b stream there k
 pub acked_was_seen : (at : Option Side) (check_sums : Bool) (packets : List Captured) (connection : ℕ) (side : Side) (number : DataNumber)
     (a : IsAcknowledged at check_sums packets connection side number) (stream : StreamValue)
     → stream_in (judged_first at check_sums packets) connection side ≡ Some stream → broke rule.DataAck stream ≡ false
-    → WasSeen (stream_at (peer side) a.it.book) a.acknowledges.first number
+    → WasSeen (stream_at (peer side) a.it.book) (plain_for a.it.keys.checksums a.seen a.it.flow.opening (stream_at (peer side) a.it.book) (peers_lane a.it.facts a.it.lanes)) a.acknowledges.first number
 acked_was_seen at check_sums packets connection side number a stream there kept =
     let s = stream_behind at check_sums packets connection side a.before a.packet a.after a.seen a.among a.has_segment a.it stream there in
     segment_acks at check_sums (judged_first at check_sums a.before) (1 + length a.before) a.seen connection side a.it number s.0 s.1

@@ -73,7 +73,7 @@ acked_by_places (Ok place) packet acked p = refl
 acked_one_places : (facts : Facts) (first : ℕ) (peers : StreamValue) (option : OptionValue) (acked : Acked) (p : ℕ)
     → place_of (acked_one facts first peers option acked).lane p ≡ place_of acked.lane p
 acked_one_places facts first peers (Dss (Some number) mapping fin) acked p =
-    acked_by_places (ack_place (ack_facts facts.at_sender first peers acked.lane) number) facts.packet (ack_counted acked) p
+    acked_by_places (ack_place (ack_facts facts.at_sender facts.plain first peers acked.lane) number) facts.packet (ack_counted acked) p
 acked_one_places facts first peers option acked p = refl
 
 acked_places : (facts : Facts) (first : ℕ) (peers : StreamValue) (options : List OptionValue) (acked : Acked) (p : ℕ)
@@ -183,7 +183,7 @@ module _ (facts : Facts) (position : ℕ) (options : List OptionValue) (keys : K
   -- a Data ACK among the options
   pub at_acks : (first : ℕ) (number : DataNumber) (mapping : Option DssMap) (fin : Bool) (front back : List OptionValue)
       → first_of (peer facts.side) keys ≡ Some first → options ≡ front ++ Dss (Some number) mapping fin ∷ back → broke rule.DataAck last.stream ≡ false
-      → WasSeen peers first number
+      → WasSeen peers facts.plain first number
   at_acks first number mapping fin front back known among kept =
       acks_seen facts first peers number mapping fin front back tried
       (ap (broke rule.DataAck) (sym (ap (λ (f : Option ℕ). (behind_acks facts f peers options tried).stream) known

@@ -23,7 +23,7 @@ use Rattle.rule_book.specs.Facts.{Facts, first_of, own_base, own_lane, peers_lan
 use Rattle.rule_book.specs.Judged.{empty_book, empty_lanes, grown, grown_to, judged_opened, token_in, token_told, with_wrong_token}
 use Rattle.rule_book.specs.Signals.{KeyedValue, judged_options}
 use Rattle.rule_book.specs.State.{BookValue, JudgedValue, LanesValue, stream_at, with_stream}
-use Rattle.rule_book.specs.Stream.{Left, gap_counted, judged_at, judged_by, judged_from, judged_positions}
+use Rattle.rule_book.specs.Stream.{Left, gap_counted, judged_at, judged_by, judged_from, judged_positions, with_plain}
 use Rattle.judge_laws.specs.GoesOn.{GoesOn}
 use Rattle.judge_laws.proofs.Books.{BookGoes, BooksGo, books_grown, own_stream, peers_stream}
 use Rattle.judge_laws.proofs.Flows.{FlowsGo, KeyStays, KeysGo, flows_same, keys_same, told_stay}
@@ -287,13 +287,13 @@ module _ {Q : Option ℕ → StreamValue → LaneValue → Type 0} (stands : Sta
       theirs = first_of (peer facts.side) keys
 
       acked : Acked
-      acked = judged_at facts position options keys (stream_at (peer facts.side) left.book) (stream_at facts.side left.book) (own_lane facts left.lanes)
+      acked = judged_at (with_plain options left facts) position options keys (stream_at (peer facts.side) left.book) (stream_at facts.side left.book) (own_lane facts left.lanes)
 
       counted : BookValue
       counted = (gap_counted facts left).book
 
       there : Q mine acked.stream acked.lane
-      there = stands.at facts position options keys (stream_at (peer facts.side) left.book) (stream_at facts.side left.book) (own_lane facts left.lanes) sided.own
+      there = stands.at (with_plain options left facts) position options keys (stream_at (peer facts.side) left.book) (stream_at facts.side left.book) (own_lane facts left.lanes) sided.own
 
   from_sided : (facts : Facts) (position : Option ℕ) (options : List OptionValue) (keys : Keys) (left : Left) → Sided facts keys left
       → Sided facts keys (judged_from facts position options keys left)

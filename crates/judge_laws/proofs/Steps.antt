@@ -20,7 +20,7 @@ use Rattle.seen_streams.specs.Positions.{position_of}
 use Rattle.rule_book.specs.Facts.{Facts, own_base, own_lane}
 use Rattle.rule_book.specs.Signals.{KeyedValue, judged_options, told_formless}
 use Rattle.rule_book.specs.State.{BookValue, JudgedValue, LanesValue, stream_at, with_stream}
-use Rattle.rule_book.specs.Stream.{Left, gap_counted, judged_at, judged_by, judged_from, judged_positions}
+use Rattle.rule_book.specs.Stream.{Left, gap_counted, judged_at, judged_by, judged_from, judged_positions, with_plain}
 use Rattle.rule_book.specs.Judged.{empty_book, grown, judged, judged_belonging, judged_by_flow, judged_flow, judged_formed, judged_in_flow, judged_known, judged_opened, judged_place, judged_taken, opened_facts, side_of, token_in, token_told, with_wrong_token}
 use Rattle.judge_laws.proofs.GoesOn.{goes_tell}
 use Rattle.judge_laws.proofs.Going.{options_go, told_formless_goes}
@@ -31,9 +31,9 @@ use Rattle.judge_laws.proofs.Books.{BookGoes, BooksGo, book_same, book_then, boo
 
 by_goes : (facts : Facts) (position : ℕ) (options : List OptionValue) (keys : Keys) (left : Left) → BookGoes left.book (judged_by facts position options keys left).book
 by_goes facts position options keys left =
-    counted_goes facts.side (judged_at facts position options keys (stream_at (peer facts.side) left.book) (stream_at facts.side left.book) (own_lane facts left.lanes)).stream
+    counted_goes facts.side (judged_at (with_plain options left facts) position options keys (stream_at (peer facts.side) left.book) (stream_at facts.side left.book) (own_lane facts left.lanes)).stream
     (gap_counted facts left).book.gaps left.book
-    (at_goes facts position options keys (stream_at (peer facts.side) left.book) (stream_at facts.side left.book) (own_lane facts left.lanes))
+    (at_goes (with_plain options left facts) position options keys (stream_at (peer facts.side) left.book) (stream_at facts.side left.book) (own_lane facts left.lanes))
 
 from_goes : (facts : Facts) (position : Option ℕ) (options : List OptionValue) (keys : Keys) (left : Left)
     → BookGoes left.book (judged_from facts position options keys left).book

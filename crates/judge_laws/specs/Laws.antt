@@ -12,9 +12,10 @@ use Rattle.judge_rules.specs.declared.finding.Rule.TheVariants as rule
 use Rattle.seen_streams.specs.declared.told.ToldMapping.{ToldMapping}
 use Rattle.seen_streams.specs.State.{StreamValue}
 use Rattle.rule_book.specs.Judged.{judged}
+use Rattle.rule_book.specs.Facts.{peers_lane}
 use Rattle.rule_book.specs.State.{JudgedValue, stream_at}
 use Rattle.capture_verdict.specs.Sent.{IsSent}
-use Rattle.judge_laws.specs.Acknowledges.{Acknowledges, WasSeen}
+use Rattle.judge_laws.specs.Acknowledges.{Acknowledges, WasSeen, plain_for}
 use Rattle.judge_laws.specs.Behind.{judged_first}
 use Rattle.judge_laws.specs.Brings.{Brings, IsOf}
 use Rattle.judge_laws.specs.Ends.{EndsAt}
@@ -122,9 +123,11 @@ pub record IsAcknowledged (at : Option Side) (check_sums : Bool) (packets : List
   pub it : IsOf at check_sums (judged_first at check_sums before) (1 + length before) seen connection side
   pub acknowledges : Acknowledges at check_sums (judged_first at check_sums before) (1 + length before) seen connection side it number
 
--- what the other side had sent by then
+-- what the other side had sent by then, with mappings or in plain TCP
 abbrev pub KeptSidesAcknowledgeWhatWasSeen : Type 0
 KeptSidesAcknowledgeWhatWasSeen = (at : Option Side) (check_sums : Bool) (packets : List Captured) (connection : ℕ) (side : Side) (stream : StreamValue)
     → stream_in (judged_first at check_sums packets) connection side ≡ Some stream → broke rule.DataAck stream ≡ false
     → (number : DataNumber) (a : IsAcknowledged at check_sums packets connection side number)
-    → WasSeen (stream_at (peer side) a.it.book) a.acknowledges.first number
+    → WasSeen (stream_at (peer side) a.it.book)
+    (plain_for a.it.keys.checksums a.seen a.it.flow.opening (stream_at (peer side) a.it.book) (peers_lane a.it.facts a.it.lanes))
+    a.acknowledges.first number

@@ -21,8 +21,9 @@ pub fn kept_sides_sent_one_stream()
     ensures written { WrittenStreamsAreTheirs }
 {}
 
-/// A law: a side that hasn't broken `data-ack` never acknowledged more than the capture had shown of the other side's stream by then: each of
-/// its Data ACKs means a place below which all places were seen, or the one behind the DATA_FIN there (RFC 8684, section 3.3.2).
+/// A law: a side that hasn't broken `data-ack` never acknowledged more than the capture had shown of the other side's stream by then. Each of
+/// its Data ACKs means a place below which all places were seen, or the one behind the DATA_FIN there (RFC 8684, section 3.3.2), or beside
+/// MP_FASTCLOSE a place below which the first subflow brought all as plain TCP, without a mapping of the first that wasn't seen (section 3.7).
 pub fn kept_sides_acknowledge_what_was_seen()
     ensures { KeptSidesAcknowledgeWhatWasSeen }
 {}

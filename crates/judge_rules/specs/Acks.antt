@@ -1,5 +1,5 @@
--- The rule on Data ACKs (RFC 8684, sections 3.3.2 and 3.3.3).
-use Rattle.std.specs.Prelude.{ℕ, ◌+◌, ◌==◌, nat_lt, if◌then◌else◌, Option, Some, None, Result, Ok, Err}
+-- The rule on Data ACKs (RFC 8684, sections 3.3.2, 3.3.3 and 3.7).
+use Rattle.std.specs.Prelude.{ℕ, ◌+◌, ◌==◌, max, nat_lt, if◌then◌else◌, Option, Some, None, Result, Ok, Err}
 use Rattle.mptcp_options.specs.declared.dss.DataNumber.{DataNumber}
 use Rattle.judge_rules.specs.declared.acks.AckFacts.{AckFacts}
 use Rattle.judge_rules.specs.declared.acks.ToldPlace.{ToldPlace}
@@ -12,6 +12,10 @@ abbrev pub behind_fin : Option ToldPlace → ℕ → ℕ
 behind_fin None whole = whole
 behind_fin (Some told) whole = if told.place == whole then whole + 1 else whole
 
+-- the most that may be acknowledged: behind what was seen, or behind what came in plain TCP
+abbrev pub most_seen : AckFacts → ℕ
+most_seen facts = max (behind_fin facts.fin facts.whole) facts.plain
+
 -- a place that isn't below the highest one before
 abbrev pub not_below : Option ℕ → ℕ → Result ℕ Finding
 not_below None place = Ok place
@@ -20,7 +24,7 @@ not_below (Some after) place = if nat_lt place after then Err (Falls place after
 -- no more than was seen is acknowledged
 abbrev pub judged_ack : AckFacts → ℕ → Result ℕ Finding
 judged_ack facts place =
-    if nat_lt (behind_fin facts.fin facts.whole) place then Err (NotSeen place (behind_fin facts.fin facts.whole))
+    if nat_lt (most_seen facts) place then Err (NotSeen place (most_seen facts))
     else not_below facts.highest place
 
 -- by the place, if the number means one

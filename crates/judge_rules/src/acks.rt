@@ -1,7 +1,7 @@
 //! The rule on Data ACKs.
 
 ghost use Rattle.std.specs.Prelude.{◌≡◌, ◌^◌, ◌<◌};
-ghost use Rattle.judge_rules.specs.Acks.{ack_place, behind_fin, judged_ack};
+ghost use Rattle.judge_rules.specs.Acks.{ack_place, behind_fin, judged_ack, most_seen};
 
 use crate::finding::Finding;
 use crate::numbers::{place_near, told_number};
@@ -25,6 +25,8 @@ pub struct AckFacts {
     pub whole: u64,
     /// Where the stream ends, if that was told.
     pub fin: Option<ToldPlace>,
+    /// In plain TCP all places below this one came, without mappings. It is 0 where no place did.
+    pub plain: u64,
     /// The highest one before on its subflow, where the capture was taken at its sender.
     pub highest: Option<u64>,
 }
@@ -48,7 +50,7 @@ fn judged_ack(facts: &AckFacts, place: u64) -> Result<u64, Finding>
     requires { facts.now.whole < 2 ^ 63 }
     ensures { result ≡ judged_ack facts.now place }
 {
-    let most = behind_fin(facts.fin, facts.whole);
+    let most = most_seen(facts);
     if place > most {
         return Err(Finding::NotSeen { place, most });
     }
@@ -56,6 +58,14 @@ fn judged_ack(facts: &AckFacts, place: u64) -> Result<u64, Finding>
         Some(after) if place < after => Err(Finding::Falls { place, after }),
         _ => Ok(place),
     }
+}
+
+// The most that may be acknowledged: behind what was seen, or behind what came in plain TCP (section 3.7).
+fn most_seen(facts: &AckFacts) -> u64
+    requires { facts.now.whole < 2 ^ 63 }
+    ensures { result ≡ most_seen facts.now }
+{
+    behind_fin(facts.fin, facts.whole).max(facts.plain)
 }
 
 // The DATA_FIN is acknowledged as an octet, once all before it was seen (section 3.3.3).

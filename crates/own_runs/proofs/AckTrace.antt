@@ -446,6 +446,7 @@ module _ (start : Start) (last : Duo) (fit : NumbersFit start) where
       hold_next =
           segment_so (drawn start) (OpensBy MoreS) (GoodSeen most MoreS MoreX Shown Ended) (GoodBook most MoreS MoreX Shown Ended) (GoodLanes most MoreS MoreX Shown Ended)
           (keep (drawn start) (file_len start) (few start last fit) (content start) (where_in last) most MoreS (λ n t. MoreX n t → ⊥) Shown Ended) at n seen good_seen state new_book only_now ready
+          (λ wrong held path index flow there opener c book at_book lanes at_lanes. tt)
 
       tokens_next : TokensHeld (drawn start) BookUntold (U 0 ⊎ V) (T 0 ⊎ W) next
       tokens_next =

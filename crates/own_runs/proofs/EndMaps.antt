@@ -1,6 +1,6 @@
 -- What an end maps, by what it shows on its lanes: each mapping gives its positions the places that they have on the lanes of the last moment, within its
 -- side's file, and its checksum is that of the octets of these places. So is what it knows of the end of its stream.
-use Rattle.std.proofs.Common.{◌≡◌, refl, sym, ap, ◌∙◌, subst, ℕ, ◌+◌, ◌-◌, ◌≤◌, Bool, true, false, if◌then◌else◌, Option, Some, None, [], length, length-append, take, drop, arith}
+use Rattle.std.proofs.Common.{◌≡◌, refl, sym, ap, ◌∙◌, subst, ℕ, suc, ◌+◌, ◌-◌, ◌≤◌, Bool, true, false, if◌then◌else◌, Option, Some, None, [], length, length-append, take, drop, arith}
 use Rattle.std.specs.Option.{IfSome}
 use Rattle.std.specs.List.{slice_get}
 use Rattle.actor_desk.specs.Words.{pick}
@@ -51,22 +51,23 @@ abbrev pub place_at : Option Lane → ℕ → ℕ
 place_at None p = 0
 place_at (Some l) p = place_on l p
 
--- a mapping that was told on such a lane, with the number of place 0
+-- how many positions it has
+abbrev pub upto_of : Option Lane → ℕ
+upto_of None = 0
+upto_of (Some l) = length l.sent
+
+-- a mapping that was told on such a lane, with the number of place 0: its octets are the lane's
 abbrev pub MappedOn : (ℕ → ℕ) → ℕ → Option Lane → PathMapping ℕ → Type 0
 MappedOn octet first lane (Bytes place position len fin checksum) =
     Sit (place_at lane) position place len
     × IfSome checksum (λ sum. sum ≡ dss_checksum (header first place (relative_number position) len) (contents (λ p. octet (place_at lane p)) position len))
+    × (1 ≤ position) × (position + len ≤ suc (upto_of lane))
 MappedOn octet first lane (End place checksum) = IfSome checksum (λ sum. sum ≡ dss_checksum (header first place 0 1) [])
 MappedOn octet first lane (Infinite place position) = Unit {0}
 
 module _ (start : Start) (last : Duo) (path : ℕ) where
   abbrev pub IsMapped : Side → PathMapping ℕ → Type 0
   IsMapped s mapping = MappedOn (content start s) (first_number (own_key (drawn start) s)) (lane_of last path s) mapping
-
--- how many positions it has
-abbrev pub upto_of : Option Lane → ℕ
-upto_of None = 0
-upto_of (Some l) = length l.sent
 
 -- its FIN stands at this position
 abbrev pub FinOn : Option Lane → ℕ → Type 0
@@ -79,8 +80,9 @@ LineOn lane limit place position =
     (1 ≤ position) × ((p : ℕ) → position ≤ p → p ≤ upto_of lane → place_at lane p ≡ place + (p - position))
     × ((p : ℕ) → FinOn lane p → position ≤ p → place + (p - position) ≡ limit)
 
-abbrev pub LineAt : Start → Duo → ℕ → Side → ℕ → ℕ → Type 0
-LineAt start last path s place position = LineOn (lane_of last path s) (file_len start s) place position
+-- of which so much is known, too, by the lanes of the last moment
+abbrev pub LineAt : Start → (Duo → ℕ → Side → ℕ → ℕ → Type 0) → Duo → ℕ → Side → ℕ → ℕ → Type 0
+LineAt start Told last path s place position = LineOn (lane_of last path s) (file_len start s) place position × Told last path s place position
 
 -- ---- an end of a path
 
@@ -118,8 +120,12 @@ module _ (start : Start) (last : Duo) (n : ℕ) (plan : PathPlan) (s : Side) (e 
   told_so : (place position len checksum : ℕ) → HasMapping out.datas place position len → IsSummed c s out.sent place position len checksum
       → IsMapped start last n s (Bytes place position len false (checksum_told c checksum))
   told_so place position len checksum has is =
-      subst (λ (o : Option Lane). MappedOn (content start s) first o (Bytes place position len false (checksum_told c checksum))) (sym later_there)
-      (sits view n out later hold longer place position len has, sum_so place position len checksum (let at_one = has.holds.is.position_is in omega (arith, at_one)) is)
+      subst (λ (o : Option Lane). MappedOn (content start s) first o (Bytes place position len false (checksum_told c checksum))) (sym later_there) (
+        sits view n out later hold longer place position len has,
+        sum_so place position len checksum (let at_one = has.holds.is.position_is in omega (arith, at_one)) is,
+        (let at_one = has.holds.is.position_is in omega (arith, at_one)),
+        (let within = is.within in let more = ap length longer.is in let at_one = has.holds.is.position_is in omega (arith, within, more, at_one, length-append out.sent longer.more)),
+      )
 
   -- and of the DATA_FIN
   pub end_told : (place : ℕ) → IsMapped start last n s (End place (checksum_told c (checksum_in c (bare_mapping c s place 0 1) [])))

@@ -8,6 +8,7 @@ use Rattle.path_core.specs.Octets.{octets}
 use Rattle.path_core.specs.State.{PathState, path_of}
 use Rattle.path_segments.specs.Options.{PlainOption, mapping_ends_stream}
 use Rattle.path_segments.specs.Spelled.{PlainSegment}
+use Rattle.path_segments.specs.declared.segment.PathMapping.TheVariants.{Infinite}
 use Rattle.path_segments.specs.declared.segment.PathOption.TheVariants.{Dss}
 use Rattle.sides.specs.declared.side.Side.TheVariants.{A, B}
 use Rattle.sides.specs.declared.side.Side.{Side}
@@ -53,6 +54,14 @@ SynsPath x sg n = (x.path ≡ n) × (x.from ≡ B) × (sg.syn ≡ true)
 
 abbrev pub ResetsPath : Sent → PlainSegment → ℕ → Side → Type 0
 ResetsPath x sg n s = (x.path ≡ n) × (x.from ≡ s) × (sg.rst ≡ true)
+
+-- an infinite mapping (RFC 8684, section 3.7)
+abbrev pub tells_line : PlainOption → Bool
+tells_line (Dss next (Some (Infinite place position))) = true
+tells_line _ = false
+
+abbrev pub LinesPath : Sent → PlainSegment → ℕ → Side → Type 0
+LinesPath x sg n s = (x.path ≡ n) × (x.from ≡ s) × (list_any tells_line sg.options ≡ true)
 
 -- of a side's on a path, where so much was sent before it: A's SYNs, B's answers, A's key, and resets behind a SYN of B's
 pub record InTime (U T : ℕ → Type 0) (K : Type 0) (X : ℕ → Side → Type 0) (path : ℕ) (s : Side) (sg : PlainSegment) : Type 0 where
@@ -112,6 +121,9 @@ ResetsAt n s y = (y.path ≡ n) × (y.from ≡ s) × (y.segment.rst ≡ true)
 
 abbrev pub SynsAt : ℕ → Sending → Type 0
 SynsAt n y = (y.path ≡ n) × (y.from ≡ B) × (y.segment.syn ≡ true)
+
+abbrev pub TellsLineAt : ℕ → Side → Sending → Type 0
+TellsLineAt n s y = (y.path ≡ n) × (y.from ≡ s) × (list_any tells_line y.segment.options ≡ true)
 
 -- one of the turns sent a reset of a side's on a path, not before a SYN of B's there
 pub record WasReset (start : Start) (n : ℕ) (s : Side) (before : List Turn) : Type 0 where

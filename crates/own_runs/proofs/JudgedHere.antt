@@ -22,7 +22,7 @@ use Rattle.rule_book.specs.Facts.{Facts, first_of, own_base, own_lane, payload_a
 use Rattle.rule_book.specs.Judged.{Told, empty_book, empty_lanes, grown, judged, judged_belonging, judged_flow, judged_formed, judged_in_flow, judged_known, judged_opened, judged_place, judged_side, judged_taken, opened_facts, put_back, with_key}
 use Rattle.rule_book.specs.Signals.{KeyedValue, judged_options, told_formless}
 use Rattle.rule_book.specs.State.{BookValue, JudgedValue, LanesValue, stream_at, with_stream}
-use Rattle.rule_book.specs.Stream.{Left, gap_counted, judged_at, judged_from}
+use Rattle.rule_book.specs.Stream.{Left, gap_counted, judged_at, judged_from, with_plain}
 use Rattle.segment_wire.specs.Options.{option_octets}
 use Rattle.seen_connections.specs.Asked.{first_answer}
 use Rattle.seen_connections.specs.Connections.{SeenFlows, Taken, answer_of, answered, begins, begun_with, flow_after, followed_by, gone_on, is_again_of, key_of, taken}
@@ -259,7 +259,7 @@ module _ (d : Drawn) (limit : Side → ℕ) (few : (s : Side) → limit s < 2 ^ 
   before = record { book = with_stream own.from made.stream (with_stream own.from (stream_at own.from j.book) j.book); lanes = j.lanes }
 
   abbrev acked : Acked
-  acked = judged_at facts g.fine.at made.options made.keys (stream_at (peer own.from) before.book) (stream_at own.from before.book) (own_lane facts j.lanes)
+  acked = judged_at (with_plain made.options before facts) g.fine.at made.options made.keys (stream_at (peer own.from) before.book) (stream_at own.from before.book) (own_lane facts j.lanes)
 
   abbrev told : Told
   told = judged_opened facts (map Readable own.values) j.keys (record { book = with_stream own.from (stream_at own.from j.book) j.book; lanes = j.lanes })
@@ -380,7 +380,7 @@ module _ (d : Drawn) (limit : Side → ℕ) (few : (s : Side) → limit s < 2 ^ 
           → stream_in (judged at true state packet seen) 0 own.from ≡ Some stream → stream.seen (where_at own.path own.from p) ≡ true
       seen_here p covered some low high stream there =
           subst (λ (s : StreamValue). s.seen (where_at own.path own.from p) ≡ true) (sym (stream_here straight stream there))
-          (judged_seen (limit own.from) (few own.from) (content own.from) number (where_at own.path own.from) (most own.path own.from) lane.0 facts g.fine.at made.options made.keys
+          (judged_seen (limit own.from) (few own.from) (content own.from) number (where_at own.path own.from) (most own.path own.from) lane.0 (with_plain made.options before facts) g.fine.at made.options made.keys
           (stream_at (peer own.from) before.book) (stream_at own.from before.book) (own_lane facts j.lanes) p known wells fine
           (kept_any d is_mapping own.path facts ours (λ v. IsCover g.fine.at p (offer_of number v)) (cover_offers p) own.values first own.each keyed (firsts_so own.values firsts) covered) some low high)
 
@@ -388,7 +388,7 @@ module _ (d : Drawn) (limit : Side → ℕ) (few : (s : Side) → limit s < 2 ^ 
       pub fin_here : EndsIn number own.values → (stream : StreamValue) → stream_in (judged at true state packet seen) 0 own.from ≡ Some stream → is_some stream.fin ≡ true
       fin_here ends stream there =
           subst (λ (s : StreamValue). is_some s.fin ≡ true) (sym (stream_here straight stream there))
-          (judged_ended (limit own.from) (few own.from) (content own.from) number (where_at own.path own.from) (most own.path own.from) lane.0 facts g.fine.at made.options made.keys
+          (judged_ended (limit own.from) (few own.from) (content own.from) number (where_at own.path own.from) (most own.path own.from) lane.0 (with_plain made.options before facts) g.fine.at made.options made.keys
           (stream_at (peer own.from) before.book) (stream_at own.from before.book) (own_lane facts j.lanes) known wells fine
           (kept_any d is_mapping own.path facts ours (λ v. EndsOffer (offer_of number v)) end_offers own.values first own.each keyed (firsts_so own.values firsts) ends))
 

@@ -445,7 +445,7 @@ module _ (calm : Bool) (limit : ℕ) (few : limit < 2 ^ 31) (content : ℕ → �
 
     acked_one_so : (facts : Facts) (known : ℕ) (peers : StreamValue) (option : OptionValue) (acked : Acked) → Placed acked.stream acked.lane
         → Placed (acked_one facts known peers option acked).stream (acked_one facts known peers option acked).lane
-    acked_one_so facts known peers (Dss (Some number) told fin) acked h = by (ack_place (ack_facts facts.at_sender known peers acked.lane) number)
+    acked_one_so facts known peers (Dss (Some number) told fin) acked h = by (ack_place (ack_facts facts.at_sender facts.plain known peers acked.lane) number)
       where
         by : (place : Result ℕ Finding) → Placed (acked_by place facts.packet (ack_counted acked)).stream (acked_by place facts.packet (ack_counted acked)).lane
         by (Err finding) = let it = tell_so rule.DataAck facts.packet (Found finding) acked.stream refl h.0 in (record { top = it.top; untold = it.untold }, h.1)

@@ -117,6 +117,18 @@ module _ (start : Start) (can : MayCarry start) (turns : List Turn) (last : Duo)
     closed = λ s k is. closed_so (pick s start.file_a start.file_b) (book_of last s) (writes s).whole k is;
   }
 
+-- where no join was ever answered, other paths than path 0 have nothing
+alone_in : (v : View) (lanes : List Lane) → v.alone ≡ true → From (LaneHolds v) 0 lanes → (n : ℕ) → (n ≡ 0 → ⊥) → upto_of (slice_get lanes n) ≡ 0
+alone_in v lanes alone holds n other = by (slice_get lanes n) refl
+  where
+    by : (o : Option Lane) → slice_get lanes n ≡ o → upto_of o ≡ 0
+    by None at = refl
+    by (Some l) at = ap (λ (cells : List Cell). length cells) (((holds.each n n l (omega arith) at).alone alone).others other)
+
+pub none_beside : (last : Duo) → Holds last → not last.modes.answered ≡ true → (path : ℕ) (s : Side) → (path ≡ 0 → ⊥) → upto_of (lane_of last path s) ≡ 0
+none_beside last h alone path A other = alone_in (view_of (flags_ab last.modes) last.ab.send last.ab.arrived) last.ab.lanes alone h.ab.lanes path other
+none_beside last h alone path B other = alone_in (view_of (flags_ba last.modes) last.ba.send last.ba.arrived) last.ba.lanes alone h.ba.lanes path other
+
 -- ---- infinite mappings
 
 -- the cell of a position

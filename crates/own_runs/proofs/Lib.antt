@@ -40,6 +40,7 @@ mod Handed
 mod Handing
 mod HandshakeTrace
 mod HeardKnows
+mod Homes
 mod InTime
 mod Ipv4
 mod JudgedHere
@@ -62,6 +63,7 @@ mod LanePlaces
 mod LastLanes
 mod LateJoins
 mod Learning
+mod LineLinks
 mod Lines
 mod LinesKept
 mod LinesTimes
@@ -80,6 +82,7 @@ mod Nonces
 mod Numbered
 mod Offering
 mod OneConnection
+mod OnePathLines
 mod OpenCounts
 mod OpenFlows
 mod Openers
@@ -93,6 +96,7 @@ mod OwnFlows
 mod OwnOptions
 mod OwnPackets
 mod OwnPositions
+mod OwnSends
 mod OwnTrace
 mod OwnUntold
 mod Packets
@@ -114,6 +118,7 @@ mod RoundShown
 mod Sayings
 mod SeenFiles
 mod Segments
+mod SendingModes
 mod SentGrows
 mod ShortOctets
 mod ShortPieces

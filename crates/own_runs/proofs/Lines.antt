@@ -1,10 +1,14 @@
 -- Where each infinite mapping of a side's segments gives the positions behind it the places that they have (RFC 8684, section 3.7), and all payload stands
 -- among the positions of its lane, what comes to a place is its octet: none of them breaks `place-content`. Where a FIN stands so that the infinite
--- mapping gives it the end of the stream, none breaks `data-fin`.
-use Rattle.std.proofs.Common.{◌≡◌, refl, sym, ap, ◌∙◌, subst, ℕ, ℤ, zero, suc, ◌⊎◌, inl, inr, ⊎_elim, ◌+◌, ◌-◌, ◌<◌, ◌≤◌, ◌^◌, ◌==◌, ◌&&◌, ◌||◌, max, pos, nat_le, nat_lt, Bool, true, false, if◌then◌else◌, Option, Some, None, is_some, Result, Ok, Err, List, [], ◌∷◌, ◌++◌, drop, length, arith}
-use Rattle.std.specs.Prelude.{All, IfSome, IsSomeAnd, get_or, int_lt, slice_get}
+-- mapping gives it the end of the stream, none breaks `data-fin`. And where all infinite mappings of a side are told on one path, with one place less
+-- position, and nothing is mapped on other paths behind them, none breaks `infinite`.
+use Rattle.std.proofs.Common.{◌≡◌, refl, sym, ap, ◌∙◌, subst, ℕ, ℤ, zero, suc, ◌⊎◌, inl, inr, ⊎_elim, ◌+◌, ◌-◌, ◌%◌, ◌<◌, ◌≤◌, ◌^◌, ◌==◌, ◌&&◌, ◌||◌, not, max, pos, negsuc, nat_le, nat_lt, Bool, true, false, if◌then◌else◌, Option, Some, None, is_some, Result, Ok, Err, List, [], ◌∷◌, ◌++◌, drop, length, arith}
+use Rattle.std.specs.Prelude.{All, IfSome, IsSomeAnd, get_or, int_lt, slice_get, ◌-ℤ◌}
 use Rattle.std.specs.Int.{from_bool}
 use Rattle.std.specs.Option.{option_map, option_or}
+use Rattle.std.specs.Ordering.{int_eq}
+use Rattle.std.proofs.lemmas.Bool.Decides.{Decides-int_eq}
+use Rattle.std.proofs.lemmas.Int.{ints}
 use Rattle.std.proofs.lemmas.Bool.{and_parts, eq-eqb, false≢true, le-ltb, leb-true, ltb-true, ne_eqb, or_cases, or_left, or_right}
 use Rattle.std.proofs.lemmas.List.Elements.{All-head, All-tail}
 use Rattle.std.proofs.lemmas.Option.{slice_get-get_or}
@@ -12,11 +16,11 @@ use Rattle.first_runs.specs.Runs.{Told}
 use Rattle.judge_rules.specs.Acks.{ack_place}
 use Rattle.judge_rules.specs.Clashes.{first_clash}
 use Rattle.judge_rules.specs.Mappings as mapping
-use Rattle.judge_rules.specs.Mappings.{fin_fault, fin_told, is_too_early, mapped_octets, mapped_place, natural, offer_of, place_on_line}
+use Rattle.judge_rules.specs.Mappings.{after_line, elsewhere, fin_fault, fin_told, is_too_early, mapped_octets, mapped_place, natural, offer_of, place_on_line, reaches_past, shift_of}
 use Rattle.judge_rules.specs.Numbers.{place_near}
 use Rattle.judge_rules.specs.declared.acks.ToldPlace.{ToldPlace}
 use Rattle.judge_rules.specs.declared.finding.Finding.{Finding}
-use Rattle.judge_rules.specs.declared.finding.Finding.TheVariants.{BeyondFin, MappedBeyond, NoMapping, NoPosition, OtherFin}
+use Rattle.judge_rules.specs.declared.finding.Finding.TheVariants.{AfterInfinite, BeyondFin, MappedBeyond, NoMapping, NoPosition, OtherFin}
 use Rattle.judge_rules.specs.declared.finding.Rule.{Rule}
 use Rattle.judge_rules.specs.declared.finding.Rule.TheVariants as rule
 use Rattle.judge_rules.specs.declared.mappings.Line.{Line}
@@ -32,48 +36,89 @@ use Rattle.seen_octets.specs.declared.octet.OtherOctet.{OtherOctet}
 use Rattle.seen_streams.specs.Acks.{Acked, ack_counted, ack_facts, acked_by, ended_by_fin, fin_place, fin_told as line_fin, named_place}
 use Rattle.seen_streams.specs.Content.{PayloadValue, as_part, at_place, comes, content_fault, is_mapped_by, octet_of, other_octet, shown_from, with_payload}
 use Rattle.seen_streams.specs.Mapped as mapped
-use Rattle.seen_streams.specs.Mapped.{Mapped, against_infinite, by_rule, fin_after, finite, finite_at, finite_by, finite_fault, infinite_by, line_fault, lowest_line, mapped_at, octets_fault, one_more, placed_fault, told_mapping}
+use Rattle.seen_streams.specs.Mapped.{Mapped, against_infinite, by_rule, fin_after, finite, finite_at, finite_by, finite_fault, infinite_after, infinite_by, line_fault, lowest_line, mapped_at, octets_fault, one_more, placed_fault, told_mapping}
 use Rattle.seen_streams.specs.Positions.{with_fin}
 use Rattle.seen_streams.specs.Same.{same_mapping}
 use Rattle.seen_streams.specs.State.{FaultValue, Found, is_of, LaneValue, StreamValue, line_place, place_of, with_broken, with_found}
 use Rattle.seen_streams.specs.Sums.{is_whole, sum_fault, summed_by, tried_if_whole, tried_sum, tried_sums, with_sums}
 use Rattle.seen_streams.specs.declared.told.Broke.{Broke}
+use Rattle.seen_streams.specs.declared.told.Infinite.{Infinite}
 use Rattle.seen_streams.specs.declared.told.Teller.{Teller}
 use Rattle.seen_streams.specs.declared.told.ToldMapping.{ToldMapping}
 use Rattle.seen_streams.specs.declared.told.Waiting.{Waiting}
 use Rattle.sides.specs.Side.{peer}
+use Rattle.sides.specs.declared.side.Side.{Side}
 use Rattle.own_runs.proofs.FinePositions.{EndsAt, NumberIs, near_so}
 use Rattle.own_runs.proofs.LanePlaces as lane
 use Rattle.own_runs.proofs.LanePlaces.{LanePlaced, StreamPlaced}
-use Rattle.own_runs.proofs.MapPositions.{Bears, OfferIs}
+use Rattle.own_runs.proofs.MapPositions.{Bears, OfferIs, Sit}
+use Rattle.own_runs.proofs.OwnPositions.{same_position}
 use Rattle.own_runs.proofs.PayloadHeld.{has_all, held_all, none_left, stays_held}
 use Rattle.own_runs.proofs.Telling.{Untold, others_keep}
 
--- that on octets and, where it is asked for, that on the end of a stream
-abbrev pub is_line : Bool → Rule → Bool
-is_line ends rule.PlaceContent = true
-is_line ends rule.DataFin = ends
-is_line ends _ = false
+-- that on octets and, where it is asked for, those on the end of a stream and on infinite mappings
+abbrev pub is_line : Bool → Bool → Rule → Bool
+is_line ends endless rule.PlaceContent = true
+is_line ends endless rule.DataFin = ends
+is_line ends endless rule.Infinite = endless
+is_line ends endless _ = false
 
-module _ (ends : Bool) (limit : ℕ) (few : limit < 2 ^ 31) (content : ℕ → ℕ) where
+-- the last of some octets that reach past a line's position, and have the place that it gives them: place less position is the line's
+line_shift : (line : Line) (near place octets last : ℕ) → 1 ≤ octets → reaches_past line.position (pos near) octets ≡ true → IfSome (place_on_line line (near + (octets - 1))) (λ q. q ≡ last)
+    → last ≡ place + (octets - 1) → shift_of place (pos near) ≡ shift_of line.place line.position
+line_shift line near place octets last some past on is = by line.position past on
+  where
+    behind : (k : ℕ) → k ≤ near + (octets - 1) → line.place + natural (pos (near + (octets - 1)) -ℤ pos k) ≡ last → shift_of place (pos near) ≡ shift_of line.place (pos k)
+    behind k low at = behind_by (near + (octets - 1)) refl low at
+      where
+        behind_by : (q : ℕ) → q ≡ near + (octets - 1) → k ≤ q → line.place + natural (pos q -ℤ pos k) ≡ last → shift_of place (pos near) ≡ shift_of line.place (pos k)
+        behind_by q of low at =
+            let less : natural (pos q -ℤ pos k) ≡ q - k = ap natural (let same : pos q -ℤ pos k ≡ pos (q - k) = omega (arith, ints, low) in same) in
+            omega (arith, ints, of, low, at, less, is, some)
+
+    by : (z : ℤ) → reaches_past z (pos near) octets ≡ true → IfSome (place_on_line (record { position = z; place = line.place }) (near + (octets - 1))) (λ q. q ≡ last)
+        → shift_of place (pos near) ≡ shift_of line.place z
+    by (pos k) past on =
+        let reach = ltb-true k (near + octets) past in
+        let low : k ≤ near + (octets - 1) = omega (arith, reach, some) in
+        behind k low (subst (λ (b : Bool). IfSome (if b then None else Some (line.place + natural (pos (near + (octets - 1)) -ℤ pos k))) (λ q. q ≡ last)) (le-ltb (near + (octets - 1)) k low) on)
+    by (negsuc k) past on =
+        let more : natural (pos (near + (octets - 1)) -ℤ negsuc k) ≡ near + (octets - 1) + suc k =
+        ap natural (let same : pos (near + (octets - 1)) -ℤ negsuc k ≡ pos (near + (octets - 1) + suc k) = omega (arith, ints) in same) in
+        omega (arith, ints, on, more, is, some)
+
+-- lines of a path have one place less position, and there is none where one of another path is known
+pub record LinesAgree (IsLine : Line → Type 0) (Away : Type 0) : Type 0 where
+  pub one : (l m : Line) → IsLine l → IsLine m → shift_of l.place l.position ≡ shift_of m.place m.position
+  pub never : (l : Line) → IsLine l → Away → ⊥
+
+-- such a line of a side on another path
+abbrev pub IsAway : (ℕ → Side → Line → Type 0) → ℕ → Side → Type 0
+IsAway IsLine path s = (q : ℕ) × (m : Line) × (q ≡ path → ⊥) × IsLine q s m
+
+-- an infinite mapping that was learnt is of this flow, whose lane has its line, or of another path
+abbrev pub LinkedTo : Type 0 → ℕ → Option Infinite → Option Line → Type 0
+LinkedTo Away index infinite line = IfSome infinite (λ i. ((i.flow ≡ index) × (is_some line ≡ true)) ⊎ Away)
+
+module _ (ends endless : Bool) (limit : ℕ) (few : limit < 2 ^ 31) (content : ℕ → ℕ) where
   -- each place that was seen has its octet, and is one of the stream's, the DATA_FIN stands at the end, and the rules weren't broken
   pub record StreamLined (s : StreamValue) : Type 0 where
     pub octets : (q : ℕ) → IfSome (s.octet q) (λ o. (q < limit) × (o.octet ≡ content q))
     pub there : (q : ℕ) → s.seen q ≡ true → is_some (s.octet q) ≡ true
     pub fin : ends ≡ true → IfSome s.fin (λ told. told.place ≡ limit)
-    pub untold : Untold (is_line ends) s.broken
+    pub untold : Untold (is_line ends endless) s.broken
 
-  tell_so : (r : Rule) (packet : ℕ) (fault : FaultValue) (s : StreamValue) → is_line ends r ≡ false → StreamLined s
+  tell_so : (r : Rule) (packet : ℕ) (fault : FaultValue) (s : StreamValue) → is_line ends endless r ≡ false → StreamLined s
       → StreamLined (record s { broken = with_broken (record { rule = r; packet = packet; fault = fault }) s.broken })
-  tell_so r packet fault s other h = record { octets = h.octets; there = h.there; fin = h.fin; untold = others_keep (is_line ends) r packet fault s.broken other h.untold }
+  tell_so r packet fault s other h = record { octets = h.octets; there = h.there; fin = h.fin; untold = others_keep (is_line ends endless) r packet fault s.broken other h.untold }
 
-  found_so : (r : Rule) (packet : ℕ) (finding : Option Finding) (s : StreamValue) → is_line ends r ≡ false → StreamLined s
+  found_so : (r : Rule) (packet : ℕ) (finding : Option Finding) (s : StreamValue) → is_line ends endless r ≡ false → StreamLined s
       → StreamLined (record s { broken = with_found r packet finding s.broken })
   found_so r packet None s other h = record { octets = h.octets; there = h.there; fin = h.fin; untold = h.untold }
   found_so r packet (Some finding) s other h = tell_so r packet (Found finding) s other h
 
   -- where the positions of a lane up to one have these places, and its FIN stands at such a position
-  module _ (first : ℕ) (where_at : ℕ → ℕ) (upto : ℕ) (IsEnd : ℕ → Type 0) where
+  module _ (first : ℕ) (where_at : ℕ → ℕ) (upto : ℕ) (IsEnd : ℕ → Type 0) (IsLine : Line → Type 0) (Away : Type 0) where
     abbrev at : ℕ → ℕ
     at p = content (where_at p)
 
@@ -81,6 +126,11 @@ module _ (ends : Bool) (limit : ℕ) (few : limit < 2 ^ 31) (content : ℕ → �
     pub record LineIs (line : Line) : Type 0 where
       pub places : (p : ℕ) → p ≤ upto → IfSome (place_on_line line p) (λ q. q ≡ where_at p)
       pub end : ends ≡ true → (p : ℕ) → IsEnd p → IfSome (place_on_line line p) (λ q. q ≡ limit)
+      pub is : IsLine line
+
+    -- what maps octets maps those of the lane, and no line of another path is known
+    abbrev pub Fits : ℕ → Offer → Type 0
+    Fits near offer = (mapped_octets offer ≡ 0) ⊎ ((near + mapped_octets offer ≤ suc upto) × (endless ≡ true → Away → ⊥))
 
     -- an infinite mapping in a segment at a position
     pub record InfiniteLined (near : ℕ) (offer : Offer) : Type 0 where
@@ -91,7 +141,7 @@ module _ (ends : Bool) (limit : ℕ) (few : limit < 2 ^ 31) (content : ℕ → �
       pub line : LineIs (record { position = mapping.position_near near offer.relative; place = place })
 
     abbrev pub OptionLined : ℕ → OptionValue → Type 0
-    OptionLined near option = IfSome (offer_of first option) (λ offer. OfferIs first limit content where_at near offer ⊎ InfiniteLined near offer)
+    OptionLined near option = IfSome (offer_of first option) (λ offer. (OfferIs first limit content where_at near offer × Fits near offer) ⊎ InfiniteLined near offer)
 
     -- and what was seen on it ends so
     module _ (high : ℕ) where
@@ -114,26 +164,84 @@ module _ (ends : Bool) (limit : ℕ) (few : limit < 2 ^ 31) (content : ℕ → �
       -- ---- a finite mapping
 
       abbrev Other : Option Broke → Type 0
-      Other o = IfSome o (λ broke. is_line ends broke.rule ≡ false)
+      Other o = IfSome o (λ broke. is_line ends endless broke.rule ≡ false)
 
-      infinite_other : (o : Option Finding) → Other (by_rule rule.Infinite o)
-      infinite_other None = tt
-      infinite_other (Some finding) = refl
-
-      octets_other : (teller : Teller) (s : StreamValue) (l : LaneValue) (offer : Offer) (position : ℤ) (place : ℕ) → Other (octets_fault teller s l offer position place)
-      octets_other teller s l offer position place = by (mapped_octets offer == 0) (int_lt position (pos 0)) (first_clash l.placed (natural position) place (mapped_octets offer))
+      unasked : (finding : Finding) → (endless ≡ true → Some finding ≡ None) → endless ≡ false
+      unasked finding none = by endless refl
         where
-          rest : Option Broke
-          rest = by_rule rule.Infinite (against_infinite s.infinite teller.flow s.top l.line (pos (natural position)) place (mapped_octets offer))
+          never : Some finding ≡ None → ⊥
+          never e = cc
 
-          low : Broke
-          low = record { rule = rule.Mapping; finding = NoPosition offer.relative }
+          by : (b : Bool) → endless ≡ b → b ≡ false
+          by false e = refl
+          by true e = absurd (never (none e))
 
-          by : (none below : Bool) (clash : Option Finding) → Other (if none then None else (if below then Some low else option_or (by_rule rule.Mapping clash) rest))
-          by true below clash = tt
-          by false true clash = refl
-          by false false (Some finding) = refl
-          by false false None = infinite_other (against_infinite s.infinite teller.flow s.top l.line (pos (natural position)) place (mapped_octets offer))
+      infinite_other : (o : Option Finding) → (endless ≡ true → o ≡ None) → Other (by_rule rule.Infinite o)
+      infinite_other None none = tt
+      infinite_other (Some finding) none = unasked finding none
+
+      abbrev Linked : Teller → StreamValue → LaneValue → Type 0
+      Linked teller s l = LinkedTo Away teller.flow s.infinite l.line
+
+      -- what maps octets of the lane goes on as the line says
+      goes_on_so : (line : Line) → LineIs line → (near place octets : ℕ) → 1 ≤ octets → near + octets ≤ suc upto → Sit where_at near place octets → after_line line (pos near) place octets ≡ false
+      goes_on_so line is near place octets some within sit = by (reaches_past line.position (pos near) octets) refl
+        where
+          by : (b : Bool) → reaches_past line.position (pos near) octets ≡ b → b && not (int_eq (shift_of place (pos near)) (shift_of line.place line.position)) ≡ false
+          by false e = refl
+          by true e =
+              let at : where_at (near + (octets - 1)) ≡ place + (octets - 1) = sit (octets - 1) (omega (arith, some)) in
+              let on : IfSome (place_on_line line (near + (octets - 1))) (λ q. q ≡ where_at (near + (octets - 1))) = is.places (near + (octets - 1)) (omega (arith, some, within)) in
+              let same = line_shift line near place octets (where_at (near + (octets - 1))) some e on at in
+              ap not ((Decides-int_eq (shift_of place (pos near)) (shift_of line.place line.position)).1 same)
+
+      against_none : (teller : Teller) (s : StreamValue) (l : LaneValue) → Linked teller s l → IfSome l.line LineIs → (Away → ⊥) → (near place octets : ℕ) → 1 ≤ octets
+          → near + octets ≤ suc upto → Sit where_at near place octets → against_infinite s.infinite teller.flow s.top l.line (pos near) place octets ≡ None
+      against_none teller s l linked lined away near place octets some within sit = by s.infinite l.line linked lined
+        where
+          by : (infinite : Option Infinite) (line : Option Line) → LinkedTo Away teller.flow infinite line → IfSome line LineIs → against_infinite infinite teller.flow s.top line (pos near) place octets ≡ None
+          by None line linked lined = refl
+          by (Some i) line (inr other) lined = absurd (away other)
+          by (Some i) None (inl here) lined = absurd (false≢true here.1)
+          by (Some i) (Some line) (inl here) lined =
+              ap (λ (b : Bool). if (if b then after_line line (pos near) place octets else elsewhere s.top i.place (place + octets)) then Some (AfterInfinite (pos near) place i.packet) else None)
+              (eq-eqb i.flow teller.flow here.0)
+              ∙ ap (λ (b : Bool). if b then Some (AfterInfinite (pos near) place i.packet) else None) (goes_on_so line lined near place octets some within sit)
+
+      octets_other : (teller : Teller) (s : StreamValue) (l : LaneValue) → Linked teller s l → IfSome l.line LineIs → (near : ℕ) (offer : Offer)
+          → (o : OfferIs first limit content where_at near offer) → Fits near offer → Other (octets_fault teller s l offer (mapping.position_near near offer.relative) o.place)
+      octets_other teller s l linked lined near offer o fits = by (mapped_octets offer == 0) refl o.sits fits
+        where
+          fault_at : ℤ → Bool → Bool → Option Broke
+          fault_at position none low =
+              if none then None else (if low then Some (record { rule = rule.Mapping; finding = NoPosition offer.relative })
+              else placed_fault teller s l (natural position) o.place (mapped_octets offer))
+
+          some : (mapped_octets offer == 0) ≡ false → 1 ≤ mapped_octets offer
+          some e = by (mapped_octets offer) e
+            where
+              by : (n : ℕ) → (n == 0) ≡ false → 1 ≤ n
+              by zero e = absurd (false≢true (sym e))
+              by (suc n) e = omega arith
+
+          clash_or : (clash against : Option Finding) → (endless ≡ true → against ≡ None) → Other (option_or (by_rule rule.Mapping clash) (by_rule rule.Infinite against))
+          clash_or (Some finding) against none = refl
+          clash_or None against none = infinite_other against none
+
+          low_or : (low : Bool) → Other (placed_fault teller s l near o.place (mapped_octets offer)) → Other (fault_at (pos near) false low)
+          low_or true other = refl
+          low_or false other = other
+
+          by : (b : Bool) → (mapped_octets offer == 0) ≡ b → (mapped_octets offer ≡ 0) ⊎ ((offer.relative % 2 ^ 32 ≡ near % 2 ^ 32) × Sit where_at near o.place (mapped_octets offer)) → Fits near offer
+              → Other (fault_at (mapping.position_near near offer.relative) b (int_lt (mapping.position_near near offer.relative) (pos 0)))
+          by true e sits fits = tt
+          by false e (inl none) fits = absurd (let least = some e in omega (arith, least, none))
+          by false e (inr sits) (inl none) = absurd (let least = some e in omega (arith, least, none))
+          by false e (inr sits) (inr fit) =
+              subst (λ (z : ℤ). Other (fault_at z false (int_lt z (pos 0)))) (sym (same_position near offer.relative sits.0))
+              (low_or (int_lt (pos near) (pos 0))
+              (clash_or (first_clash l.placed near o.place (mapped_octets offer)) (against_infinite s.infinite teller.flow s.top l.line (pos near) o.place (mapped_octets offer))
+              (λ asked. against_none teller s l linked lined (fit.1 asked) near o.place (mapped_octets offer) (some e) fit.0 sits.1)))
 
       -- nothing is mapped behind the end
       module _ (s : StreamValue) (top : s.top ≤ limit) (fin : IfSome s.fin (λ told. told.place ≡ limit)) (offer : Offer) (place : ℕ) (is : EndsAt limit offer.fin place offer.length) where
@@ -176,9 +284,9 @@ module _ (ends : Bool) (limit : ℕ) (few : limit < 2 ^ 31) (content : ℕ → �
             by None at false same = tt
 
       fault_so : (teller : Teller) (s : StreamValue) (l : LaneValue) → s.top ≤ limit → StreamLined s → (offer : Offer) (position : ℤ) (place : ℕ) → EndsAt limit offer.fin place offer.length
-          → Other (finite_fault teller s l offer position place)
-      fault_so teller s l top h offer position place is =
-          by (octets_fault teller s l offer position place) (octets_other teller s l offer position place) ends refl (fin_fault s.fin s.top (place + mapped_octets offer) offer.fin) (λ asked. fin_so s top (h.fin asked) offer place is)
+          → Other (octets_fault teller s l offer position place) → Other (finite_fault teller s l offer position place)
+      fault_so teller s l top h offer position place is octets =
+          by (octets_fault teller s l offer position place) octets ends refl (fin_fault s.fin s.top (place + mapped_octets offer) offer.fin) (λ asked. fin_so s top (h.fin asked) offer place is)
         where
           by : (o : Option Broke) → Other o → (b : Bool) → ends ≡ b → (fin : Option Finding) → (ends ≡ true → fin ≡ None) → Other (option_or o (by_rule rule.DataFin fin))
           by (Some broke) is b e fin none = is
@@ -197,15 +305,16 @@ module _ (ends : Bool) (limit : ℕ) (few : limit < 2 ^ 31) (content : ℕ → �
         record { line = h.1.line; seen = h.1.seen; there = h.1.there; fin = h.1.fin; top = h.1.top },
       )
 
-      finite_so : (teller : Teller) → teller.first ≡ first → (near : ℕ) (offer : Offer) (state : Mapped) → OfferIs first limit content where_at near offer → state.stream.top ≤ limit → Holds state
-          → Holds (finite teller offer (mapping.position_near near offer.relative) state)
-      finite_so teller is near offer state o top h =
+      finite_so : (teller : Teller) → teller.first ≡ first → (near : ℕ) (offer : Offer) (state : Mapped) → OfferIs first limit content where_at near offer × Fits near offer → state.stream.top ≤ limit
+          → Holds state → Linked teller state.stream state.lane → Holds (finite teller offer (mapping.position_near near offer.relative) state)
+      finite_so teller is near offer state both top h linked =
           let position = mapping.position_near near offer.relative in
           let more = one_more state in
           let held : Holds more = (record { octets = h.0.octets; there = h.0.there; fin = h.0.fin; untold = h.0.untold }, h.1) in
-          subst (λ (p : Option ℕ). Holds (finite_at p teller offer position more)) (sym (lane.mapped_place_is false limit few content first where_at teller is near offer state.stream.top o top))
-          (finite_by_so (finite_fault teller more.stream more.lane offer position o.place) (fault_so teller more.stream more.lane top held.0 offer position o.place o.ends)
-          teller.packet offer position o.place more top o.ends held)
+          subst (λ (p : Option ℕ). Holds (finite_at p teller offer position more)) (sym (lane.mapped_place_is false limit few content first where_at teller is near offer state.stream.top both.0 top))
+          (finite_by_so (finite_fault teller more.stream more.lane offer position both.0.place)
+          (fault_so teller more.stream more.lane top held.0 offer position both.0.place both.0.ends (octets_other teller more.stream more.lane linked h.1.line near offer both.0 both.1))
+          teller.packet offer position both.0.place more top both.0.ends held)
 
       -- ---- an infinite one
 
@@ -217,11 +326,23 @@ module _ (ends : Bool) (limit : ℕ) (few : limit < 2 ^ 31) (content : ℕ → �
           by true = new
           by false = was
 
-      infinite_so : (teller : Teller) → teller.first ≡ first → (near : ℕ) (offer : Offer) (state : Mapped) → InfiniteLined near offer → state.stream.top ≤ limit → Holds state
-          → Holds (mapped.infinite_at (place_near teller.first state.stream.top offer.number) teller offer (mapping.position_near near offer.relative) state)
-      infinite_so teller is near offer state o top h =
+      agrees_so : LinesAgree IsLine Away → (teller : Teller) (infinite : Option Infinite) (old : Option Line) (line : Line) → LinkedTo Away teller.flow infinite old → IfSome old LineIs → LineIs line
+          → line_fault infinite teller.flow old line.position line.place ≡ None
+      agrees_so agree teller None old line linked lined new = refl
+      agrees_so agree teller (Some i) old line (inr other) lined new = absurd (agree.never line new.is other)
+      agrees_so agree teller (Some i) None line (inl here) lined new = absurd (false≢true here.1)
+      agrees_so agree teller (Some i) (Some old) line (inl here) lined new =
+          ap (λ (b : Bool). if b && int_eq (shift_of line.place line.position) (shift_of old.place old.position) then None else Some (AfterInfinite line.position line.place i.packet))
+          (eq-eqb i.flow teller.flow here.0)
+          ∙ ap (λ (b : Bool). if b then None else Some (AfterInfinite line.position line.place i.packet))
+          ((Decides-int_eq (shift_of line.place line.position) (shift_of old.place old.position)).1 (agree.one line old new.is lined.is))
+
+      infinite_so : (endless ≡ true → LinesAgree IsLine Away) → (teller : Teller) → teller.first ≡ first → (near : ℕ) (offer : Offer) (state : Mapped) → InfiniteLined near offer → state.stream.top ≤ limit → Holds state
+          → Linked teller state.stream state.lane → Holds (mapped.infinite_at (place_near teller.first state.stream.top offer.number) teller offer (mapping.position_near near offer.relative) state)
+      infinite_so agree teller is near offer state o top h linked =
           subst (λ (p : Option ℕ). Holds (mapped.infinite_at p teller offer position state)) (sym place_is)
-          (by (line_fault state.stream.infinite teller.flow state.lane.line position o.place))
+          (by (line_fault state.stream.infinite teller.flow state.lane.line position o.place)
+          (λ asked. agrees_so (agree asked) teller state.stream.infinite state.lane.line (record { position = position; place = o.place }) linked h.1.line o.line))
         where
           position : ℤ
           position = mapping.position_near near offer.relative
@@ -229,51 +350,96 @@ module _ (ends : Bool) (limit : ℕ) (few : limit < 2 ^ 31) (content : ℕ → �
           place_is : place_near teller.first state.stream.top offer.number ≡ Some o.place
           place_is = ap (λ (n : ℕ). place_near n state.stream.top offer.number) is ∙ near_so first state.stream.top o.place offer.number o.number (omega (arith, top, few)) o.small
 
-          by : (fault : Option Finding) → Holds (infinite_by fault teller position o.place state)
-          by (Some finding) = (tell_so rule.Infinite teller.packet (Found finding) state.stream refl h.0, h.1)
-          by None = (
+          by : (fault : Option Finding) → (endless ≡ true → fault ≡ None) → Holds (infinite_by fault teller position o.place state)
+          by (Some finding) none = (tell_so rule.Infinite teller.packet (Found finding) state.stream (unasked finding none) h.0, h.1)
+          by None none = (
             record { octets = h.0.octets; there = h.0.there; fin = h.0.fin; untold = h.0.untold },
             record { line = lowest_so state.lane.line position o.place h.1.line o.line; seen = h.1.seen; there = h.1.there; fin = h.1.fin; top = h.1.top },
           )
 
-      one_so : (teller : Teller) → teller.first ≡ first → (near : ℕ) (offer : Offer) (state : Mapped) → OfferIs first limit content where_at near offer ⊎ InfiniteLined near offer → state.stream.top ≤ limit → Holds state
-          → Holds (mapped_at teller offer (mapping.position_near near offer.relative) state)
-      one_so teller is near offer state (inl o) top h =
+      -- the flow of what was learnt, and its line, stay known
+      linked_finite : (place : Option ℕ) (teller : Teller) (offer : Offer) (position : ℤ) (state : Mapped) → Linked teller state.stream state.lane
+          → Linked teller (finite_at place teller offer position state).stream (finite_at place teller offer position state).lane
+      linked_finite None teller offer position state h = h
+      linked_finite (Some place) teller offer position state h = by (finite_fault teller state.stream state.lane offer position place)
+        where
+          by : (fault : Option Broke) → Linked teller (finite_by fault teller.packet (told_mapping offer position place) state).stream (finite_by fault teller.packet (told_mapping offer position place) state).lane
+          by (Some broke) = h
+          by None = h
+
+      linked_infinite : (place : Option ℕ) (teller : Teller) (offer : Offer) (position : ℤ) (state : Mapped) → Linked teller state.stream state.lane
+          → Linked teller (mapped.infinite_at place teller offer position state).stream (mapped.infinite_at place teller offer position state).lane
+      linked_infinite None teller offer position state h = h
+      linked_infinite (Some place) teller offer position state h = by (line_fault state.stream.infinite teller.flow state.lane.line position place)
+        where
+          line : Line
+          line = lowest_line state.lane.line position place
+
+          after : (old : Option Infinite) (was : Option Line) → LinkedTo Away teller.flow old was → LinkedTo Away teller.flow (Some (infinite_after old teller line.place)) (Some line)
+          after None was h = inl (refl, refl)
+          after (Some i) was (inl here) = inl (here.0, refl)
+          after (Some i) was (inr other) = inr other
+
+          by : (fault : Option Finding) → Linked teller (infinite_by fault teller position place state).stream (infinite_by fault teller position place state).lane
+          by (Some finding) = h
+          by None = after state.stream.infinite state.lane.line h
+
+      linked_one : (teller : Teller) (near : ℕ) (offer : Option Offer) (state : Mapped) → Linked teller state.stream state.lane
+          → Linked teller (mapped_one teller near offer state).stream (mapped_one teller near offer state).lane
+      linked_one teller near None state h = h
+      linked_one teller near (Some offer) state h = by (offer.length == 0)
+        where
+          position : ℤ
+          position = mapping.position_near near offer.relative
+
+          Is : Mapped → Type 0
+          Is = λ x. Linked teller x.stream x.lane
+
+          by : (b : Bool) → Is (if b then mapped.infinite_at (place_near teller.first state.stream.top offer.number) teller offer position state else finite teller offer position state)
+          by true = linked_infinite (place_near teller.first state.stream.top offer.number) teller offer position state h
+          by false = linked_finite (mapped_place teller.first state.stream.top offer) teller offer position (one_more state) h
+
+      one_so : (endless ≡ true → LinesAgree IsLine Away) → (teller : Teller) → teller.first ≡ first → (near : ℕ) (offer : Offer) (state : Mapped) → (OfferIs first limit content where_at near offer × Fits near offer) ⊎ InfiniteLined near offer
+          → state.stream.top ≤ limit → Holds state → Linked teller state.stream state.lane → Holds (mapped_at teller offer (mapping.position_near near offer.relative) state)
+      one_so agree teller is near offer state (inl o) top h linked =
           let position = mapping.position_near near offer.relative in
           subst (λ (b : Bool). Holds (if b then mapped.infinite_at (place_near teller.first state.stream.top offer.number) teller offer position state else finite teller offer position state))
-          (sym (ne_eqb offer.length 0 (λ none. let some = o.some in omega (arith, some, none)))) (finite_so teller is near offer state o top h)
-      one_so teller is near offer state (inr o) top h =
+          (sym (ne_eqb offer.length 0 (λ none. let some = o.0.some in omega (arith, some, none)))) (finite_so teller is near offer state o top h linked)
+      one_so agree teller is near offer state (inr o) top h linked =
           let position = mapping.position_near near offer.relative in
           subst (λ (b : Bool). Holds (if b then mapped.infinite_at (place_near teller.first state.stream.top offer.number) teller offer position state else finite teller offer position state))
-          (sym (eq-eqb offer.length 0 o.none)) (infinite_so teller is near offer state o top h)
+          (sym (eq-eqb offer.length 0 o.none)) (infinite_so agree teller is near offer state o top h linked)
 
       -- ---- all mappings of a segment
 
       abbrev Both : Mapped → Type 0
       Both x = lane.Holds false limit few content first where_at x × Holds x
 
-      as_told : (near : ℕ) (offer : Offer) → OfferIs first limit content where_at near offer ⊎ InfiniteLined near offer → OfferIs first limit content where_at near offer ⊎ lane.InfiniteIs first offer
-      as_told near offer (inl o) = inl o
+      as_told : (near : ℕ) (offer : Offer) → (OfferIs first limit content where_at near offer × Fits near offer) ⊎ InfiniteLined near offer → OfferIs first limit content where_at near offer ⊎ lane.InfiniteIs first offer
+      as_told near offer (inl o) = inl o.0
       as_told near offer (inr o) = inr (record { place = o.place; number = o.number; small = o.small; none = o.none })
 
-      offer_so : (teller : Teller) → teller.first ≡ first → (near : ℕ) (offer : Option Offer) (state : Mapped) → IfSome offer (λ o. OfferIs first limit content where_at near o ⊎ InfiniteLined near o)
-          → Both state → Both (mapped_one teller near offer state)
-      offer_so teller is near None state o h = h
-      offer_so teller is near (Some offer) state o h =
-          (lane.one_so false limit few content first where_at teller is near offer state (as_told near offer o) h.0, one_so teller is near offer state o h.0.0.0.top h.1)
+      offer_so : (endless ≡ true → LinesAgree IsLine Away) → (teller : Teller) → teller.first ≡ first → (near : ℕ) (offer : Option Offer) (state : Mapped)
+          → IfSome offer (λ o. (OfferIs first limit content where_at near o × Fits near o) ⊎ InfiniteLined near o) → Both state → Linked teller state.stream state.lane → Both (mapped_one teller near offer state)
+      offer_so agree teller is near None state o h linked = h
+      offer_so agree teller is near (Some offer) state o h linked = (
+        lane.one_so false limit few content first where_at teller is near offer state (as_told near offer o) h.0,
+        one_so agree teller is near offer state o h.0.0.0.top h.1 linked,
+      )
 
-      offers_so : (teller : Teller) → teller.first ≡ first → (near : ℕ) (options : List OptionValue) (state : Mapped) → All (OptionLined near) options → Both state
-          → Both (mapped_each teller near options state)
-      offers_so teller is near [] state all h = h
-      offers_so teller is near (option ∷ options) state all h =
-          offers_so teller is near options (mapped_one teller near (offer_of teller.first option) state) (All-tail (OptionLined near) option options all)
-          (offer_so teller is near (offer_of teller.first option) state
-          (subst (λ (n : ℕ). IfSome (offer_of n option) (λ o. OfferIs first limit content where_at near o ⊎ InfiniteLined near o)) (sym is) (All-head (OptionLined near) option options all)) h)
+      offers_so : (endless ≡ true → LinesAgree IsLine Away) → (teller : Teller) → teller.first ≡ first → (near : ℕ) (options : List OptionValue) (state : Mapped) → All (OptionLined near) options → Both state
+          → Linked teller state.stream state.lane → Both (mapped_each teller near options state)
+      offers_so agree teller is near [] state all h linked = h
+      offers_so agree teller is near (option ∷ options) state all h linked =
+          offers_so agree teller is near options (mapped_one teller near (offer_of teller.first option) state) (All-tail (OptionLined near) option options all)
+          (offer_so agree teller is near (offer_of teller.first option) state
+          (subst (λ (n : ℕ). IfSome (offer_of n option) (λ o. (OfferIs first limit content where_at near o × Fits near o) ⊎ InfiniteLined near o)) (sym is) (All-head (OptionLined near) option options all)) h linked)
+          (linked_one teller near (offer_of teller.first option) state linked)
 
-      mapped_so : (facts : Facts) (known : Option ℕ) → IfSome known (λ n. n ≡ first) → (near : ℕ) (options : List OptionValue) (state : Mapped)
-          → All (OptionLined near) options → Both state → Both (mapped_with facts known near options state)
-      mapped_so facts None is near options state all h = h
-      mapped_so facts (Some known) is near options state all h = offers_so (told_in facts known) is near options state all h
+      mapped_so : (endless ≡ true → LinesAgree IsLine Away) → (facts : Facts) (known : Option ℕ) → IfSome known (λ n. n ≡ first) → (near : ℕ) (options : List OptionValue) (state : Mapped)
+          → All (OptionLined near) options → Both state → LinkedTo Away facts.index state.stream.infinite state.lane.line → Both (mapped_with facts known near options state)
+      mapped_so agree facts None is near options state all h linked = h
+      mapped_so agree facts (Some known) is near options state all h linked = offers_so agree (told_in facts known) is near options state all h linked
 
       -- ---- payload
 
@@ -517,7 +683,7 @@ module _ (ends : Bool) (limit : ℕ) (few : limit < 2 ^ 31) (content : ℕ → �
 
       acked_one_so : (facts : Facts) (known : ℕ) (peers : StreamValue) (option : OptionValue) (acked : Acked) → Lined acked.stream acked.lane
           → Lined (acked_one facts known peers option acked).stream (acked_one facts known peers option acked).lane
-      acked_one_so facts known peers (Dss (Some number) told fin) acked h = by (ack_place (ack_facts facts.at_sender known peers acked.lane) number)
+      acked_one_so facts known peers (Dss (Some number) told fin) acked h = by (ack_place (ack_facts facts.at_sender facts.plain known peers acked.lane) number)
         where
           by : (place : Result ℕ Finding) → Lined (acked_by place facts.packet (ack_counted acked)).stream (acked_by place facts.packet (ack_counted acked)).lane
           by (Err finding) = let it = tell_so rule.DataAck facts.packet (Found finding) acked.stream refl h.0 in (record { octets = it.octets; there = it.there; fin = it.fin; untold = it.untold }, h.1)
@@ -549,14 +715,15 @@ module _ (ends : Bool) (limit : ℕ) (few : limit < 2 ^ 31) (content : ℕ → �
 
       -- ---- all of a segment
 
-      pub at_so : AreInside → (facts : Facts) (position : ℕ) (options : List OptionValue) (keys : Keys) (peers s : StreamValue) (l : LaneValue) → IfSome (first_of facts.side keys) (λ n. n ≡ first)
+      pub at_so : AreInside → (endless ≡ true → LinesAgree IsLine Away) → (facts : Facts) (position : ℕ) (options : List OptionValue) (keys : Keys) (peers s : StreamValue) (l : LaneValue) → IfSome (first_of facts.side keys) (λ n. n ≡ first)
           → All (OptionLined position) options → Bears at position facts.seen.segment.payload → facts.seen.payload_len ≡ length facts.seen.segment.payload → (payload_len facts ≡ 0) ⊎ (position + payload_len facts ≤ suc upto)
-          → (ends ≡ true → facts.seen.segment.head.fin ≡ true → IsEnd (position + facts.seen.payload_len)) → (payload_at facts position).to ≤ high → Placed s l → Lined s l
+          → (ends ≡ true → facts.seen.segment.head.fin ≡ true → IsEnd (position + facts.seen.payload_len)) → (payload_at facts position).to ≤ high → Placed s l → Lined s l → LinkedTo Away facts.index s.infinite l.line
           → Lined (judged_at facts position options keys peers s l).stream (judged_at facts position options keys peers s l).lane
-      at_so inside facts position options keys peers s l is all bears whole within end to h lined =
+      at_so inside agree facts position options keys peers s l is all bears whole within end to h lined linked =
           let before : Mapped = record { stream = s; lane = fin_taken facts position l; learnt = []; has_line = false } in
           let told = mapped_with facts (first_of facts.side keys) position options before in
-          let held = mapped_so facts (first_of facts.side keys) is position options before all (((h.0, lane.fin_lane false limit few content first where_at facts position l h.1), lane.none_learnt false limit few content first where_at), (lined.0, fin_so facts.seen.segment.head.fin refl)) in
+          let held = mapped_so agree facts (first_of facts.side keys) is position options before all (((h.0, lane.fin_lane false limit few content first where_at facts position l h.1), lane.none_learnt false limit few content first where_at), (lined.0, fin_so facts.seen.segment.head.fin refl))
+          (still_linked facts.seen.segment.head.fin) in
           let paid = behind_payload facts position peers.acknowledged told in
           acks_so facts (first_of (peer facts.side) keys) peers options (summed facts (first_of facts.side keys) told.learnt paid)
           (summed_so facts (first_of facts.side keys) told.learnt paid (payload_so inside facts position peers.acknowledged told bears whole within to held.0.0 held.1))
@@ -564,6 +731,10 @@ module _ (ends : Bool) (limit : ℕ) (few : limit < 2 ^ 31) (content : ℕ → �
           taken : (o : Option ℕ) → IfSome o IsEnd → IsEnd (position + facts.seen.payload_len) → IfSome (option_or o (Some (position + facts.seen.payload_len))) IsEnd
           taken None was now = now
           taken (Some p) was now = was
+
+          still_linked : (b : Bool) → LinkedTo Away facts.index s.infinite (if b then with_fin (position + facts.seen.payload_len) l else l).line
+          still_linked true = linked
+          still_linked false = linked
 
           fin_so : (b : Bool) → facts.seen.segment.head.fin ≡ b → LaneLined (if b then with_fin (position + facts.seen.payload_len) l else l)
           fin_so true e = record { line = lined.1.line; seen = lined.1.seen; there = lined.1.there; fin = λ asked. taken l.fin (lined.1.fin asked) (end asked e); top = lined.1.top }

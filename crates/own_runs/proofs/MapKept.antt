@@ -28,7 +28,7 @@ use Rattle.rule_book.specs.Facts.{Facts, first_of, own_base, own_lane, payload_a
 use Rattle.rule_book.specs.Judged.{Told, empty_book, judged_flow, judged_formed, judged_opened, judged_side, opened_facts}
 use Rattle.rule_book.specs.Signals.{KeyedValue, judged_options, told_formless}
 use Rattle.rule_book.specs.State.{BookValue, JudgedValue, LanesValue, stream_at, with_stream}
-use Rattle.rule_book.specs.Stream.{Left, gap_counted, judged_at, judged_from, judged_positions}
+use Rattle.rule_book.specs.Stream.{Left, gap_counted, judged_at, judged_from, judged_positions, with_plain}
 use Rattle.judge_laws.specs.GoesOn.{GoesOn, stream_in}
 use Rattle.judge_laws.proofs.Folds.{TellingKeeps, options_so as fields_so}
 use Rattle.judge_laws.proofs.Going.{options_go}
@@ -42,7 +42,7 @@ use Rattle.own_runs.proofs.Own.{Drawn, IsOwn, ValueIs, own_key}
 use Rattle.own_runs.proofs.OwnFlows.{FlowOn, KeysOwn, NonceIs}
 use Rattle.own_runs.proofs.OwnOptions.{IsKeyed, IsOf, key_is, options_so, readable_so}
 use Rattle.own_runs.proofs.OpenFlows.{OpensBy}
-use Rattle.own_runs.proofs.OwnPackets.{AllHold, IsLeft, SegmentsKeep, opens_so, sender_so}
+use Rattle.own_runs.proofs.OwnPackets.{AllHold, IsLeft, NothingMore, SegmentsKeep, opens_so, sender_so}
 use Rattle.own_runs.proofs.Own.{is_a, own_initial}
 use Rattle.own_runs.proofs.OwnUntold.{base_so, numbered}
 use Rattle.own_runs.proofs.Telling.{others_keep}
@@ -254,15 +254,15 @@ module _ (d : Drawn) (limit : Side → ℕ) (few : (s : Side) → limit s < 2 ^ 
               let its_lane = own_lane facts left.lanes in
               let gone = (gap_counted facts left).book in
               let peers = stream_at (peer facts.side) left.book in
-              let it = judged_at facts position options keys peers own_stream its_lane in
+              let it = judged_at (with_plain options left facts) position options keys peers own_stream its_lane in
               let high = max lane.0 (payload_at facts position).to in
-              let fine = at_so (limit facts.side) (few facts.side) (content facts.side) (first_at facts.side) (where_at own.path facts.side) (most own.path facts.side) high facts position options keys
+              let fine = at_so (limit facts.side) (few facts.side) (content facts.side) (first_at facts.side) (where_at own.path facts.side) (most own.path facts.side) high (with_plain options left facts) position options keys
               peers own_stream its_lane (first_so facts.side keys k) (all position same) calm (acks_at facts.side high keys peers options k (h.book (peer facts.side)) acks)
               (subst (λ (x : Seen). Bears (λ q. content facts.side (where_at own.path facts.side q)) position x.segment.payload) (sym sees) (bears position same))
               (subst (λ (x : Seen). x.payload_len ≡ length x.segment.payload) (sym sees) whole) (omega arith)
               ((h.book facts.side).fine, raised own.path facts.side its_lane lane.0 high (omega arith) lane.1.0) in
               record {
-                book = with_good facts.side it.stream gone (goes_good facts.side own_stream it.stream (at_goes facts position options keys peers own_stream its_lane) fine.0 (h.book facts.side))
+                book = with_good facts.side it.stream gone (goes_good facts.side own_stream it.stream (at_goes (with_plain options left facts) position options keys peers own_stream its_lane) fine.0 (h.book facts.side))
                     (gaps_good gone.gaps left.book h.book);
                 lanes = lanes_fine own.path facts.side facts.is_opener it.lane left.lanes opens
                     (high, (fine.1, λ straight. let one = lane.1.1 straight in let other = ends_low position e straight in omega (arith, one, other))) h.lanes;
@@ -361,7 +361,7 @@ module _ (d : Drawn) (limit : Side → ℕ) (few : (s : Side) → limit s < 2 ^ 
       ),
     )
 
-    abbrev pub keep : SegmentsKeep d (OpensBy S) IsGood BookGood LanesFine
+    abbrev pub keep : SegmentsKeep d (OpensBy S) IsGood BookGood LanesFine NothingMore
     keep = record {
       own = λ seen g. g.fine.own;
       new_lanes = λ path. record { opener = new_lane path A; other = new_lane path B };
@@ -382,7 +382,7 @@ module _ (d : Drawn) (limit : Side → ℕ) (few : (s : Side) → limit s < 2 ^ 
             seen = (h s).seen;
             fin = (h s).fin;
           }) h;
-      flow = λ at packet seen g index flow f opens belongs is keys left k h lanes.
+      flow = λ at packet seen g index flow f opens belongs is keys left k h lanes more.
           flow_so at packet seen g index flow f opens belongs is keys left k (record { book = h; lanes = lanes });
     }
 

@@ -21,7 +21,7 @@ use Rattle.judge_rules.specs.declared.finding.Rule.{Rule}
 use Rattle.judge_rules.specs.declared.finding.Rule.TheVariants as rule
 use Rattle.judge_rules.specs.declared.mappings.Line.{Line}
 use Rattle.judge_rules.specs.declared.mappings.Offer.{Offer}
-use Rattle.judge_rules.specs.Acks.{ack_by, ack_place, behind_fin, not_below}
+use Rattle.judge_rules.specs.Acks.{ack_by, ack_place, behind_fin, most_seen, not_below}
 use Rattle.judge_rules.specs.declared.acks.AckFacts.{AckFacts}
 use Rattle.judge_rules.specs.Clashes.{clash_by, first_clash}
 use Rattle.judge_rules.specs.Mappings.{fin_fault, fin_told, is_too_early, mapped_octets, mapped_place, natural, offer_of}
@@ -639,7 +639,7 @@ module _ (limit : ℕ) (few : limit < 2 ^ 31) (content : ℕ → ℕ) where
         → most ≤ behind_fin facts.fin facts.whole → IfSome facts.highest (λ highest. highest ≤ most) → ack_place facts number ≡ Ok most
     ack_so facts number is few small behind on =
         ap (ack_by facts number) (near_so facts.first facts.top most number is few small)
-        ∙ ap (λ (b : Bool). if b then Err (NotSeen most (behind_fin facts.fin facts.whole)) else not_below facts.highest most) (le-ltb (behind_fin facts.fin facts.whole) most behind)
+        ∙ ap (λ (b : Bool). if b then Err (NotSeen most (most_seen facts)) else not_below facts.highest most) (le-ltb (most_seen facts) most (omega (arith, behind)))
         ∙ highest facts.highest on
       where
         highest : (o : Option ℕ) → IfSome o (λ highest. highest ≤ most) → not_below o most ≡ Ok most
@@ -650,7 +650,7 @@ module _ (limit : ℕ) (few : limit < 2 ^ 31) (content : ℕ → ℕ) where
         → Fine (acked_one facts known peers option acked).stream (acked_one facts known peers option acked).lane
     acked_one_so facts known peers (Dss (Some number) mapping fin) acked is h =
         subst (λ (r : Result ℕ Finding). Fine (acked_by r facts.packet (ack_counted acked)).stream (acked_by r facts.packet (ack_counted acked)).lane)
-        (sym (ack_so (ack_facts facts.at_sender known peers acked.lane) number is.0 is.1 is.2 is.3 (on facts.at_sender))) (
+        (sym (ack_so (ack_facts facts.at_sender facts.plain known peers acked.lane) number is.0 is.1 is.2 is.3 (on facts.at_sender))) (
           record { infinite = h.0.infinite; fin = h.0.fin; top = h.0.top; octets = h.0.octets; below = h.0.below; there = h.0.there; untold = h.0.untold },
           record { line = h.1.line; placed = h.1.placed; octets = h.1.octets; there = h.1.there; waiting = h.1.waiting; acked = (let low = h.1.acked in omega (arith, low)); top = h.1.top },
         )

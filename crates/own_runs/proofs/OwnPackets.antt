@@ -46,7 +46,7 @@ sender_so d seen own flow f belongs is = ap (λ (b : Bool). if b then belongs.op
     by B = ap peer is
 
 -- lanes that are there once one more may be
-grown_item : {X : Type 0} → (count : ℕ) (one : X) (xs : List X) (i : ℕ) (x : X) → slice_get (grown_to count one xs) i ≡ Some x → (x ≡ one) ⊎ (slice_get xs i ≡ Some x)
+pub grown_item : {X : Type 0} → (count : ℕ) (one : X) (xs : List X) (i : ℕ) (x : X) → slice_get (grown_to count one xs) i ≡ Some x → (x ≡ one) ⊎ (slice_get xs i ≡ Some x)
 grown_item {X} count one xs i x = by (nat_lt (length xs) count)
   where
     last : (n : ℕ) → slice_get (one ∷ []) n ≡ Some x → x ≡ one
@@ -57,6 +57,10 @@ grown_item {X} count one xs i x = by (nat_lt (length xs) count)
     by true at = ⊎_elim (λ old. inr old) (λ new. inl (last (i - length xs) new.1)) (in_append xs (one ∷ []) i x at)
     by false at = inr at
 
+-- nothing is known of a flow's book and lanes beside what holds of each
+abbrev pub NothingMore : ℕ → ℕ → Left → Type 0
+NothingMore path index left = Unit {0}
+
 module _ (d : Drawn) (F : Flow → Type 0) (P : Seen → Type 0) (B : BookValue → Type 0) (L : ℕ → LanesValue → Type 0) where
   -- what a segment on a path leaves
   pub record IsLeft (path : ℕ) (told : Told) : Type 0 where
@@ -64,13 +68,13 @@ module _ (d : Drawn) (F : Flow → Type 0) (P : Seen → Type 0) (B : BookValue 
     pub book : B told.left.book
     pub lanes : L path told.left.lanes
 
-  -- each segment of the connection, in its flow
-  pub record SegmentsKeep : Type 0 where
+  -- each segment of the connection, in its flow, where so much is known of the flow's book and lanes, by its path and its index
+  pub record SegmentsKeep (K : ℕ → ℕ → Left → Type 0) : Type 0 where
     pub own : (seen : Seen) → P seen → IsOwn d seen
     pub new_lanes : (path : ℕ) → L path empty_lanes
     pub token : (wrong : WrongToken) (book : BookValue) → B book → B (token_told wrong book)
     pub flow : (at : Option Side) (packet : ℕ) (seen : Seen) (p : P seen) (index : ℕ) (flow : Flow) → FlowOn d (own seen p).path flow → F flow → (belongs : Belongs)
-        → belongs.opener ≡ A → (keys : Keys) (left : Left) → KeysOwn d keys → B left.book → L (own seen p).path left.lanes
+        → belongs.opener ≡ A → (keys : Keys) (left : Left) → KeysOwn d keys → B left.book → L (own seen p).path left.lanes → K (own seen p).path index left
         → IsLeft (own seen p).path (judged_flow at packet seen index flow belongs keys left)
 
   -- lanes of a flow of a path
@@ -93,11 +97,16 @@ module _ (d : Drawn) (F : Flow → Type 0) (P : Seen → Type 0) (B : BookValue 
   abbrev pub NewBook : JudgedValue → ℕ → Seen → Type 0
   NewBook state packet seen = nat_lt (length state.books) (length (taken state.seen packet seen true).now.connections) ≡ true → B empty_book
 
+  -- so much is known of each flow of a path
+  abbrev pub AreKnown : (ℕ → ℕ → Left → Type 0) → ℕ → JudgedValue → Type 0
+  AreKnown K path state = (index : ℕ) (flow : Flow) → slice_get state.seen.flows index ≡ Some flow → flow.opener ≡ end_of path A → (c : ℕ) (book : BookValue) → slice_get state.books c ≡ Some book
+      → (lanes : LanesValue) → slice_get state.lanes index ≡ Some lanes → K path index (record { book = book; lanes = lanes })
+
   -- a packet with a segment of the connection
   abbrev pub PacketIs : Captured → Type 0
   PacketIs packet = IfSome (segment_in_packet packet) P
 
-  module _ (keep : SegmentsKeep) where
+  module _ {K : ℕ → ℕ → Left → Type 0} (keep : SegmentsKeep K) where
     module _ (at : Option Side) (packet : ℕ) (seen : Seen) (p : P seen) where
       abbrev own : IsOwn d seen
       own = keep.own seen p
@@ -129,12 +138,13 @@ module _ (d : Drawn) (F : Flow → Type 0) (P : Seen → Type 0) (B : BookValue 
 
       known_so : (index : ℕ) (flow : Flow) (f : On flow) (belongs : Belongs) → belongs.opener ≡ A → (keys : Option Keys) (book : Option BookValue)
           (lanes : Option LanesValue) (state : JudgedValue) → slice_get state.seen.flows index ≡ Some flow → slice_get state.seen.connections belongs.connection ≡ keys → slice_get state.books belongs.connection ≡ book
-          → slice_get state.lanes index ≡ lanes → AllHold state → AllHold (judged_known at packet seen index flow belongs keys book lanes state)
-      known_so index flow f belongs is (Some keys) (Some book) (Some lanes) state has_flow has_keys has_book has_lanes all =
+          → slice_get state.lanes index ≡ lanes → AreKnown K own.path state → AllHold state → AllHold (judged_known at packet seen index flow belongs keys book lanes state)
+      known_so index flow f belongs is (Some keys) (Some book) (Some lanes) state has_flow has_keys has_book has_lanes known all =
           let left : Left = record { book = book; lanes = lanes } in
           let told = judged_flow at packet seen index flow belongs keys left in
           let it = keep.flow at packet seen p index flow f.0 f.1 belongs is keys left (all.seen.connections belongs.connection keys has_keys)
-          (all.books belongs.connection book has_book) (lanes_so index flow f.0 state.seen.flows has_flow lanes (all.lanes index lanes has_lanes)) in
+          (all.books belongs.connection book has_book) (lanes_so index flow f.0 state.seen.flows has_flow lanes (all.lanes index lanes has_lanes))
+          (known index flow has_flow f.0.opener belongs.connection book has_book lanes has_lanes) in
           let flows_same = key_flows belongs.connection keys.a told.keys.a state.seen in
           record {
             seen = key_so d belongs.connection keys.a told.keys.a state.seen it.keys.a all.seen;
@@ -142,21 +152,21 @@ module _ (d : Drawn) (F : Flow → Type 0) (P : Seen → Type 0) (B : BookValue 
             lanes = subst (λ (flows : List Flow). LanesHold flows (set state.lanes index told.left.lanes)) (sym flows_same)
                 (λ i new at. set_so index flow f.0 state.seen.flows has_flow told.left.lanes it.lanes i new state.lanes all.lanes (set_item state.lanes index i told.left.lanes new at));
           }
-      known_so index flow f belongs is (Some keys) (Some book) None state has_flow has_keys has_book has_lanes all = all
-      known_so index flow f belongs is (Some keys) None lanes state has_flow has_keys has_book has_lanes all = all
-      known_so index flow f belongs is None book lanes state has_flow has_keys has_book has_lanes all = all
+      known_so index flow f belongs is (Some keys) (Some book) None state has_flow has_keys has_book has_lanes known all = all
+      known_so index flow f belongs is (Some keys) None lanes state has_flow has_keys has_book has_lanes known all = all
+      known_so index flow f belongs is None book lanes state has_flow has_keys has_book has_lanes known all = all
 
       belonging_so : (index : ℕ) (flow : Flow) (f : On flow) (belongs : Option Belongs) → IfSome belongs (λ b. b.opener ≡ A) → (state : JudgedValue)
-          → slice_get state.seen.flows index ≡ Some flow → AllHold state → AllHold (judged_belonging at packet seen index flow belongs state)
-      belonging_so index flow f None is state there all = all
-      belonging_so index flow f (Some belongs) is state there all =
+          → slice_get state.seen.flows index ≡ Some flow → AreKnown K own.path state → AllHold state → AllHold (judged_belonging at packet seen index flow belongs state)
+      belonging_so index flow f None is state there known all = all
+      belonging_so index flow f (Some belongs) is state there known all =
           known_so index flow f belongs is (slice_get state.seen.connections belongs.connection) (slice_get state.books belongs.connection) (slice_get state.lanes index)
-          state there refl refl refl all
+          state there refl refl refl known all
 
-      in_flow_so : (index : ℕ) (flow : Option Flow) → IfSome flow On → (state : JudgedValue) → slice_get state.seen.flows index ≡ flow → AllHold state
+      in_flow_so : (index : ℕ) (flow : Option Flow) → IfSome flow On → (state : JudgedValue) → slice_get state.seen.flows index ≡ flow → AreKnown K own.path state → AllHold state
           → AllHold (judged_in_flow at packet seen index flow state)
-      in_flow_so index None f state there all = all
-      in_flow_so index (Some flow) f state there all = belonging_so index flow f flow.belongs f.0.belongs state there all
+      in_flow_so index None f state there known all = all
+      in_flow_so index (Some flow) f state there known all = belonging_so index flow f flow.belongs f.0.belongs state there known all
 
       token_so : (book : Option BookValue) (wrong : WrongToken) (books : List BookValue) → slice_get books wrong.belongs.connection ≡ book → Each B books
           → Each B (token_in book wrong books)
@@ -174,20 +184,23 @@ module _ (d : Drawn) (F : Flow → Type 0) (P : Seen → Type 0) (B : BookValue 
       wrong_flows (Some wrong) state = refl
 
       place_at : (place : Option Place) (state : JudgedValue) → IfSome place (λ p. (flow : Flow) → slice_get state.seen.flows p.flow ≡ Some flow → On flow)
-          → AllHold state → AllHold (judged_place at packet seen place state)
-      place_at None state on all = all
-      place_at (Some place) state on all =
+          → AllHold state → ((wrong : Option WrongToken) → AllHold (with_wrong_token wrong state) → (path : ℕ) → AreKnown K path (with_wrong_token wrong state)) → AllHold (judged_place at packet seen place state)
+      place_at None state on all knows = all
+      place_at (Some place) state on all knows =
+          let held = wrong_so place.wrong_token state all in
           let told = with_wrong_token place.wrong_token state in
           in_flow_so place.flow (slice_get told.seen.flows place.flow)
           (found (slice_get told.seen.flows place.flow) (ap (λ (x : SeenFlows). slice_get x.flows place.flow) (wrong_flows place.wrong_token state)))
-          told refl (wrong_so place.wrong_token state all)
+          told refl (knows place.wrong_token held own.path) held
         where
           found : (o : Option Flow) → o ≡ slice_get state.seen.flows place.flow → IfSome o On
           found None same = tt
           found (Some flow) same = on flow (sym same)
 
-      pub segment_so : (state : JudgedValue) → NewBook state packet seen → Each F (taken state.seen packet seen true).now.flows → AllHold state → AllHold (judged at true state packet seen)
-      segment_so state new flows all =
+      pub segment_so : (state : JudgedValue) → NewBook state packet seen → Each F (taken state.seen packet seen true).now.flows → AllHold state
+          → ((wrong : Option WrongToken) → AllHold (with_wrong_token wrong (grown (taken state.seen packet seen true).now state)) → (path : ℕ) → AreKnown K path (with_wrong_token wrong (grown (taken state.seen packet seen true).now state)))
+          → AllHold (judged at true state packet seen)
+      segment_so state new flows all knows =
           subst (λ (b : Bool). AllHold (judged_taken at packet seen (taken state.seen packet seen b) state)) (sym good)
           (place_at (taken state.seen packet seen true).place (grown now state) (on_place (taken state.seen packet seen true).place (place_so d state.seen packet seen own all.seen))
           (record {
@@ -195,7 +208,7 @@ module _ (d : Drawn) (F : Flow → Type 0) (P : Seen → Type 0) (B : BookValue 
             books = grown_each B (length now.connections) empty_book state.books all.books new;
             lanes = λ i lanes at. ⊎_elim (λ empty. inl empty) (λ old. ⊎_elim (λ empty. inl empty) (λ bound. inr (bound_on i lanes bound)) (all.lanes i lanes old))
                 (grown_item (length now.flows) empty_lanes state.lanes i lanes at);
-          }))
+          }) knows)
         where
           now : SeenFlows
           now = (taken state.seen packet seen true).now

@@ -278,7 +278,7 @@ module _ {H : List BrokenValue → Type 0} (keep : OthersKeep H) where
   acked_one_so : (facts : Facts) (known : ℕ) (peers : StreamValue) (option : OptionValue) (acked : Acked) → H acked.stream.broken
       → H (acked_one facts known peers option acked).stream.broken
   acked_one_so facts known peers (Dss (Some number) mapping fin) acked h =
-      acked_by_so (ack_place (ack_facts facts.at_sender known peers acked.lane) number) facts.packet (ack_counted acked) h
+      acked_by_so (ack_place (ack_facts facts.at_sender facts.plain known peers acked.lane) number) facts.packet (ack_counted acked) h
   acked_one_so facts known peers option acked h = h
 
   acked_so : (facts : Facts) (known : ℕ) (peers : StreamValue) (options : List OptionValue) (acked : Acked) → H acked.stream.broken

@@ -21,7 +21,7 @@ use Rattle.rule_book.specs.Facts.{Facts, own_base, own_lane}
 use Rattle.rule_book.specs.Judged.{Told, empty_book, judged_flow, judged_formed, judged_opened, judged_side, nothing_judged, opened_facts}
 use Rattle.rule_book.specs.Signals.{KeyedValue, judged_options, told_formless}
 use Rattle.rule_book.specs.State.{BookValue, stream_at, with_stream}
-use Rattle.rule_book.specs.Stream.{Left, gap_counted, judged_at, judged_from, judged_positions}
+use Rattle.rule_book.specs.Stream.{Left, gap_counted, judged_at, judged_from, judged_positions, with_plain}
 use Rattle.capture_verdict.specs.Judging.{judged_packets}
 use Rattle.judge_laws.specs.GoesOn.{broke, stream_in}
 use Rattle.judge_rules.specs.Mappings.{offer_of}
@@ -145,8 +145,8 @@ module _ (d : Drawn) where
             let own_stream = stream_at facts.side left.book in
             let lane = own_lane facts left.lanes in
             let gone = (gap_counted facts left).book in
-            with_untold facts.side (judged_at facts position options keys (stream_at (peer facts.side) left.book) own_stream lane).stream gone
-            (at_so (others_keep is_option) facts position options keys (stream_at (peer facts.side) left.book) own_stream lane
+            with_untold facts.side (judged_at (with_plain options left facts) position options keys (stream_at (peer facts.side) left.book) own_stream lane).stream gone
+            (at_so (others_keep is_option) (with_plain options left facts) position options keys (stream_at (peer facts.side) left.book) own_stream lane
             (fit_so facts initial position options (at_number position (numbered (own_base facts) (own_lane facts left.lanes) facts.seen.segment.head.seq facts.seen.payload_len position e)) maps)
             (h facts.side))
             (gaps_untold gone.gaps left.book h)

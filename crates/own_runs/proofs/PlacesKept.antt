@@ -21,7 +21,7 @@ use Rattle.rule_book.specs.Facts.{Facts, first_of, own_base, own_lane}
 use Rattle.rule_book.specs.Judged.{Told, empty_book, judged_flow, judged_formed, judged_opened, judged_side, nothing_judged, opened_facts}
 use Rattle.rule_book.specs.Signals.{KeyedValue, judged_options, told_formless}
 use Rattle.rule_book.specs.State.{BookValue, JudgedValue, LanesValue, stream_at, with_stream}
-use Rattle.rule_book.specs.Stream.{Left, gap_counted, judged_at, judged_from, judged_positions}
+use Rattle.rule_book.specs.Stream.{Left, gap_counted, judged_at, judged_from, judged_positions, with_plain}
 use Rattle.seen_connections.specs.Connections.{key_of, taken}
 use Rattle.seen_connections.specs.SeenOptions.{Readable, SeenValue, seen_options}
 use Rattle.seen_connections.specs.declared.connections.Keys.{Keys}
@@ -41,7 +41,7 @@ use Rattle.own_runs.proofs.MapPositions.{Bears}
 use Rattle.own_runs.proofs.Own.{Drawn, IsOwn, ValueIs, is_a, own_initial, own_key}
 use Rattle.own_runs.proofs.OwnFlows.{Each, FlowOn, KeysOwn, NonceIs}
 use Rattle.own_runs.proofs.OwnOptions.{IsOf, key_is, options_so, readable_so}
-use Rattle.own_runs.proofs.OwnPackets.{AllHold, IsLeft, PacketIs, SegmentsKeep, opens_so, segment_so, sender_so}
+use Rattle.own_runs.proofs.OwnPackets.{AllHold, IsLeft, NothingMore, PacketIs, SegmentsKeep, opens_so, segment_so, sender_so}
 use Rattle.own_runs.proofs.OwnUntold.{base_so, numbered}
 use Rattle.own_runs.proofs.Telling.{others_keep}
 use Rattle.own_runs.proofs.TokenState.{nothing_holds}
@@ -151,8 +151,8 @@ module _ (calm : Bool) (d : Drawn) (limit : Side → ℕ) (few : (s : Side) → 
             let own_stream = stream_at facts.side left.book in
             let its_lane = own_lane facts left.lanes in
             let gone = (gap_counted facts left).book in
-            let it = judged_at facts position options keys (stream_at (peer facts.side) left.book) own_stream its_lane in
-            let placed = at_so calm (limit facts.side) (few facts.side) (content facts.side) (first_at facts.side) (where_at own.path facts.side) facts position options keys
+            let it = judged_at (with_plain options left facts) position options keys (stream_at (peer facts.side) left.book) own_stream its_lane in
+            let placed = at_so calm (limit facts.side) (few facts.side) (content facts.side) (first_at facts.side) (where_at own.path facts.side) (with_plain options left facts) position options keys
             (stream_at (peer facts.side) left.book) own_stream its_lane (first_so facts.side keys k) (all position same) none
             (subst (λ (x : Seen). Bears (λ q. content facts.side (where_at own.path facts.side q)) position x.segment.payload) (sym sees) (bears position same)) (h.book facts.side, lane) in
             record {
@@ -218,7 +218,7 @@ module _ (calm : Bool) (d : Drawn) (limit : Side → ℕ) (few : (s : Side) → 
   new_lane path s =
       record { placed = λ p. tt; octets = λ p. tt; waiting = All-nil (IsWaiting calm (limit s) (few s) (content s) (first_at s) (where_at path s)) }
 
-  keep : SegmentsKeep d Any IsTelling BookPlaced LanesPlaced
+  keep : SegmentsKeep d Any IsTelling BookPlaced LanesPlaced NothingMore
   keep = record {
     own = λ seen p. p.own;
     new_lanes = λ path. record { opener = new_lane path A; other = new_lane path B };
@@ -229,7 +229,7 @@ module _ (calm : Bool) (d : Drawn) (limit : Side → ℕ) (few : (s : Side) → 
           top = was.top;
           untold = others_keep (is_place calm) rule.Token wrong.packet (Found (Number32 wrong.expected wrong.was)) (stream_at s book).broken refl was.untold;
         }) h;
-    flow = λ at packet seen p index flow f any belongs is keys left k h lanes.
+    flow = λ at packet seen p index flow f any belongs is keys left k h lanes more.
         flow_so at packet seen p index flow f belongs is keys left k (record { book = h; lanes = lanes });
   }
 
@@ -253,6 +253,7 @@ module _ (calm : Bool) (d : Drawn) (limit : Side → ℕ) (few : (s : Side) → 
       by None is = h
       by (Some seen) p =
           segment_so d Any IsTelling BookPlaced LanesPlaced keep at n seen p state (λ more. new_placed) (any (taken state.seen n seen true).now.flows) h
+          (λ wrong held path index flow there opener c book at_book lanes at_lanes. tt)
 
   begins : Holds nothing_judged
   begins = record { seen = (nothing_holds d).own; books = λ i book at. absurd (none i at); lanes = λ i lanes at. absurd (none i at) }

@@ -1,6 +1,6 @@
 -- Whatever a script does, what the judge finds of a side's stream is of the side's file: each octet that was seen is there, at its place, and the
 -- DATA_FIN stands behind the last one.
-use Rattle.std.proofs.Common.{◌≡◌, refl, sym, ap, ◌∙◌, subst, ℕ, ◌+◌, ◌<◌, ◌^◌, true, Option, Some, None, is_some, option_map, List, [], ◌∷◌, ◌++◌, append-nil, length, length-append, arith}
+use Rattle.std.proofs.Common.{◌≡◌, refl, sym, ap, ◌∙◌, subst, ℕ, ◌+◌, ◌<◌, ◌^◌, true, false, Option, Some, None, is_some, option_map, List, [], ◌∷◌, ◌++◌, append-nil, length, length-append, arith}
 use Rattle.std.specs.Prelude.{IfSome, get_or}
 use Rattle.std.specs.List.{slice_get}
 use Rattle.std.proofs.lemmas.Bool.{false≢true}
@@ -26,7 +26,7 @@ all_of_it octets file begins same =
     nothing [] none = refl
     nothing (x ∷ xs) none = absurd (omega (arith, none))
 
-module _ (file : List ℕ) (few : length file < 2 ^ 31) (stream : StreamValue) (h : StreamLined true (length file) few (λ q. get_or file q 0) stream) where
+module _ (file : List ℕ) (few : length file < 2 ^ 31) (stream : StreamValue) (h : StreamLined true false (length file) few (λ q. get_or file q 0) stream) where
   begins : (octets : List ℕ) → IsSent stream.octet octets → IsPrefix octets file
   begins octets sent = all_same octets file (λ i below. by i (stream.octet i) (h.octets i)
       (subst (λ (k : ℕ). option_map (λ (o : Octet). o.octet) (stream.octet k) ≡ Some (get_or octets i 0)) (let same : 0 + i ≡ i = omega arith in same) (sent.held i below)))

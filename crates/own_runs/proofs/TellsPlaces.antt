@@ -1,11 +1,11 @@
 -- What each segment of a trace maps and bears, whatever its script does: each finite mapping lies within its side's file, gives its positions the places
 -- that they have at the end of the run, and has the checksum of the octets of these places, and each payload has these octets. So does an infinite mapping
 -- give the positions behind it their places, or it stands behind the FIN (RFC 8684, section 3.7).
-use Rattle.std.proofs.Common.{◌≡◌, refl, sym, ap, ◌∙◌, subst, ℕ, suc, ◌+◌, ◌-◌, ◌≤◌, ◌<◌, ◌^◌, ◌⊎◌, not, inl, inr, ⊎_elim, Bool, true, false, if◌then◌else◌, Option, Some, None, List, [], ◌++◌, length, length-append, take, drop, arith}
+use Rattle.std.proofs.Common.{◌≡◌, refl, sym, ap, ◌∙◌, subst, ℕ, zero, suc, ◌+◌, ◌-◌, ◌≤◌, ◌<◌, ◌^◌, ◌⊎◌, not, inl, inr, ⊎_elim, Bool, true, false, if◌then◌else◌, Option, Some, None, List, [], ◌++◌, length, length-append, take, drop, arith}
 use Rattle.std.specs.Prelude.{get_or}
 use Rattle.std.specs.Option.{IfSome}
 use Rattle.std.specs.List.{slice_get}
-use Rattle.std.proofs.lemmas.Bool.{false≢true}
+use Rattle.std.proofs.lemmas.Bool.{both_ways, false≢true}
 use Rattle.std.proofs.lemmas.List.{get_or-drop, get_or-take}
 use Rattle.actor_desk.specs.Books.{books_in}
 use Rattle.actor_desk.specs.Desk.{SixBooks}
@@ -71,20 +71,30 @@ use Rattle.own_runs.proofs.Values.{drawn}
 
 -- ---- by the lanes of the last moment
 
-module _ (start : Start) (Fails : Type 0) (last : Duo) where
+module _ (start : Start) (last : Duo) where
   -- a payload, at positions that the lane has
   abbrev pub Bearing : ℕ → Side → PlainSegment → Type 0
   Bearing path s sg = IsBorne start last path s sg.position sg.payload × (sg.position + length sg.payload ≤ suc (upto_of (lane_of last path s)))
 
-  -- each option of a segment maps such, an infinite mapping, too, and MP_FAIL is told where so much holds
+-- each option of a segment maps such, an infinite mapping, too, of which so much is known, and MP_FAIL is told where so much holds
+module _ (start : Start) (Told : Duo → ℕ → Side → ℕ → ℕ → Type 0) (Fails : Type 0) (last : Duo) where
   abbrev pub Tells : ℕ → Side → PlainSegment → Type 0
-  Tells path s sg = AllFine (file_len start) (IsMapped start last path) (LineAt start last path) Fails s sg.options × Carries (Bearing path) s sg
+  Tells path s sg = AllFine (file_len start) (IsMapped start last path) (LineAt start Told last path) Fails s sg.options × Carries (Bearing start last path) s sg
+
+-- So much is known of the infinite mappings of this moment: in plain TCP of that of each position, where a side fell back on path 0 and no join was ever
+-- answered; and of an end's own one, where links may alter payload.
+pub record LinesKnown (Told : Duo → ℕ → Side → ℕ → ℕ → Type 0) (alters : Bool) (last : Duo) (v : WorldState Carried) : Type 0 where
+  pub plain : (n : ℕ) (x : Walker Carried) → slice_get v.crew (suc (suc n)) ≡ Some (walking x) → (s : Side) → n ≡ 0 → (end_at s x.path).modes.identity ≡ true
+      → not last.modes.answered ≡ true → (position : ℕ) → 1 ≤ position → Told last n s (position - 1) position
+  pub own : (n : ℕ) (x : Walker Carried) → slice_get v.crew (suc (suc n)) ≡ Some (walking x) → alters ≡ true → (s : Side) (m : InfiniteMapping)
+      → (end_at s x.path).modes.own_infinite ≡ Some m → Told last n s m.place m.position
 
 -- ---- a path at a moment
 
 -- links that alter payload only where MP_FAIL may be told
-module _ (start : Start) (can : MayCarry start) (Fails : Type 0) (failing : can.links.alters ≡ true → Fails) (turns : List Turn) (size : HasRoom start) (fit : NumbersFit start) (last : Duo)
-    (q : Reached can.links start (world_run values turns (opened_world start))) (grown : Grows (duo_at start can (world_run values turns (opened_world start)) q) last) (ended : AtLast start last) where
+module _ (start : Start) (can : MayCarry start) (Told : Duo → ℕ → Side → ℕ → ℕ → Type 0) (Fails : Type 0) (failing : can.links.alters ≡ true → Fails) (turns : List Turn) (size : HasRoom start) (fit : NumbersFit start) (last : Duo)
+    (q : Reached can.links start (world_run values turns (opened_world start))) (grown : Grows (duo_at start can (world_run values turns (opened_world start)) q) last) (ended : AtLast start last)
+    (lines : LinesKnown Told can.links.alters last (world_run values turns (opened_world start))) where
   abbrev v : WorldState Carried
   v = world_run values turns (opened_world start)
 
@@ -131,10 +141,19 @@ module _ (start : Start) (can : MayCarry start) (Fails : Type 0) (failing : can.
     told : PathTells c p
     told = (always_tells start turns size fit).members (suc (suc n)) (walking x) here there.plan there.plan_there
 
+    is_steady : PathIsSteady (books_in v.books) n p
+    is_steady = (always_steady start turns).each n (walking x) here
+
     steady : n ≡ 0 → six.control_b.fall.joined ≡ true → p.a.modes.clear ≡ true
-    steady =
-        let is : PathIsSteady (books_in v.books) n p = (always_steady start turns).each n (walking x) here in
-        subst (λ (w : WorldState Carried). n ≡ 0 → (books_in w.books).control_b.fall.joined ≡ true → p.a.modes.clear ≡ true) h.is is.clear
+    steady = subst (λ (w : WorldState Carried). n ≡ 0 → (books_in w.books).control_b.fall.joined ≡ true → p.a.modes.clear ≡ true) h.is is_steady.clear
+
+    -- plain TCP runs on path 0
+    first_path : (s : Side) → (end_at s p).modes.identity ≡ true → n ≡ 0
+    first_path s fell = by n is_steady.mode
+      where
+        by : (number : ℕ) → ((m : ℕ) → number ≡ suc m → (s : Side) → (end_at s p).modes.identity ≡ false) → number ≡ 0
+        by zero none = refl
+        by (suc m) none = absurd (both_ways (end_at s p).modes.identity (none m refl s) fell)
 
     -- an end, by what it shows on its lanes
     module _ (s : Side) (e : PathEnd) (out back : Lane) (view : View) (shown : EndShows c s e out back) (hold : LaneHolds view n out) (tells : EndTells c s e)
@@ -142,7 +161,8 @@ module _ (start : Start) (can : MayCarry start) (Fails : Type 0) (failing : can.
         (later : Lane) (later_there : lane_of last n s ≡ Some later) (longer : Longer out later) (first_is : BeginsFirst s e out)
         (pieces : Every (IsPart c s (pick s start.file_a start.file_b)) e.tcp.send.records) (alters : out.alters ≡ can.links.alters)
         (view_last : View) (hold_last : LaneHolds view_last n later) (most : length view_last.written ≤ file_len start s) (closed : (k : ℕ) → view_last.end ≡ Some k → k ≡ file_len start s)
-        (alone : e.modes.identity ≡ true → view_last.alone ≡ true) where
+        (alone : e.modes.identity ≡ true → view_last.alone ≡ true) (plain_told : e.modes.identity ≡ true → (position : ℕ) → 1 ≤ position → Told last n s (position - 1) position)
+        (own_told : can.links.alters ≡ true → (m : InfiniteMapping) → e.modes.own_infinite ≡ Some m → Told last n s m.place m.position) where
       abbrev first : ℕ
       first = first_number (own_key (drawn start) s)
 
@@ -173,23 +193,24 @@ module _ (start : Start) (can : MayCarry start) (Fails : Type 0) (failing : can.
           )
 
       -- its infinite mappings
-      on_last : (place position : ℕ) → LineOn (Some later) (file_len start s) place position → LineAt start last n s place position
+      on_last : (place position : ℕ) → LineOn (Some later) (file_len start s) place position → LineOn (lane_of last n s) (file_len start s) place position
       on_last place position is = subst (λ (o : Option Lane). LineOn o (file_len start s) place position) (sym later_there) is
 
-      told_line : (place position : ℕ) → PairTold out.pairs out.fins place position → LineAt start last n s place position
+      told_line : (place position : ℕ) → PairTold out.pairs out.fins place position → LineOn (lane_of last n s) (file_len start s) place position
       told_line place position (inl has) =
           let line = pair_line view_last n later hold_last (file_len start s) most closed has.at has.item (longer.says.pairs has.at has.item has.there) in
           on_last place position (subst (λ (q : ℕ). LineOn (Some later) (file_len start s) place q) has.holds.position_is (subst (λ (q : ℕ). LineOn (Some later) (file_len start s) q (suc has.item.pos)) has.holds.place_is line))
       told_line place position (inr has) = on_last place position (fin_line view_last n later hold_last (file_len start s) has.at has.item (longer.says.fins has.at has.item has.there) place position has.holds)
 
-      own_line : (o : Option InfiniteMapping) → IfSome o (OwnIs out.pair out.pairs out.fins out.alters) → IfSome o (λ m. LineAt start last n s m.place m.position)
-      own_line None is = tt
-      own_line (Some m) is = told_line m.place m.position is.told
+      own_line : (o : Option InfiniteMapping) → e.modes.own_infinite ≡ o → IfSome o (OwnIs out.pair out.pairs out.fins out.alters) → IfSome o (λ m. LineAt start Told last n s m.place m.position)
+      own_line None e is = tt
+      own_line (Some m) e is = (told_line m.place m.position is.told, own_told (sym alters ∙ is.may) m e)
 
-      plain_at : e.modes.identity ≡ true → (position : ℕ) → 1 ≤ position → LineAt start last n s (position - 1) position
-      plain_at fell position some = on_last (position - 1) position (plain_line view_last n later hold_last (file_len start s) closed (alone fell) position some)
+      plain_at : e.modes.identity ≡ true → (position : ℕ) → 1 ≤ position → LineAt start Told last n s (position - 1) position
+      plain_at fell position some =
+          (on_last (position - 1) position (plain_line view_last n later hold_last (file_len start s) closed (alone fell) position some), plain_told fell position some)
 
-      record_line : (kind : RecordKind) (r : Record) → KindShows c s out.alters out.sent out.datas out.fins kind r → PlainFine (file_len start) (IsMapped start last n) (LineAt start last n) Fails s e.modes.identity kind r
+      record_line : (kind : RecordKind) (r : Record) → KindShows c s out.alters out.sent out.datas out.fins kind r → PlainFine (file_len start) (IsMapped start last n) (LineAt start Told last n) Fails s e.modes.identity kind r
       record_line Syn r is fell not_syn = absurd (false≢true (sym not_syn))
       record_line Data r is fell not_syn = plain_at fell r.pos (let at = is.octets.holds.position_is in omega (arith, at))
       record_line Fin r is fell not_syn = plain_at fell r.pos (let at = is.1.holds in omega (arith, at))
@@ -205,24 +226,24 @@ module _ (start : Start) (can : MayCarry start) (Fails : Type 0) (failing : can.
       may_fail None is = tt
       may_fail (Some x) is = failing (sym alters ∙ is)
 
-      end_so : EndFine (file_len start) (IsMapped start last n) (LineAt start last n) Fails c s e
+      end_so : EndFine (file_len start) (IsMapped start last n) (LineAt start Told last n) Fails c s e
       end_so = record {
         fins = λ fell. plain_at fell (fin_position e.tcp.send) behind_first;
-        infinite = own_line e.modes.own_infinite shown.pairs.0;
+        infinite = own_line e.modes.own_infinite refl shown.pairs.0;
         told = may_fail e.modes.failed_mapping shown.pairs.4;
         telling = may_fail e.treated.failed_mapping shown.pairs.5;
-        known = known_so start last n there.plan s e out back view shown hold begins ends later later_there longer first_is (LineAt start last n) Fails;
-        ends = λ place is. end_told start last n there.plan s e out back view shown hold begins ends later later_there longer first_is (LineAt start last n) Fails place;
+        known = known_so start last n there.plan s e out back view shown hold begins ends later later_there longer first_is (LineAt start Told last n) Fails;
+        ends = λ place is. end_told start last n there.plan s e out back view shown hold begins ends later later_there longer first_is (LineAt start Told last n) Fails place;
         records = record {
           each = λ i r there_one. (
-            kind_so start last n there.plan s e out back view shown hold begins ends later later_there longer first_is (LineAt start last n) Fails r.kind r (shown.sender.pieces.each i r there_one)
+            kind_so start last n there.plan s e out back view shown hold begins ends later later_there longer first_is (LineAt start Told last n) Fails r.kind r (shown.sender.pieces.each i r there_one)
                 (tells.sender.records.each i r there_one).mapped,
             record_line r.kind r (shown.sender.pieces.each i r there_one),
           );
         };
       }
 
-      bears_so : RecordsCarry (Bearing start Fails last n) c s e
+      bears_so : RecordsCarry (Bearing start last n) c s e
       bears_so = record {
         each = λ i r there_one.
             let told = tells.sender.records.each i r there_one in
@@ -273,101 +294,131 @@ module _ (start : Start) (can : MayCarry start) (Fails : Type 0) (failing : can.
         let hold = holds.ba.lanes.each n n there.ba (omega arith) there.ba_there in
         fell_so (swapped (either_plain duo.modes.plain_b duo.modes.plain_a (hold.modes.sender (there.shows.b.sender.plain ∙ is))))
 
-    fine : (s : Side) → EndFine (file_len start) (IsMapped start last n) (LineAt start last n) Fails c s (end_at s p) × RecordsCarry (Bearing start Fails last n) c s (end_at s p)
+    plain_so : (s : Side) → ((end_at s p).modes.identity ≡ true → not last.modes.answered ≡ true) → (end_at s p).modes.identity ≡ true → (position : ℕ) → 1 ≤ position → Told last n s (position - 1) position
+    plain_so s alone fell = lines.plain n x here s (first_path s fell) fell (alone fell)
+
+    own_so : (s : Side) → can.links.alters ≡ true → (m : InfiniteMapping) → (end_at s p).modes.own_infinite ≡ Some m → Told last n s m.place m.position
+    own_so s may m is = lines.own n x here may s m is
+
+    fine : (s : Side) → EndFine (file_len start) (IsMapped start last n) (LineAt start Told last n) Fails c s (end_at s p) × RecordsCarry (Bearing start last n) c s (end_at s p)
     fine A =
         let hold = holds.ab.lanes.each n n there.ab (omega arith) there.ab_there in
         let later = grows.ab n there.ab there.ab_there in (
           end_so A p.a there.ab there.ba _ there.shows.a hold told.a writes_a.prefix (closed_so start.file_a six.send_a writes_a.whole) later.0 later.1 later.2 first_a (own_pieces A)
-              hold.link.alters_is (view_of (flags_ab last.modes) last.ab.send last.ab.arrived) (last_ab later.0 later.1) (ended.written A) (ended.closed A) alone_a,
+              hold.link.alters_is (view_of (flags_ab last.modes) last.ab.send last.ab.arrived) (last_ab later.0 later.1) (ended.written A) (ended.closed A) alone_a (plain_so A alone_a) (own_so A),
           bears_so A p.a there.ab there.ba _ there.shows.a hold told.a writes_a.prefix (closed_so start.file_a six.send_a writes_a.whole) later.0 later.1 later.2 first_a (own_pieces A)
-              hold.link.alters_is (view_of (flags_ab last.modes) last.ab.send last.ab.arrived) (last_ab later.0 later.1) (ended.written A) (ended.closed A) alone_a,
+              hold.link.alters_is (view_of (flags_ab last.modes) last.ab.send last.ab.arrived) (last_ab later.0 later.1) (ended.written A) (ended.closed A) alone_a (plain_so A alone_a) (own_so A),
         )
     fine B =
         let hold = holds.ba.lanes.each n n there.ba (omega arith) there.ba_there in
         let later = grows.ba n there.ba there.ba_there in (
           end_so B p.b there.ba there.ab _ there.shows.b hold told.b writes_b.prefix (closed_so start.file_b six.send_b writes_b.whole) later.0 later.1 later.2
-              (λ own unclear place len has. absurd (false≢true own)) (own_pieces B) hold.link.alters_is (view_of (flags_ba last.modes) last.ba.send last.ba.arrived) (last_ba later.0 later.1) (ended.written B) (ended.closed B) alone_b,
+              (λ own unclear place len has. absurd (false≢true own)) (own_pieces B) hold.link.alters_is (view_of (flags_ba last.modes) last.ba.send last.ba.arrived) (last_ba later.0 later.1) (ended.written B) (ended.closed B) alone_b (plain_so B alone_b) (own_so B),
           bears_so B p.b there.ba there.ab _ there.shows.b hold told.b writes_b.prefix (closed_so start.file_b six.send_b writes_b.whole) later.0 later.1 later.2
-              (λ own unclear place len has. absurd (false≢true own)) (own_pieces B) hold.link.alters_is (view_of (flags_ba last.modes) last.ba.send last.ba.arrived) (last_ba later.0 later.1) (ended.written B) (ended.closed B) alone_b,
+              (λ own unclear place len has. absurd (false≢true own)) (own_pieces B) hold.link.alters_is (view_of (flags_ba last.modes) last.ba.send last.ba.arrived) (last_ba later.0 later.1) (ended.written B) (ended.closed B) alone_b (plain_so B alone_b) (own_so B),
         )
 
-    offers : PathAlso (Tells start Fails last) p
-    offers = subst (λ (k : ℕ). IfSome (first_sends p.agenda p) (λ t. Tells start Fails last k t.from (segment_sent p t))) (sym there.numbered) (by (first_sends p.agenda p) maps carries)
+    offers : PathAlso (Tells start Told Fails last) p
+    offers = subst (λ (k : ℕ). IfSome (first_sends p.agenda p) (λ t. Tells start Told Fails last k t.from (segment_sent p t))) (sym there.numbered) (by (first_sends p.agenda p) maps carries)
       where
-        maps : IfSome (first_sends p.agenda p) (λ t. AllFine (file_len start) (IsMapped start last n) (LineAt start last n) Fails t.from (segment_sent p t).options)
+        maps : IfSome (first_sends p.agenda p) (λ t. AllFine (file_len start) (IsMapped start last n) (LineAt start Told last n) Fails t.from (segment_sent p t).options)
         maps =
-            first_fine_sent (file_len start) (IsMapped start last n) (LineAt start last n) Fails p
-            (λ s. subst (λ (d : Profile). EndFine (file_len start) (IsMapped start last n) (LineAt start last n) Fails d s (end_at s p)) (sym there.shows.profile) (fine s).0) p.agenda
+            first_fine_sent (file_len start) (IsMapped start last n) (LineAt start Told last n) Fails p
+            (λ s. subst (λ (d : Profile). EndFine (file_len start) (IsMapped start last n) (LineAt start Told last n) Fails d s (end_at s p)) (sym there.shows.profile) (fine s).0) p.agenda
 
-        carries : IfSome (first_sends p.agenda p) (λ t. Carries (Bearing start Fails last n) t.from (segment_sent p t))
+        carries : IfSome (first_sends p.agenda p) (λ t. Carries (Bearing start last n) t.from (segment_sent p t))
         carries =
-            first_carries (Bearing start Fails last n) p
-            (λ s. subst (λ (d : Profile). RecordsCarry (Bearing start Fails last n) d s (end_at s p)) (sym there.shows.profile) (fine s).1) p.agenda
+            first_carries (Bearing start last n) p
+            (λ s. subst (λ (d : Profile). RecordsCarry (Bearing start last n) d s (end_at s p)) (sym there.shows.profile) (fine s).1) p.agenda
 
-        by : (o : Option ToSend) → IfSome o (λ t. AllFine (file_len start) (IsMapped start last n) (LineAt start last n) Fails t.from (segment_sent p t).options)
-            → IfSome o (λ t. Carries (Bearing start Fails last n) t.from (segment_sent p t)) → IfSome o (λ t. Tells start Fails last n t.from (segment_sent p t))
+        by : (o : Option ToSend) → IfSome o (λ t. AllFine (file_len start) (IsMapped start last n) (LineAt start Told last n) Fails t.from (segment_sent p t).options)
+            → IfSome o (λ t. Carries (Bearing start last n) t.from (segment_sent p t)) → IfSome o (λ t. Tells start Told Fails last n t.from (segment_sent p t))
         by None one other = tt
         by (Some t) one other = (one, other)
 
-  valued : WorldAlso (Tells start Fails last) v
+  valued : WorldAlso (Tells start Told Fails last) v
   valued =
-      subst (λ (w : WorldState Carried). WorldAlso (Tells start Fails last) w) (sym h.is)
-      (each_actor (λ i c. MemberAlso (Tells start Fails last) c.member) h.cast tt tt (λ n x at. offers n x at))
+      subst (λ (w : WorldState Carried). WorldAlso (Tells start Told Fails last) w) (sym h.is)
+      (each_actor (λ i c. MemberAlso (Tells start Told Fails last) c.member) h.cast tt tt (λ n x at. offers n x at))
 
 -- ---- over octets
 
-module _ (start : Start) (Fails : Type 0) (last : Duo) where
-  path_shown : (p : PathState Carried) → PathAlso (Tells start Fails last) p → PathAlso (Tells start Fails last) (shown_path p)
+module _ (start : Start) (Told : Duo → ℕ → Side → ℕ → ℕ → Type 0) (Fails : Type 0) (last : Duo) where
+  path_shown : (p : PathState Carried) → PathAlso (Tells start Told Fails last) p → PathAlso (Tells start Told Fails last) (shown_path p)
   path_shown p s = subst (λ (o : Option ToSend). IfSome o Shown) (sym (first_same p.agenda p)) (by (first_sends p.agenda p) s)
     where
       Shown : ToSend → Type 0
-      Shown = λ t. Tells start Fails last (path_of p) t.from (segment_sent (shown_path p) t)
+      Shown = λ t. Tells start Told Fails last (path_of p) t.from (segment_sent (shown_path p) t)
 
-      by : (o : Option ToSend) → IfSome o (λ t. Tells start Fails last (path_of p) t.from (segment_sent p t)) → IfSome o Shown
+      by : (o : Option ToSend) → IfSome o (λ t. Tells start Told Fails last (path_of p) t.from (segment_sent p t)) → IfSome o Shown
       by None said = tt
-      by (Some t) said = subst (λ (e : PathEnd). Tells start Fails last (path_of p) t.from (said_by t.kind p.profile t.from e)) (end_shown t.from p) said
+      by (Some t) said = subst (λ (e : PathEnd). Tells start Told Fails last (path_of p) t.from (said_by t.kind p.profile t.from e)) (end_shown t.from p) said
 
-  member_shown : (m : Actor Carried) → MemberAlso (Tells start Fails last) m → MemberAlso (Tells start Fails last) (shown_member m)
+  member_shown : (m : Actor Carried) → MemberAlso (Tells start Told Fails last) m → MemberAlso (Tells start Told Fails last) (shown_member m)
   member_shown (App a) s = tt
   member_shown (Path p) s = path_shown p s
 
 -- at each moment of a run, by its last lanes
-abbrev pub RunTells : Start → Type 0 → List Turn → Type 0
-RunTells start Fails turns =
-    (last : Duo) × ((more later : List Turn) → more ++ later ≡ turns → WorldAlso (Tells start Fails last) (world_run octets more (opened_world start))) × AtLast start last
+abbrev pub RunTells : Start → (Duo → ℕ → Side → ℕ → ℕ → Type 0) → Type 0 → List Turn → Type 0
+RunTells start Told Fails turns =
+    (last : Duo) × ((more later : List Turn) → more ++ later ≡ turns → WorldAlso (Tells start Told Fails last) (world_run octets more (opened_world start))) × AtLast start last
 
 -- and how these lanes were reached
-abbrev pub RunTold : (start : Start) → MayCarry start → Type 0 → List Turn → Type 0
-RunTold start can Fails turns =
-    (last : Duo) × ((more later : List Turn) → more ++ later ≡ turns → WorldAlso (Tells start Fails last) (world_run octets more (opened_world start))) × AtLast start last
+abbrev pub RunTold : (start : Start) → MayCarry start → (Duo → ℕ → Side → ℕ → ℕ → Type 0) → Type 0 → List Turn → Type 0
+RunTold start can Told Fails turns =
+    (last : Duo) × ((more later : List Turn) → more ++ later ≡ turns → WorldAlso (Tells start Told Fails last) (world_run octets more (opened_world start))) × AtLast start last
     × EachReaches start can turns last
 
-module _ (start : Start) (can : MayCarry start) (free : NoneIsFirm can.links) (Fails : Type 0) (failing : can.links.alters ≡ true → Fails) (size : HasRoom start) (fit : NumbersFit start) where
-  told_by : (turns : List Turn) → RunTold start can Fails turns
-  told_by turns =
+-- what is known of infinite mappings at each of its moments
+abbrev pub EachLineKnown : (start : Start) → MayCarry start → (Duo → ℕ → Side → ℕ → ℕ → Type 0) → List Turn → Type 0
+EachLineKnown start can Told turns =
+    (last : Duo) → EachReaches start can turns last → (more later : List Turn) → more ++ later ≡ turns → LinesKnown Told can.links.alters last (world_run values more (opened_world start))
+
+module _ (start : Start) (can : MayCarry start) (free : NoneIsFirm can.links) (Told : Duo → ℕ → Side → ℕ → ℕ → Type 0) (Fails : Type 0) (failing : can.links.alters ≡ true → Fails) (size : HasRoom start)
+    (fit : NumbersFit start) where
+  pub told_by : (turns : List Turn) → EachLineKnown start can Told turns → RunTold start can Told Fails turns
+  told_by turns lines =
       let reached = run_reaches start can turns (free_run can.links free turns (opened_world start)) in
       let ended = at_last start can turns reached.0 reached.2 in
-      (reached.0, λ more later is. moment reached.0 ended more (reached.1 more later is), ended, reached.1)
+      (reached.0, λ more later is. moment reached.0 ended more (reached.1 more later is) (lines reached.0 reached.1 more later is), ended, reached.1)
     where
       moment : (last : Duo) → AtLast start last → (more : List Turn) → (q : Reached can.links start (world_run values more (opened_world start))) × Grows (duo_at start can (world_run values more (opened_world start)) q) last
-          → WorldAlso (Tells start Fails last) (world_run octets more (opened_world start))
-      moment last ended more r =
-          subst (λ (w : WorldState (List ℕ)). WorldAlso (Tells start Fails last) w) (sym (run_fresh start more size fit))
+          → LinesKnown Told can.links.alters last (world_run values more (opened_world start)) → WorldAlso (Tells start Told Fails last) (world_run octets more (opened_world start))
+      moment last ended more r known =
+          subst (λ (w : WorldState (List ℕ)). WorldAlso (Tells start Told Fails last) w) (sym (run_fresh start more size fit))
           (λ i c at.
           let found = in_map shown_crew (world_run values more (opened_world start)).crew i c at in
-          subst (λ (y : ActorCrew (List ℕ)). MemberAlso (Tells start Fails last) y.member) found.2
-          (member_shown start Fails last found.0.member (valued start can Fails failing more size fit last r.0 r.1 ended i found.0 found.1)))
+          subst (λ (y : ActorCrew (List ℕ)). MemberAlso (Tells start Told Fails last) y.member) found.2
+          (member_shown start Told Fails last found.0.member (valued start can Told Fails failing more size fit last r.0 r.1 ended known i found.0 found.1)))
 
-  tells_by : (turns : List Turn) → RunTells start Fails turns
-  tells_by turns = let told = told_by turns in (told.0, told.1, told.2)
+  pub tells_by : (turns : List Turn) → EachLineKnown start can Told turns → RunTells start Told Fails turns
+  tells_by turns lines = let told = told_by turns lines in (told.0, told.1, told.2)
+
+-- ---- nothing more
+
+abbrev pub AnyLine : Duo → ℕ → Side → ℕ → ℕ → Type 0
+AnyLine last path s place position = Unit {0}
+
+any_lines : (start : Start) (can : MayCarry start) (turns : List Turn) → EachLineKnown start can AnyLine turns
+any_lines start can turns last reaches more later is = record { plain = λ n x at s first fell alone position some. tt; own = λ n x at may s m is. tt }
 
 -- whatever the script does
-pub run_tells : (start : Start) (turns : List Turn) → HasRoom start → NumbersFit start → RunTells start (Unit {0}) turns
-run_tells start turns size fit = tells_by start (anyhow start size) (anyhow_free start size) (Unit {0}) (λ is. tt) size fit turns
+pub run_tells : (start : Start) (turns : List Turn) → HasRoom start → NumbersFit start → RunTells start AnyLine (Unit {0}) turns
+run_tells start turns size fit = tells_by start (anyhow start size) (anyhow_free start size) AnyLine (Unit {0}) (λ is. tt) size fit turns (any_lines start (anyhow start size) turns)
 
-pub run_told : (start : Start) (turns : List Turn) (size : HasRoom start) → NumbersFit start → RunTold start (anyhow start size) (Unit {0}) turns
-run_told start turns size fit = told_by start (anyhow start size) (anyhow_free start size) (Unit {0}) (λ is. tt) size fit turns
+pub run_told : (start : Start) (turns : List Turn) (size : HasRoom start) → NumbersFit start → RunTold start (anyhow start size) AnyLine (Unit {0}) turns
+run_told start turns size fit = told_by start (anyhow start size) (anyhow_free start size) AnyLine (Unit {0}) (λ is. tt) size fit turns (any_lines start (anyhow start size) turns)
 
--- no MP_FAIL where it alters no payload
-pub plain_tells : (start : Start) (turns : List Turn) → IsPlain start → NumbersFit start → RunTells start ⊥ turns
-plain_tells start turns plain fit = tells_by start (plainly start plain) (plainly_free start plain) ⊥ false≢true plain.size fit turns
+-- ---- where the script alters no payload
+
+-- an infinite mapping is plain TCP's: that of its position on path 0, where no join was ever answered
+abbrev pub PlainLine : Duo → ℕ → Side → ℕ → ℕ → Type 0
+PlainLine last path s place position = (path ≡ 0) × (suc place ≡ position) × (not last.modes.answered ≡ true)
+
+plain_lines : (start : Start) (plain : IsPlain start) (turns : List Turn) → EachLineKnown start (plainly start plain) PlainLine turns
+plain_lines start plain turns last reaches more later is =
+    record { plain = λ n x at s first fell alone position some. (first, omega (arith, some), alone); own = λ n x at may s m is. absurd (false≢true may) }
+
+-- no MP_FAIL is told, either
+pub plain_tells : (start : Start) (turns : List Turn) → IsPlain start → NumbersFit start → RunTells start PlainLine ⊥ turns
+plain_tells start turns plain fit = tells_by start (plainly start plain) (plainly_free start plain) PlainLine ⊥ false≢true plain.size fit turns (plain_lines start plain turns)

@@ -6,7 +6,7 @@ ghost use Rattle.own_runs.specs.Fitting.{TracesFit};
 ghost use Rattle.own_runs.specs.Handshakes.{EachComesInOrder};
 ghost use Rattle.own_runs.specs.KeysShown.{EachComesBehindKeys, EachShowsKeysSo};
 ghost use Rattle.own_runs.specs.Packets.{CapturesAreTheirPackets};
-ghost use Rattle.own_runs.specs.Runs.{DataFinsEndTheFiles, DeliveredRunsShowTheFiles, NoPlainRunBreaks, NoRunBreaks, NoWholeRunBreaks, ReadersGetWhatIsShown, SeenOctetsAreTheFiles, StreamsBeginTheFiles, TriedOctetsAreSeen, WholeStreamsAreTheFiles};
+ghost use Rattle.own_runs.specs.Runs.{DataFinsEndTheFiles, DeliveredRunsShowTheFiles, NoLoneRunBreaks, NoPlainRunBreaks, NoRunBreaks, NoWholeRunBreaks, ReadersGetWhatIsShown, SeenOctetsAreTheFiles, StreamsBeginTheFiles, TriedOctetsAreSeen, WholeStreamsAreTheFiles};
 ghost use Rattle.own_runs.specs.Segments.{SegmentsAreFound, WrittenSegmentsAreFound};
 ghost use Rattle.own_runs.specs.Traces.{TracesAreTheirPackets, TracesAreTheirSegments};
 ghost use Rattle.own_runs.specs.ResetsEnd.{EachResetEnds};
@@ -45,7 +45,10 @@ pub fn traces_are_their_segments()
 /// nor has a position of a subflow two places, nor a number none (`mapping`), and each checksum is that of its mapping and its octets (`dss_sum`).
 /// Nor has a place two octets, also where an infinite mapping gives it its octet (`place_content`, section 3.7). The DATA_FIN stands at one place,
 /// and no data behind it, also where a FIN stands for it under an infinite mapping (`data_fin`, sections 3.3.3 and 3.7).
-/// Where the script alters no payload no MP_FAIL names what is no mapping (`fail`, section 3.7), as there is none.
+/// Where the script alters no payload no MP_FAIL names what is no mapping (`fail`, section 3.7), as there is none; and what an infinite mapping maps
+/// stays mapped so (`infinite`, section 3.7), also in plain TCP, to which a side may fall back where the script takes options away.
+/// On a start of one path that holds whatever the script does (`infinite_lone`): all of a side's infinite mappings, also those behind an MP_FAIL,
+/// give a position the same place there.
 ///
 /// The capture is that of a trace (`traces_are_their_segments`), with sums checked. It holds of every list of turns, lawful or not, whatever the
 /// script takes away or alters, where the numbers of the start fit and the run fits a capture (`traces_are_their_segments`), and wherever the
@@ -63,6 +66,8 @@ pub fn own_runs_break_no_rule()
     ensures place_content { NoRunBreaks PlaceContent }
     ensures data_fin { NoRunBreaks DataFin }
     ensures fail { NoPlainRunBreaks Fail }
+    ensures infinite { NoPlainRunBreaks Infinite }
+    ensures infinite_lone { NoLoneRunBreaks Infinite }
 {}
 
 /// A law: the capture of a run is read, and at most one connection is seen in it, whatever the script does. B's key is that of the start, and A's,
@@ -74,22 +79,10 @@ pub fn own_runs_are_one_connection()
     ensures { EachRunIsOneConnection }
 {}
 
-/// A law: where the script alters no payload and takes no options away, no side is told to break a rule on the end of a stream: the DATA_FIN
-/// stands at one place, and no data behind it (`data_fin`, RFC 8684, section 3.3.3); no infinite mapping is followed by another
-/// (`infinite`, section 3.7). Nor does an MP_FAIL name what is no mapping (`fail`, section 3.7), as there is none. Else as in
-/// `own_runs_break_no_rule`.
-///
-/// Each position of a subflow has one place (`mapping`, section 3.3.1), each place one octet (`place_content`), and each checksum is that of
-/// its mapping and its octets (`dss_sum`). And no Data ACK is of more than the judge saw of the other side's stream before it (`data_ack`, section
-/// 3.3.2).
+/// A law: where the script alters no payload and takes no options away, no Data ACK is of more than the judge saw of the other side's stream before
+/// it (`data_ack`, RFC 8684, section 3.3.2). Else as in `own_runs_break_no_rule`, so none of the judge's rules is broken.
 pub fn whole_runs_break_no_rule()
-    ensures data_fin { NoWholeRunBreaks DataFin }
-    ensures infinite { NoWholeRunBreaks Infinite }
-    ensures fail { NoWholeRunBreaks Fail }
-    ensures mapping { NoWholeRunBreaks Mapping }
-    ensures place_content { NoWholeRunBreaks PlaceContent }
-    ensures dss_sum { NoWholeRunBreaks DssSum }
-    ensures data_ack { NoWholeRunBreaks DataAck }
+    ensures { NoWholeRunBreaks DataAck }
 {}
 
 /// A law: a path opens in its order, whatever the script does (RFC 9293, section 3.5; RFC 8684, sections 3.1 and 3.2). Each SYN of B's comes behind

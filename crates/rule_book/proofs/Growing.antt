@@ -1,7 +1,7 @@
 -- Lists of books and lanes: one that grows by one where it is too short, and one item of it that changes.
-use Rattle.std.proofs.Common.{◌≡◌, refl, ap, ◌∙◌, sym, ℕ, suc, ◌<◌, ◌≤◌, true, false, if◌then◌else◌, nat_lt, Some, None, option_map, List, [], ◌∷◌, ◌++◌, map, length, get_or}
+use Rattle.std.proofs.Common.{◌≡◌, refl, ap, ◌∙◌, sym, ℕ, suc, ◌<◌, ◌≤◌, Bool, true, false, ◌||◌, if◌then◌else◌, nat_lt, Some, None, option_map, List, [], ◌∷◌, ◌++◌, map, length, get_or}
 use Rattle.std.proofs.lemmas.Option.{slice_get-get_or, slice_get-map, slice_get_past}
-use Rattle.std.specs.List.{slice_get}
+use Rattle.std.specs.List.{list_any, slice_get}
 use Rattle.mptcp_options.specs.declared.option.MpOption.{MpOption}
 use Rattle.mptcp_options.specs.Value.{OptionValue, value_of}
 use Rattle.seen_connections.specs.declared.connections.Keys.{Keys}
@@ -59,3 +59,8 @@ pub option_kept : (old new : List MpOption) (option : MpOption) (keys : Keys) (s
 option_kept old new option keys stream is =
     ap (λ (options : List OptionValue). let made : KeyedValue = record { options = options; keys = keys; stream = stream } in made)
     (ap (map value_of) is ∙ map_push value_of old option)
+
+-- ---- a test of what options mean
+pub any_value : (test : OptionValue → Bool) (options : List MpOption) → list_any (λ option. test (value_of option)) options ≡ list_any test (map value_of options)
+any_value test [] = refl
+any_value test (option ∷ options) = ap (λ (b : Bool). test (value_of option) || b) (any_value test options)

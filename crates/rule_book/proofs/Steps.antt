@@ -23,11 +23,11 @@ use Rattle.seen_streams.specs.Content.{PayloadValue, shown_all, with_payload}
 use Rattle.seen_streams.specs.Positions.{position_of}
 use Rattle.seen_streams.specs.Sums.{still_waiting, tried_sums, with_sums}
 use Rattle.seen_streams.specs.declared.told.ToldMapping.{ToldMapping}
-use Rattle.rule_book.specs.Facts.{Facts, first_of, own_base, own_lane, payload_at, with_own_lane}
+use Rattle.rule_book.specs.Facts.{Facts, first_of, own_base, own_lane, payload_at, peers_lane, with_own_lane}
 use Rattle.rule_book.specs.Signals.{KeyedValue, judged_options, keyed_each, signalled, signalled_keyed, told_formless}
 use Rattle.rule_book.specs.State.{BookValue, JudgedValue, LanesValue, book_of, stream_at, with_stream}
 use Rattle.rule_book.specs.declared.book.Book.{Book}
-use Rattle.rule_book.specs.Stream.{Left, acked_each, behind_acks, behind_payload, failed_each, fin_taken, gap_counted, judged_at, judged_by, judged_from, judged_positions, mapped_with, summed, with_judged, within_each}
+use Rattle.rule_book.specs.Stream.{Left, acked_each, behind_acks, behind_payload, failed_each, fin_taken, gap_counted, judged_at, judged_by, judged_from, judged_positions, mapped_with, plain_beside, summed, with_judged, with_plain, within_each}
 use Rattle.rule_book.specs.Judged.{Told, books_told, grown, judged, judged_formed, judged_keyed, judged_known, judged_opened, judged_place, judged_side, judged_taken, opened_facts, put_back, side_of, token_in, token_told}
 use Rattle.rule_book.proofs.Growing.{item_is, none_there}
 
@@ -130,20 +130,23 @@ same_stream : (side : Side) (book : BookValue) (gaps : ℕ) → stream_at side (
 same_stream A book gaps = refl
 same_stream B book gaps = refl
 
-pub from_by_steps : (facts : Facts) (position : ℕ) (options : List OptionValue) (keys : Keys) (old : Left) (counted book : BookValue) (lane : LaneValue) (lanes : LanesValue)
-    → counted ≡ (gap_counted facts old).book
-    → record { stream = stream_at facts.side book; lane = lane } ≡ judged_at facts position options keys (stream_at (peer facts.side) counted) (stream_at facts.side counted) (own_lane facts old.lanes)
+pub from_by_steps : (facts : Facts) (position : ℕ) (options : List OptionValue) (keys : Keys) (old : Left) (plain : ℕ) (counted book : BookValue) (lane : LaneValue)
+    (lanes : LanesValue)
+    → counted ≡ (gap_counted facts old).book → plain ≡ plain_beside options facts.flow.opening (stream_at (peer facts.side) counted) (peers_lane facts old.lanes)
+    → record { stream = stream_at facts.side book; lane = lane } ≡ judged_at (record facts { plain = plain }) position options keys (stream_at (peer facts.side) counted) (stream_at facts.side counted) (own_lane facts old.lanes)
     → book ≡ with_stream facts.side (stream_at facts.side book) counted → lanes ≡ with_own_lane facts lane old.lanes
     → record { book = book; lanes = lanes } ≡ judged_by facts position options keys old
-from_by_steps facts position options keys old counted book lane lanes g j b l =
+from_by_steps facts position options keys old plain counted book lane lanes g p j b l =
     let before : Left = gap_counted facts old in
     let made : Acked = record { stream = stream_at facts.side book; lane = lane } in
     let peers : stream_at (peer facts.side) counted ≡ stream_at (peer facts.side) old.book =
     ap (stream_at (peer facts.side)) g ∙ same_stream (peer facts.side) old.book before.book.gaps in
     let own : stream_at facts.side counted ≡ stream_at facts.side old.book = ap (stream_at facts.side) g ∙ same_stream facts.side old.book before.book.gaps in
-    let is : made ≡ judged_at facts position options keys (stream_at (peer facts.side) old.book) (stream_at facts.side old.book) (own_lane facts old.lanes) =
-    j ∙ ap (λ (s : StreamValue). judged_at facts position options keys s (stream_at facts.side counted) (own_lane facts old.lanes)) peers
-    ∙ ap (λ (s : StreamValue). judged_at facts position options keys (stream_at (peer facts.side) old.book) s (own_lane facts old.lanes)) own in
+    let is : made ≡ judged_at (with_plain options old facts) position options keys (stream_at (peer facts.side) old.book) (stream_at facts.side old.book) (own_lane facts old.lanes) =
+    j ∙ ap (λ (n : ℕ). judged_at (record facts { plain = n }) position options keys (stream_at (peer facts.side) counted) (stream_at facts.side counted) (own_lane facts old.lanes))
+    (p ∙ ap (λ (s : StreamValue). plain_beside options facts.flow.opening s (peers_lane facts old.lanes)) peers)
+    ∙ ap (λ (s : StreamValue). judged_at (with_plain options old facts) position options keys s (stream_at facts.side counted) (own_lane facts old.lanes)) peers
+    ∙ ap (λ (s : StreamValue). judged_at (with_plain options old facts) position options keys (stream_at (peer facts.side) old.book) s (own_lane facts old.lanes)) own in
     ap (λ (x : BookValue). left_of x lanes) (b ∙ ap (with_stream facts.side made.stream) g) ∙ ap (λ (x : LanesValue). left_of (with_stream facts.side made.stream before.book) x) l
     ∙ ap (λ (x : Acked). with_judged facts x before) is
 

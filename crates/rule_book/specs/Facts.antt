@@ -24,6 +24,8 @@ pub record Facts : Type 0 where
   pub is_opener : Bool
   -- the capture was taken at its sender
   pub at_sender : Bool
+  -- behind which place the other side's stream came in plain TCP
+  pub plain : ℕ
 
 abbrev pub facts_of : Judging → Facts
 facts_of judging = record {
@@ -35,6 +37,7 @@ facts_of judging = record {
   side = judging.side;
   is_opener = judging.is_opener;
   at_sender = judging.at_sender;
+  plain = judging.plain;
 }
 
 -- the data number of place 0 of a side, where its key is known

@@ -58,7 +58,7 @@ is_at (Some A) A = true
 is_at (Some B) B = true
 is_at _ _ = false
 
--- the facts of a segment in an open flow
+-- the facts of a segment in an open flow, without what came in plain TCP
 abbrev pub opened_facts : Option Side → ℕ → Seen → ℕ → Flow → Opened → Side → Facts
 opened_facts at packet seen index flow opened side = record {
   packet = packet;
@@ -69,6 +69,7 @@ opened_facts at packet seen index flow opened side = record {
   side = side;
   is_opener = same_end seen.source flow.opener;
   at_sender = is_at at side;
+  plain = 0;
 }
 
 -- behind the rule `form`, which is tried before the flow is open, too

@@ -1,7 +1,8 @@
 -- The rules on positions and places, of a segment that isn't a SYN.
-use Rattle.std.specs.Prelude.{ℕ, ◌+◌, ◌^◌, Bool, false, not, ◌&&◌, ◌||◌, ◌==◌, nat_lt, if◌then◌else◌, Option, Some, None, List, [], ◌∷◌}
+use Rattle.std.specs.Prelude.{ℕ, ◌+◌, ◌^◌, Bool, true, false, not, ◌&&◌, ◌||◌, ◌==◌, nat_lt, if◌then◌else◌, Option, Some, None, List, [], ◌∷◌}
+use Rattle.std.specs.List.{list_any}
 use Rattle.sides.specs.Side.{peer}
-use Rattle.mptcp_options.specs.Value.{OptionValue, Dss, Fail}
+use Rattle.mptcp_options.specs.Value.{OptionValue, Dss, Fail, FastClose}
 use Rattle.seq_units.specs.Number.{position_near}
 use Rattle.judge_rules.specs.declared.finding.Finding.{Finding}
 use Rattle.judge_rules.specs.declared.finding.Rule.TheVariants as rule
@@ -15,7 +16,9 @@ use Rattle.seen_streams.specs.Mapped.{Mapped, mapped_by, octets_of}
 use Rattle.seen_streams.specs.Content.{shown_all, with_payload}
 use Rattle.seen_streams.specs.Positions.{position_of, with_fin}
 use Rattle.seen_streams.specs.Sums.{still_waiting, tried_sums, with_sums}
-use Rattle.seen_streams.specs.Acks.{Acked, acked_with, behind_positions, ended_by_fin, failed_with}
+use Rattle.seen_connections.specs.declared.flow.Opening.{Opening}
+use Rattle.seen_connections.specs.declared.flow.Opening.TheVariants as opening
+use Rattle.seen_streams.specs.Acks.{Acked, acked_with, behind_positions, ended_by_fin, failed_with, plain_end}
 use Rattle.rule_book.specs.Facts.{Facts, first_of, own_base, own_lane, payload_at, payload_len, peers_base, peers_lane, with_own_lane}
 use Rattle.rule_book.specs.State.{BookValue, LanesValue, stream_at, with_stream}
 
@@ -67,7 +70,7 @@ within_each facts position (mapping ∷ mappings) stream = within_each facts pos
 -- ---- Data ACKs and MP_FAIL, where the peers' key is known
 
 abbrev pub acked_one : Facts → ℕ → StreamValue → OptionValue → Acked → Acked
-acked_one facts first peers (Dss (Some number) mapping fin) acked = acked_with facts.at_sender facts.packet first peers number acked
+acked_one facts first peers (Dss (Some number) mapping fin) acked = acked_with facts.at_sender facts.plain facts.packet first peers number acked
 acked_one _ _ _ _ acked = acked
 
 abbrev pub acked_each : Facts → ℕ → StreamValue → List OptionValue → Acked → Acked
@@ -143,10 +146,30 @@ with_judged facts judged left = record {
   lanes = with_own_lane facts judged.lane left.lanes;
 }
 
+-- ---- plain TCP, on the connection's first subflow alone: a side that fell back without an infinite mapping sends no DSS but beside
+-- MP_FASTCLOSE, and its Data ACK counts all octets (sections 3.5 and 3.7)
+
+abbrev pub closes_fast : OptionValue → Bool
+closes_fast (FastClose key) = true
+closes_fast _ = false
+
+abbrev pub plain_on : Opening → StreamValue → LaneValue → ℕ
+plain_on (opening.Join token nonce) peers lane = 0
+plain_on (opening.Capable checksums) peers lane = plain_end peers lane
+
+abbrev pub plain_beside : List OptionValue → Opening → StreamValue → LaneValue → ℕ
+plain_beside options opening peers lane = if list_any closes_fast options then plain_on opening peers lane else 0
+
+abbrev pub with_plain : List OptionValue → Left → Facts → Facts
+with_plain options left facts = record facts {
+  plain = plain_beside options facts.flow.opening (stream_at (peer facts.side) left.book) (peers_lane facts left.lanes);
+}
+
 abbrev pub judged_by : Facts → ℕ → List OptionValue → Keys → Left → Left
 judged_by facts position options keys left =
     with_judged facts
-    (judged_at facts position options keys (stream_at (peer facts.side) left.book) (stream_at facts.side left.book) (own_lane facts left.lanes))
+    (judged_at (with_plain options left facts) position options keys (stream_at (peer facts.side) left.book) (stream_at facts.side left.book)
+    (own_lane facts left.lanes))
     (gap_counted facts left)
 
 abbrev pub judged_from : Facts → Option ℕ → List OptionValue → Keys → Left → Left

@@ -4,23 +4,24 @@ ghost use Rattle.std.specs.Prelude.{◌≡◌, ◌+◌, ◌^◌, ◌≤◌, map,
 ghost use Rattle.capture_reader.specs.Seen.{as_seen};
 ghost use Rattle.mptcp_options.specs.Value.{value_of};
 ghost use Rattle.seen_connections.specs.SeenOptions.{as_value};
+ghost use Rattle.seen_streams.specs.Acks.{plain_end};
 ghost use Rattle.seen_streams.specs.Positions.{position_of};
 ghost use Rattle.seen_streams.specs.Shows.{lane_of, stream_of};
 ghost use Rattle.sides.specs.Side.{peer};
-ghost use Rattle.rule_book.specs.Facts.{facts_of, own_base, own_lane, with_own_lane};
+ghost use Rattle.rule_book.specs.Facts.{facts_of, own_base, own_lane, peers_lane, with_own_lane};
 ghost use Rattle.rule_book.specs.Judged.{is_at, judged_opened, judged_side, opened_facts};
 ghost use Rattle.rule_book.specs.Keyed.{keyed_of};
 ghost use Rattle.rule_book.specs.Signals.{judged_options, told_formless};
 ghost use Rattle.rule_book.specs.State.{book_of, lanes_of, stream_at, with_stream};
-ghost use Rattle.rule_book.specs.Stream.{acknowledges_more, gap_counted, judged_at, judged_by, judged_positions};
+ghost use Rattle.rule_book.specs.Stream.{acknowledges_more, gap_counted, judged_at, judged_by, judged_positions, plain_beside, plain_on};
 
 use crate::book::{Book, Lanes};
 use crate::judging::Judging;
-use crate::positions::judge_at;
+use crate::positions::{closes_fast, judge_at};
 use crate::signals::{Keyed, judge_signals, take_keys, tell_formless};
 use capture_reader::SeenSegment;
-use seen_connections::{Flow, Keys, Opened, SeenOption, seen_options};
-use seen_streams::{Lane, Stream};
+use seen_connections::{Flow, Keys, Opened, Opening, SeenOption, seen_options};
+use seen_streams::{Lane, Stream, plain_end};
 use seq_units::{Seq32, near32};
 use sides::Side;
 use std::alloc::{AllocError, Global};
@@ -78,6 +79,7 @@ fn judging_of<'a>(
         side,
         is_opener: seen.source == flow.opener,
         at_sender: is_at(at, side),
+        plain: 0,
     }
 }
 
@@ -197,8 +199,56 @@ fn judge_from<'a>(
         ≡ judged_by (facts_of judging.now) position (map value_of keyed.now.options.items) keyed.now.keys (record { book = book_of book.old; lanes = lanes_of lanes.old })) }
 {
     count_gap(book, lanes, judging);
-    judge_lanes(alloc, book, lanes, judging, keyed, position)?;
+    let judging = Judging {
+        plain: plain_beside(book, lanes, judging, keyed),
+        ..*judging
+    };
+    judge_lanes(alloc, book, lanes, &judging, keyed, position)?;
     Ok(())
+}
+
+// Behind which place the other side's stream came in plain TCP, where the segment has an MP_FASTCLOSE.
+fn plain_beside(book: &Book<'_>, lanes: &Lanes, judging: &Judging<'_>, keyed: &Keyed<'_>) -> u64
+    ensures { result
+        ≡ plain_beside (map value_of keyed.now.options.items) judging.now.flow.opening (stream_at (peer judging.now.side) (book_of book.now))
+        (peers_lane (facts_of judging.now) (lanes_of lanes.now)) }
+{
+    if closes_fast(keyed) {
+        plain_on(book, lanes, judging)
+    } else {
+        0
+    }
+}
+
+// It comes so on the connection's first subflow alone.
+fn plain_on(book: &Book<'_>, lanes: &Lanes, judging: &Judging<'_>) -> u64
+    ensures { result
+        ≡ plain_on judging.now.flow.opening (stream_at (peer judging.now.side) (book_of book.now)) (peers_lane (facts_of judging.now) (lanes_of lanes.now)) }
+{
+    match judging.flow.opening {
+        Opening::Join { .. } => 0,
+        Opening::Capable { .. } => plain_lane(book, judging.side, peers_lane(lanes, judging)),
+    }
+}
+
+// What the other end sent on the flow.
+fn peers_lane<'l>(lanes: &'l Lanes, judging: &Judging<'_>) -> &'l Lane
+    ensures { lane_of result.now ≡ peers_lane (facts_of judging.now) (lanes_of lanes.now) }
+{
+    if judging.is_opener {
+        &lanes.other
+    } else {
+        &lanes.opener
+    }
+}
+
+fn plain_lane(book: &Book<'_>, side: Side, lane: &Lane) -> u64
+    ensures { result ≡ plain_end (stream_at (peer side) (book_of book.now)) (lane_of lane.now) }
+{
+    match side {
+        Side::A => plain_end(&book.b, lane),
+        Side::B => plain_end(&book.a, lane),
+    }
 }
 
 // The rules on the stream of a side, and on its lane.

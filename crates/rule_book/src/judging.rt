@@ -22,6 +22,8 @@ pub struct Judging<'a> {
     pub is_opener: bool,
     /// Whether the capture was taken at its sender.
     pub at_sender: bool,
+    /// Behind which place the other side's stream came in plain TCP. It is 0 where none of it did.
+    pub plain: u64,
 }
 
 impl Judging<'_> {

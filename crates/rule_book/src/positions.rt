@@ -1,13 +1,14 @@
 //! The rules on positions and places, of a segment that isn't a SYN.
 
 ghost use Rattle.std.specs.Prelude.{◌≡◌, ◌+◌, ◌-◌, ◌^◌, ◌≤◌, [], false, map, length, drop, IfOk, OnOk};
+ghost use Rattle.std.specs.List.{list_any};
 ghost use Rattle.mptcp_options.specs.Value.{value_of};
 ghost use Rattle.judge_rules.specs.Mappings.{offer_of};
 ghost use Rattle.seen_streams.specs.Content.{payload_of};
 ghost use Rattle.seen_streams.specs.Both.{acked_of};
 ghost use Rattle.seen_streams.specs.Shows.{lane_of, mapped_of, stream_of};
 ghost use Rattle.rule_book.specs.Facts.{facts_of, held_payload, payload_at, payload_len};
-ghost use Rattle.rule_book.specs.Stream.{acked_each, acked_one, behind_acks, behind_payload, failed_each, failed_one, fin_taken, judged_at, mapped_each, mapped_one, mapped_with, summed, within_each, within_found, within_one};
+ghost use Rattle.rule_book.specs.Stream.{acked_each, acked_one, behind_acks, behind_payload, closes_fast, failed_each, failed_one, fin_taken, judged_at, mapped_each, mapped_one, mapped_with, summed, within_each, within_found, within_one};
 
 use crate::judging::{Judging, first_of};
 use crate::signals::Keyed;
@@ -303,12 +304,32 @@ fn judge_one_ack(
             lane,
             peers,
             judging.at_sender,
+            judging.plain,
             judging.packet,
             first,
             ack,
         ),
         _ => Ok(()),
     }
+}
+
+/// Whether one of the options that stay is an MP_FASTCLOSE.
+pub(crate) fn closes_fast(keyed: &Keyed<'_>) -> bool
+    ensures { result ≡ list_any closes_fast (map value_of keyed.now.options.items) }
+{
+    has_fast_close(&keyed.options)
+}
+
+fn has_fast_close(options: &[MpOption<'_>]) -> bool
+    ensures { result ≡ list_any (λ option. closes_fast (value_of option)) options.now }
+{
+    options.iter().any(|option| is_fast_close(option))
+}
+
+fn is_fast_close(option: &MpOption<'_>) -> bool
+    ensures { result ≡ closes_fast (value_of option.now) }
+{
+    matches!(option, MpOption::FastClose { .. })
 }
 
 fn judge_each_fail(

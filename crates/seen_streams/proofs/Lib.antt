@@ -7,3 +7,4 @@ pub mod Stretches
 pub mod Lines
 pub mod Counting
 pub mod Learning
+pub mod Plain

@@ -165,7 +165,7 @@ impl Lane {
     /// The position behind what was seen without a hole, the FIN too.
     pub fn behind(&self) -> u64
         ensures value { result ≡ behind_positions (lane_of self.now) }
-        ensures few { result ≤ 2 ^ 62 + 1 }
+        ensures few { result ≤ 2 ^ 62 }
     {
         behind_fin(self.fin, self.seen.whole(1))
     }
@@ -199,9 +199,10 @@ fn first_fin(fin: Option<u64>, position: u64) -> u64
 }
 
 fn behind_fin(fin: Option<u64>, whole: u64) -> u64
-    requires { whole ≤ 2 ^ 62 }
+    requires fin { IfSome fin (λ fin. fin ≤ 2 ^ 61) }
+    requires whole { whole ≤ 2 ^ 62 }
     ensures value { result ≡ (if is_fin_at fin whole then whole + 1 else whole) }
-    ensures few { result ≤ 2 ^ 62 + 1 }
+    ensures few { result ≤ 2 ^ 62 }
 {
     match fin {
         Some(fin) if fin == whole => whole + 1,

@@ -15,7 +15,7 @@ mod sums;
 mod told;
 mod waits;
 
-pub use acks::{end_by_fin, judge_ack, judge_fail};
+pub use acks::{end_by_fin, judge_ack, judge_fail, plain_end};
 pub use content::{Payload, Shower, take_payload};
 pub use ends::Counts;
 pub use lane::Lane;

@@ -664,7 +664,7 @@ positions_are_acked_as_bytes start plan turns x p here over alive s unfinished =
 -- ---- in four rounds
 
 pub four_rounds_acknowledge : FourRoundsAcknowledge
-four_rounds_acknowledge start plan v u x rounds s p here soon = by_told (four_rounds_tell start plan v u x rounds s p q.path here q.here soon)
+four_rounds_acknowledge start plan v u x rounds s p here soon = by_told (four_rounds_tell start v u x.mild rounds s p q.path here q.here soon)
   where
     q : IsPathThere start u
     q = path_there start v u (between start 3 v u rounds)
@@ -672,7 +672,7 @@ four_rounds_acknowledge start plan v u x rounds s p here soon = by_told (four_ro
     by_told : IsAllThere s (reached values start u) ⊎ ((end_at (peer s) p).tcp.recv.edge ≤ (end_at s q.path).tcp.send.una)
         → IsAllThere s (reached values start u) ⊎ (received (arrived_at (peer s) (reached values start v)) ≤ acked_len (written_by s (reached values start u)).marks)
     by_told (inl all) = inl all
-    by_told (inr told) = if_may start plan x (IsAllThere s (reached values start u) ⊎ (received (arrived_at (peer s) (reached values start v)) ≤ acked_len (written_by s (reached values start u)).marks)) u q.path q.here q.is_open s
+    by_told (inr told) = if_may start x.mild (IsAllThere s (reached values start u) ⊎ (received (arrived_at (peer s) (reached values start v)) ≤ acked_len (written_by s (reached values start u)).marks)) u q.path q.here q.is_open s
         (λ all. inl all)
-        (λ may. (let acked = (bytes_acked start plan x u q.path q.here (silent start u q.path (over_after start 3 v u rounds) q.here) q.is_open.living s (segment_rounds.unfinished start plan x u q.path q.here s may)).booked in
+        (λ may. (let acked = (bytes_acked start plan x u q.path q.here (silent start u q.path (over_after start 3 v u rounds) q.here) q.is_open.living s (segment_rounds.unfinished start x.mild u q.path q.here s may)).booked in
         let came = (counts start plan x v p here s).came in inr (omega (arith, told, acked, came))))

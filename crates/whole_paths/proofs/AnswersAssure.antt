@@ -53,7 +53,7 @@ use Rattle.whole_paths.proofs.Saying.{AllSpeak, Speaks, ToSend, duty_speaks, res
 use Rattle.whole_paths.proofs.Saying.{Speaks as spoken}
 use Rattle.whole_paths.proofs.ToldSoon.{not_opening}
 use Rattle.whole_paths.proofs.ToldStays.{who_is_told_stays_told}
-use Rattle.whole_paths.proofs.WindowRoom.{each_window_has_room}
+use Rattle.whole_paths.proofs.WindowRoom.{each_window_has_room, one_path_is_roomy}
 use Rattle.whole_paths.proofs.WindowsAssured as assured
 use Rattle.whole_paths.proofs.WindowsAssured.{four_rounds_assure, windows_are_assured}
 
@@ -207,18 +207,18 @@ module _ (start : Start) (plan : PathPlan) (one : BeginsWithOnePath start plan) 
     h = begun start turns turn (record { mild = one.mild; before = before; after = after })
 
     told_stays : ToldStays s old new
-    told_stays = who_is_told_stays_told start plan turns turn one h s
+    told_stays = who_is_told_stays_told start turns turn (one_path_is_roomy start plan one) h s
 
     clock_up : old.clock ≤ new.clock
-    clock_up = clock start plan one turns turn h s
+    clock_up = clock start (one_path_is_roomy start plan one) turns turn h s
 
     offers_on : Offers turns old → Offers (turns ++ turn ∷ []) new
     offers_on = each_offer_stays start plan turns turn one h s (before.is_open.clear far) (edge + 31)
 
     answers_on : Answers turns old → Answers (turns ++ turn ∷ []) new
     answers_on (quiet_yet same offers) = ⊎_elim
-        (λ rises. ⊎_elim (λ due. owes_it due (offers_on offers)) (λ past. all_came (past_is_there start plan one (turns ++ turn ∷ []) new after.here s after.is_open past)) (told_stays.more rises))
-        (λ few. quiet_yet (let up = edge_up start plan one turns turn h s far in omega (arith, few, up, same)) (offers_on offers))
+        (λ rises. ⊎_elim (λ due. owes_it due (offers_on offers)) (λ past. all_came (past_is_there start one.mild (turns ++ turn ∷ []) new after.here s after.is_open past)) (told_stays.more rises))
+        (λ few. quiet_yet (let up = edge_up start (one_path_is_roomy start plan one) turns turn h s far in omega (arith, few, up, same)) (offers_on offers))
         (cases_lt (end_at far old).tcp.recv.edge (end_at far new).tcp.recv.edge)
     answers_on (owes_it due offers) = ⊎_elim
         (λ still. owes_it still (offers_on offers))

@@ -1,4 +1,4 @@
--- The exchange of an ask between the open ends of an only path goes on with what the peer heard, or what comes between counts.
+-- The exchange of an ask between the open ends of a path goes on with what the peer heard, or what comes between counts.
 use Rattle.std.proofs.Common.{◌≡◌, refl, sym, subst, ap, ◌∙◌, ◌⊎◌, inl, inr, ⊎_elim, ℕ, ◌+◌, ◌-◌, ◌^◌, ◌<◌, ◌≤◌, arith, not, ◌&&◌, ◌||◌, Bool, true, false, true≢false, Option, Some, None, is_some, IfSome, List, [], ◌∷◌, ◌++◌, length, le_refl}
 use Rattle.std.specs.List.{slice_get}
 use Rattle.std.proofs.lemmas.Bool.{both_ways, cases_lt}
@@ -10,7 +10,6 @@ use Rattle.link_model.specs.declared.flight.Flight.{Flight}
 use Rattle.link_script.specs.declared.script.ScriptLine.{ScriptLine}
 use Rattle.link_model.specs.Fate.{is_altered, is_stripped}
 use Rattle.link_model.specs.Steps.{due_of, next_number, segments_sent}
-use Rattle.stream_lanes.specs.Words.{Every}
 use Rattle.reassembly_book.specs.State.{received}
 use Rattle.subflow_send.specs.Records.{Record}
 use Rattle.path_segments.specs.Spelled.{PlainSegment}
@@ -25,7 +24,6 @@ use Rattle.path_core.specs.Emission.{ack_resent}
 use Rattle.path_core.specs.End.{PathEnd}
 use Rattle.path_core.specs.Events.{next_event}
 use Rattle.path_core.specs.Looking.{first_sends, segment_sent}
-use Rattle.path_core.specs.MpJoin.{is_joined}
 use Rattle.path_core.specs.State.{PathState, end_at}
 use Rattle.path_core.specs.Values.{Carried, values}
 use Rattle.path_core.specs.declared.events.Event.TheVariants as happenings
@@ -36,7 +34,7 @@ use Rattle.world_laws.specs.Worlds.{WorldState, Turn, after_turn, world_run}
 use Rattle.world_laws.proofs.Weaving.WholeRounds.{run_append}
 use Rattle.whole_paths.specs.AgendaSteps.{event_side}
 use Rattle.whole_paths.specs.AsFar.{IsActorAsFar, IsEndAsFar, IsPathAsFar}
-use Rattle.whole_paths.specs.AskStages.{AnswerIsAwaitedFrom, AnswerIsAwaitedOn, AnswerIsAwaitedBy, BringsEnd, IsAnswerAwaited, OpenAsksAreAnswered}
+use Rattle.whole_paths.specs.AskStages.{AnswerIsAwaitedFrom, AnswerIsAwaitedOn, AnswerIsAwaitedBy, AsksAreAnswered, BringsEnd, IsAnswerAwaited, OpenAsksAreAnswered}
 use Rattle.whole_paths.specs.AskStages.{AnswerIsAwaitedOn as ask}
 use Rattle.whole_paths.specs.Came.{AcksWhatCame, HasCome}
 use Rattle.whole_paths.specs.Closing.{FinGoesOn, HearsDataFins, IsFinHeard, PathsHearFins}
@@ -57,19 +55,17 @@ use Rattle.whole_paths.specs.Exchanges.{IsHeldUp as held}
 use Rattle.whole_paths.specs.Flights.{IsFirst}
 use Rattle.whole_paths.specs.InTime.{ComesFrom}
 use Rattle.whole_paths.specs.Kept.{EndsKeepWhatWaits, KeepsWhatWaits}
-use Rattle.whole_paths.specs.Mild.{IsUnbroken, EndsGoByMappings, EndsHaveKeys, NeverBreaks, HasKeys, IsNeverBroken, IsMildStart, KeysAreKnown, LinkIsMild, MappingIsKept}
+use Rattle.whole_paths.specs.Mild.{EndsGoByMappings, IsMildStart, LinkIsMild, MappingIsKept}
 use Rattle.whole_paths.specs.OpenAsks.{HardlyGoesAwry, IsUnansweredAt}
 use Rattle.whole_paths.specs.OpenAsks.IsUnanswered.{data_fin, bytes}
 use Rattle.whole_paths.specs.Reasons.{IsOutstanding}
 use Rattle.whole_paths.specs.Sent.{WasSent}
-use Rattle.whole_paths.specs.Straying.{IsOpen}
+use Rattle.whole_paths.specs.Straying.{IsOpen, IsSound}
 use Rattle.whole_paths.specs.Waits.{IsNews}
 use Rattle.whole_paths.specs.Waits.{IsNews as news}
 use Rattle.whole_paths.proofs.Acking.{same_actor}
-use Rattle.whole_paths.proofs.Arrivals.{sender_of, first_joins}
-use Rattle.whole_paths.proofs.Breaking.{never_breaks}
+use Rattle.whole_paths.proofs.Arrivals.{sender_of}
 use Rattle.whole_paths.proofs.Came.{what_is_acknowledged_came}
-use Rattle.whole_paths.proofs.Clearing.{Clears, MemberClears, each_clears, never_treats}
 use Rattle.whole_paths.proofs.Closing.{each_data_fin_counts}
 use Rattle.whole_paths.proofs.ClosingAsked.{asks_so, each_data_fin_comes}
 use Rattle.whole_paths.proofs.DataAcksAsked.{AskedAtTheEnd, AsksComeSo, asked_at_the_end, asks_come_so}
@@ -82,9 +78,8 @@ use Rattle.whole_paths.proofs.Flying.{Frames, FramesStay, frames_stay}
 use Rattle.whole_paths.proofs.GoesOn.{goes_on_so}
 use Rattle.whole_paths.proofs.InTime.{nothing_is_overdue}
 use Rattle.whole_paths.proofs.Keeping.{what_waits_is_kept}
-use Rattle.whole_paths.proofs.Keyed.{keys_are_known}
 use Rattle.whole_paths.proofs.Mild.{links_are_mild, mapping_is_kept}
-use Rattle.whole_paths.proofs.OpenAsks.{EndsAskForThemselves, ends_ask_for_themselves, open_ends_hardly_go_awry}
+use Rattle.whole_paths.proofs.OpenAsks.{EndsAskForThemselves, each_open_is_sound, ends_ask_for_themselves, sound_after, sound_ends_hardly_go_awry}
 use Rattle.whole_paths.proofs.OpenAsksGoOn.{is_outstanding, more_sent, open_segments, past_the_end, same_written, unanswered_goes}
 use Rattle.whole_paths.proofs.OpenPieces.{AgreesWith, EndsAgreeWith, closed_stays, each_knows, ends_agree}
 use Rattle.whole_paths.proofs.Reached.{EndsAreReached, each_is_reached, none_left}
@@ -125,11 +120,11 @@ owed_so c i sent acked identity finite is open_end = rw (identity, finite, is, o
 
 -- ---- a turn
 
--- what is known of an open path, and of what it becomes
+-- what is known of a sound path, and of what it becomes
 record IsTurn (books : StampedBooks) (later : SixBooks) (steps : List Note) (p q : PathState Carried) : Type 0 where
   known : Known p
-  open_p : IsOpen p
-  open_q : IsOpen q
+  open_p : IsSound p
+  open_q : IsSound q
   faithful : LetsThrough p
   few : (t : Side) → segments_sent t p.link < 2 ^ 64 - 1
   frames : Frames p q
@@ -137,9 +132,6 @@ record IsTurn (books : StampedBooks) (later : SixBooks) (steps : List Note) (p q
   kept : (s : Side) → KeepsWhatWaits (end_at s p) (end_at s q)
   mapped_p : EndsGoByMappings p
   mapped_q : EndsGoByMappings q
-  breaks_q : IsUnbroken q
-  keys : EndsHaveKeys q
-  clears : (t : Side) → Clears t q.agenda (end_at t q)
   alone : EndsAskForThemselves p
   knows : (s : Side) → KnowsItsEnd (end_at s p)
   agrees : (s : Side) → AgreesWith (send_of s (books_in books)) (end_at s p).sending
@@ -149,7 +141,7 @@ record IsTurn (books : StampedBooks) (later : SixBooks) (steps : List Note) (p q
   shown_q : Shown q
   hears : HearsDataFins values p q
   go : InquiriesGoOn books steps (Path p) (Path q)
-  hardly : HardlyGoesAwry steps (Path p) (Path q)
+  hardly : HardlyGoesAwry IsSound steps (Path p) (Path q)
 
 end_far : (p q : PathState Carried) → IsPathAsFar p q → (s : Side) → IsEndAsFar (end_at s p) (end_at s q)
 end_far p q h A = h.a
@@ -190,15 +182,13 @@ module _ (books : StampedBooks) (later : SixBooks) (steps : List Note) (p q : Pa
 
   -- the peer's key is known
   has_key : (u : Side) → (end_at u q).modes.peer_key ≡ None → ⊥
-  has_key A none = ⊎_elim (λ some. both_ways (is_some q.a.modes.peer_key) (ap is_some none) some) (λ treats. never_treats q t.clears t.open_q.clear treats)
-      (t.keys.a (let past = t.open_q.past A in omega (arith, past)) (t.open_q.living A))
-  has_key B none = both_ways (is_some q.b.modes.peer_key) (ap is_some none) (t.keys.b (t.open_q.clear B))
+  has_key u none = both_ways (is_some (end_at u q).modes.peer_key) (ap is_some none) (t.open_q.keyed u)
 
   -- the DATA_FIN was heard, or is in its turn
   fin_goes : (IsFinHeard (peer s) q → Goes) → FinGoesOn (peer s) q → Goes
   fin_goes then_so (fins.on is) = then_so is
   fin_goes then_so (fins.gone dead) = absurd (both_ways _ (t.open_q.living (peer s)) dead)
-  fin_goes then_so (fins.reset is) = absurd (never_resets q t.breaks_q (peer s) is)
+  fin_goes then_so (fins.reset is) = absurd (never_resets q t.open_q.unbroken (peer s) is)
   fin_goes then_so (fins.plain is) = absurd (both_ways _ (t.mapped_q (peer s)).identity is)
   fin_goes then_so (fins.unkeyed none) = absurd (has_key (peer s) none)
 
@@ -320,7 +310,7 @@ module _ (books : StampedBooks) (later : SixBooks) (steps : List Note) (p q : Pa
       owed = owed_so e.modes.identity (is_some e.modes.own_infinite) e.sending.fin_sent e.sending.close.own_acked (t.mapped_p s).identity (ap is_some (t.mapped_p s).own) sent.0 sent.1
 
       third : e.modes.owes_third ≡ false
-      third = not_true e.modes.owes_third (λ is. both_ways (is_joined p.profile) t.open_p.first ((t.alone s).third is))
+      third = t.open_p.third s
 
       close : e.notices.fast_closed ≡ false
       close = not_true e.notices.fast_closed (λ is. (t.alone s).carries ((t.knows s).closed is))
@@ -383,9 +373,6 @@ record IsTurnOf (w : WorldState Carried) (later : SixBooks) (lines : List Script
   link : OfPaths (LinkIsMild lines) m
   mapped_p : OfPaths EndsGoByMappings m
   mapped_q : OfPaths EndsGoByMappings n
-  breaks_q : OfPaths IsNeverBroken n
-  keys : OfPaths HasKeys n
-  clears : MemberClears n
   alone : OfPaths EndsAskForThemselves m
   knows : OfPaths BothKnowTheirEnd m
   agrees : OfPaths (EndsAgreeWith w) m
@@ -395,24 +382,21 @@ record IsTurnOf (w : WorldState Carried) (later : SixBooks) (lines : List Script
   shown_q : OfPaths Shown n
   hears : PathsHearFins values m n
   go : InquiriesGoOn w.books steps m n
-  hardly : HardlyGoesAwry steps m n
+  hardly : HardlyGoesAwry IsSound steps m n
   come : (Was : PathEnd → Bool → Bool → Type 0) → AsksComeSo Was values m n
 
-member_goes : (w : WorldState Carried) (later : SixBooks) (lines : List ScriptLine) (steps : List Note) (m n : Actor Carried) → IsTurnOf w later lines steps m n → AnswerIsAwaitedBy (books_in w.books) later m n
+member_goes : (w : WorldState Carried) (later : SixBooks) (lines : List ScriptLine) (steps : List Note) (m n : Actor Carried) → IsTurnOf w later lines steps m n → AnswerIsAwaitedBy IsSound (books_in w.books) later m n
 member_goes w later lines steps (Path p) (Path q) x = λ open_p open_q few s place fin by knows h. awaited_goes w.books later steps p q (record {
   known = record { tells = x.shown.tells; behind = x.shown.behind; edge = x.shown.edge; reached = x.reached; came = x.came; was_sent = x.was_sent; link = x.link_is; alike = x.alike; past = x.past };
   open_p = open_p;
   open_q = open_q;
-  faithful = record { joined = λ s. first_joins s p open_p.first; whole = x.link.strips; plain = x.link.alters };
+  faithful = record { joined = λ s joined. open_p.past s; whole = x.link.strips; plain = x.link.alters };
   few = few;
   frames = x.frames;
   far = x.far;
   kept = x.kept;
   mapped_p = x.mapped_p;
   mapped_q = x.mapped_q;
-  breaks_q = x.breaks_q open_q.first;
-  keys = x.keys open_q.first;
-  clears = x.clears open_q.first;
   alone = x.alone;
   knows = x.knows.knows;
   agrees = x.agrees.ends;
@@ -429,7 +413,7 @@ member_goes w later lines steps (App a) n x = tt
 
 -- ---- how it begins
 
-begins_so : (six : SixBooks) (m : Actor Carried) → OfPaths EndsGoByMappings m → ((Was : PathEnd → Bool → Bool → Type 0) → OfPaths (AskedAtTheEnd Was values) m) → OfPaths (AnswerIsAwaitedFrom six) m
+begins_so : (six : SixBooks) (m : Actor Carried) → OfPaths EndsGoByMappings m → ((Was : PathEnd → Bool → Bool → Type 0) → OfPaths (AskedAtTheEnd Was values) m) → OfPaths (AnswerIsAwaitedFrom IsSound six) m
 begins_so six (App a) mapped asked = tt
 begins_so six (Path p) mapped asked = λ opened done s none place fin still has.
     let out = is_outstanding p.profile place fin (length (send_of s six).written) (end_at s p) (mapped s) still in
@@ -461,9 +445,6 @@ turn_of start turns turn mild actor c d was now =
     let size = mild.plain.size in
     let late = nothing_is_overdue values start turns in
     let mapped : MappingIsKept v = subst MappingIsKept same (mapping_is_kept start more mild) in
-    let breaks : NeverBreaks v = subst NeverBreaks same (never_breaks start more mild) in
-    let keys : KeysAreKnown v = subst KeysAreKnown same (keys_are_known start more mild) in
-    let clears = subst (λ (x : WorldState Carried). Every (λ (y : ActorCrew Carried). MemberClears y.member) x.crew) same (each_clears values start more) in
     let reached : Each EndsAreReached v = subst (Each EndsAreReached) same (λ i x there. (each_is_reached values start more).each i x there) in
     let shown : Each Shown v = subst (Each Shown) same (each_shown start more size mild.fit) in record {
       shown = each_shown start turns size mild.fit actor c was;
@@ -479,9 +460,6 @@ turn_of start turns turn mild actor c d was now =
       link = (links_are_mild values start turns mild).each actor c was;
       mapped_p = (mapping_is_kept start turns mild).each actor c was;
       mapped_q = mapped.each actor d now;
-      breaks_q = breaks.each actor d now;
-      keys = keys.each actor d now;
-      clears = clears.each actor d now;
       alone = ends_ask_for_themselves start turns mild actor c was;
       knows = each_knows start turns size actor c was;
       agrees = ends_agree start turns size actor c was;
@@ -491,14 +469,35 @@ turn_of start turns turn mild actor c d was now =
       shown_q = shown actor d now;
       hears = same_actor (λ x. PathsHearFins values c.member x.member) v actor d now (each_data_fin_counts values w turn actor c was);
       go = same_actor (λ x. InquiriesGoOn w.books x.list c.member x.member) v actor d now (each_ask_is_answered.goes_on start turns size mild.fit turn actor c was);
-      hardly = open_ends_hardly_go_awry start turns turn mild actor c d was now;
+      hardly = sound_ends_hardly_go_awry start turns turn mild actor c d was now;
       come = λ Was. same_actor (λ x. AsksComeSo Was values c.member x.member) v actor d now (asks_come_so Was values w late ((what_is_sent_comes_soon values).numbered start turns) turn actor c was);
     }
 
-pub open_asks_are_answered : OpenAsksAreAnswered
-open_asks_are_answered = record {
+pub sound_asks_are_answered : AsksAreAnswered IsSound
+sound_asks_are_answered = record {
   begin = λ start turns mild actor c there. let w : WorldState Carried = world_run values turns (opened_world start) in
       begins_so (books_in w.books) c.member ((mapping_is_kept start turns mild).each actor c there) (λ Was. asked_at_the_end Was values start turns actor c there);
   goes_on = λ start turns turn mild actor c d was now. let w : WorldState Carried = world_run values turns (opened_world start) in
       member_goes w (books_in (after_turn values turn w).books) start.lines d.list c.member d.member (turn_of start turns turn mild actor c d was now);
+}
+
+-- ---- of path 0 where it is open
+
+abbrev OpenIsSound : Actor Carried → Type 0
+OpenIsSound = OfPaths (λ p. IsOpen p → IsSound p)
+
+open_begins : (six : SixBooks) (m : Actor Carried) → OpenIsSound m → OfPaths (AnswerIsAwaitedFrom IsSound six) m → OfPaths (AnswerIsAwaitedFrom IsOpen six) m
+open_begins six (App a) sound h = tt
+open_begins six (Path p) sound h = λ open_p. h (sound open_p)
+
+open_goes : (six later : SixBooks) (m n : Actor Carried) → OpenIsSound m → OpenIsSound n → AnswerIsAwaitedBy IsSound six later m n → AnswerIsAwaitedBy IsOpen six later m n
+open_goes six later (Path p) (Path q) sound_p sound_q h = λ open_p open_q. h (sound_p open_p) (sound_q open_q)
+open_goes six later (Path p) (App b) sound_p sound_q h = tt
+open_goes six later (App a) n sound_p sound_q h = tt
+
+pub open_asks_are_answered : OpenAsksAreAnswered
+open_asks_are_answered = record {
+  begin = λ start turns mild actor c there. open_begins (books_in (world_run values turns (opened_world start)).books) c.member (each_open_is_sound start turns mild actor c there) (sound_asks_are_answered.begin start turns mild actor c there);
+  goes_on = λ start turns turn mild actor c d was now. let w : WorldState Carried = world_run values turns (opened_world start) in
+      open_goes (books_in w.books) (books_in (after_turn values turn w).books) c.member d.member (each_open_is_sound start turns mild actor c was) (sound_after start turns turn mild actor d now) (sound_asks_are_answered.goes_on start turns turn mild actor c d was now);
 }

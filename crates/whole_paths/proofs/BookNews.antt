@@ -62,12 +62,12 @@ spent_if : (path holder : ℕ) (among : List Bool) (c : Bool) → contains path 
 spent_if path holder among true h = h
 spent_if path holder among false h = h
 
-spent_returned : (path asker : ℕ) (m : ByteMark) → spent path (Some m) ≡ true → spent path (Some (returned asker m)) ≡ true
+pub spent_returned : (path asker : ℕ) (m : ByteMark) → spent path (Some m) ≡ true → spent path (Some (returned asker m)) ≡ true
 spent_returned path asker Acked h = h
 spent_returned path asker (Held holder among) h = spent_if path holder among (holder == asker) h
 spent_returned path asker (Free among) h = h
 
-spent_stays : (path : ℕ) (call : SendCall) (o q : Option ByteMark) → MarkStep call o q → spent path o ≡ true → spent path q ≡ true
+pub spent_stays : (path : ℕ) (call : SendCall) (o q : Option ByteMark) → MarkStep call o q → spent path o ≡ true → spent path q ≡ true
 spent_stays path call o q (same is) h = ap (spent path) is ∙ h
 spent_stays path call o q (is_written none is) h = absurd (true≢false (sym h ∙ ap (spent path) none))
 spent_stays path call o q (gives asker max standby among asks there untried is) h = ap (spent path) is ∙ contains-insert_more asker path among (sym (ap (spent path) there) ∙ h)
@@ -126,7 +126,7 @@ done_rises (suc path) ms ns h place was now =
     let one = count_up (spent path) refl ms ns (h.spent_so path) in let two = count_up (let_go path) refl ms ns (h.gone path) in
     let rest = done_rises path ms ns h place was now in omega (arith, one, two, rest)
 
-spent_rises : (n path : ℕ) (ms ns : List ByteMark) → AreAsFar ms ns → path < n → (place : ℕ) → spent path (slice_get ms place) ≡ false → spent path (slice_get ns place) ≡ true → byte_news n ms < byte_news n ns
+pub spent_rises : (n path : ℕ) (ms ns : List ByteMark) → AreAsFar ms ns → path < n → (place : ℕ) → spent path (slice_get ms place) ≡ false → spent path (slice_get ns place) ≡ true → byte_news n ms < byte_news n ns
 spent_rises zero path ms ns h low place was now = absurd (omega (arith, low))
 spent_rises (suc n) path ms ns h low place was now = ⊎_elim
     (λ less. let one = count_up (spent n) refl ms ns (h.spent_so n) in let two = count_up (let_go n) refl ms ns (h.gone n) in
@@ -154,39 +154,51 @@ free_before path (Some (Free among)) free = (among, refl, by (contains path amon
     by true is = absurd (true≢false (sym is))
     by false is = refl
 
+-- A byte was granted to a path of the connection, or acknowledged: a path may be granted it no more that might before.
+pub record IsSpentNow (n place : ℕ) (ms ns : List ByteMark) : Type 0 where
+  pub other : ℕ
+  pub low : other < n
+  pub was : spent other (slice_get ms place) ≡ false
+  pub now : spent other (slice_get ns place) ≡ true
+
 -- a byte that was free for a path, and isn't any longer
-pub free_counts : (n path place : ℕ) (ms ns : List ByteMark) → AreAsFar ms ns → path < n → is_free path (slice_get ms place) ≡ true → is_free path (slice_get ns place) ≡ false
-    → rightly (slice_get ns place) ≡ true → ((holder : ℕ) → holds holder (slice_get ns place) ≡ true → holder < n) → byte_news n ms < byte_news n ns
-free_counts n path place ms ns h low free taken right known = by (slice_get ns place) refl
+pub free_spent : (n path place : ℕ) (ms ns : List ByteMark) → AreAsFar ms ns → path < n → is_free path (slice_get ms place) ≡ true → is_free path (slice_get ns place) ≡ false
+    → rightly (slice_get ns place) ≡ true → ((holder : ℕ) → holds holder (slice_get ns place) ≡ true → holder < n) → IsSpentNow n place ms ns
+free_spent n path place ms ns h low free taken right known = by (slice_get ns place) refl
   where
     was : (among : List Bool) × (slice_get ms place ≡ Some (Free among)) × (contains path among ≡ false)
     was = free_before path (slice_get ms place) free
 
-    not_done : is_done (slice_get ms place) ≡ false
-    not_done = ap is_done was.1
-
     unspent : (x : ℕ) → contains x was.0 ≡ false → spent x (slice_get ms place) ≡ false
     unspent x is = ap (spent x) was.1 ∙ is
 
-    held : (holder : ℕ) (among : List Bool) → slice_get ns place ≡ Some (Held holder among) → (c : Bool) → contains holder was.0 ≡ c → byte_news n ms < byte_news n ns
+    held : (holder : ℕ) (among : List Bool) → slice_get ns place ≡ Some (Held holder among) → (c : Bool) → contains holder was.0 ≡ c → IsSpentNow n place ms ns
     held holder among is true tried = absurd (true≢false (sym (h.gone holder place (ap (let_go holder) was.1 ∙ tried)) ∙ ap (let_go holder) is ∙ own (contains holder among) (holder == holder) (eq-eqb holder holder refl)))
       where
         own : (b c : Bool) → c ≡ true → (b && not c) ≡ false
         own true true is = refl
         own false true is = refl
         own b false is = absurd (true≢false (sym is))
-    held holder among is false tried =
-        spent_rises n holder ms ns h (known holder (ap (holds holder) is ∙ eq-eqb holder holder refl)) place (unspent holder tried) (ap (spent holder) is ∙ (sym (ap rightly is) ∙ right))
+    held holder among is false tried = record {
+      other = holder;
+      low = known holder (ap (holds holder) is ∙ eq-eqb holder holder refl);
+      was = unspent holder tried;
+      now = ap (spent holder) is ∙ (sym (ap rightly is) ∙ right);
+    }
 
-    by : (o : Option ByteMark) → slice_get ns place ≡ o → byte_news n ms < byte_news n ns
+    by : (o : Option ByteMark) → slice_get ns place ≡ o → IsSpentNow n place ms ns
     by None is = absurd (true≢false (sym (h.there place (ap is_there was.1)) ∙ ap is_there is))
-    by (Some Acked) is = done_rises n ms ns h place not_done (ap is_done is)
+    by (Some Acked) is = record { other = path; low = low; was = unspent path was.2; now = ap (spent path) is }
     by (Some (Held holder among)) is = held holder among is (contains holder was.0) refl
-    by (Some (Free among)) is = spent_rises n path ms ns h low place (unspent path was.2) (ap (spent path) is ∙ tried (contains path among) (sym (ap (is_free path) is) ∙ taken))
+    by (Some (Free among)) is = record { other = path; low = low; was = unspent path was.2; now = ap (spent path) is ∙ tried (contains path among) (sym (ap (is_free path) is) ∙ taken) }
       where
         tried : (c : Bool) → not c ≡ false → c ≡ true
         tried true is = refl
         tried false is = absurd (true≢false is)
+
+pub free_counts : (n path place : ℕ) (ms ns : List ByteMark) → AreAsFar ms ns → path < n → is_free path (slice_get ms place) ≡ true → is_free path (slice_get ns place) ≡ false
+    → rightly (slice_get ns place) ≡ true → ((holder : ℕ) → holds holder (slice_get ns place) ≡ true → holder < n) → byte_news n ms < byte_news n ns
+free_counts n path place ms ns h low free taken right known = let t = free_spent n path place ms ns h low free taken right known in spent_rises n t.other ms ns h t.low place t.was t.now
 
 -- ---- how many paths there are
 

@@ -35,6 +35,7 @@ use Rattle.path_core.specs.Deliver.{failing_by, failing_mapping, mapping_here}
 use Rattle.path_core.specs.Duties.{ask_for}
 use Rattle.path_core.specs.MpJoin.{is_joined}
 use Rattle.path_core.specs.Octets.{octets}
+use Rattle.path_core.specs.Shown.{shown_path}
 use Rattle.path_core.specs.Start.{waiting_path}
 use Rattle.path_core.specs.State.{PathState, end_at}
 use Rattle.path_core.specs.Steps.{asks_first}
@@ -86,7 +87,7 @@ acked_so p d ds is (Next e es q next now calm does passes) between s =
     first_same : (e d : Duty) (es ds : List Duty) → e ∷ es ≡ d ∷ ds → e ≡ d
     first_same e d es ds same = cc
 
-no_clash : (v : Mappings) → NothingClashes v → clashes_if (first_of v.held) v ≡ false
+pub no_clash : (v : Mappings) → NothingClashes v → clashes_if (first_of v.held) v ≡ false
 no_clash v h = (elim v.held as (λ ks. v.held ≡ ks → clashes_if (first_of ks) v ≡ false) [ [] ↦ λ is. refl | kept ∷ others ↦ λ is. h.each 0 kept (ap (λ ks. slice_get ks 0) is) ]) refl
 
 first_known : (p : PathState Carried) → PathUpright p → EndsAgree (Path p) → EndsHaveKeys p → AllAt p → is_joined p.profile ≡ false → FirstKnown p.agenda p
@@ -94,7 +95,7 @@ first_known p upright agree keys at first = (elim p.agenda as (λ ds. p.agenda �
   where
     by : (d : Duty) (ds : List Duty) → p.agenda ≡ d ∷ ds → Known d p
     by d ds is = record {
-      first = first;
+      first = λ event. first;
       stood = subst (λ xs. FirstStands xs p) is upright.passes.settled;
       asks = asks_calmly p upright.passes.settled (upright.holds first) (ask_for values d p) (ap (λ xs. asks_first values xs p) is);
       agrees = λ s. no_clash (end_at s p).receiving.mappings (agree s);
@@ -155,7 +156,7 @@ record Facts (w : WorldState Carried) : Type 0 where
   maps : EachMaps w
 
 -- the reply to the step that was made last tells no refusal
-step_fine : (w : WorldState Carried) (actor : ℕ) (c : ActorCrew Carried) (x : Ask) → slice_get w.crew actor ≡ Some c → NothingWasRefused (asked values actor (Some x) c w) → tells_refusal (answer_to w.books x) ≡ false
+pub step_fine : (w : WorldState Carried) (actor : ℕ) (c : ActorCrew Carried) (x : Ask) → slice_get w.crew actor ≡ Some c → NothingWasRefused (asked values actor (Some x) c w) → tells_refusal (answer_to w.books x) ≡ false
 step_fine w actor c x there fine =
     last_none (note_tells tells_refusal) c.list (note_of w.books c.pass x)
     (sym (ap (λ o. list_any (note_tells tells_refusal) (notes_or o)) (set_same w.crew actor (crew_after values x w.books c) c there)) ∙ fine actor)
@@ -293,7 +294,7 @@ never_fails : (s : Side) (p : PathState Carried) → failing_mapping p.profile (
 never_fails s p sound h =
     both_ways _ (ap is_some sound) (fails_so p.profile.spelling.checksums (mapping_here (end_at s p)) h.mapping (end_at s p).tcp h.checksums h.here h.there h.wrong)
 
-path_breaks : (p : PathState Carried) → ((s : Side) → failing_mapping p.profile (end_at s p) ≡ None) → ((s : Side) → speaks (Voice.Aborts s) p.agenda ≡ true → ⊥) → Calm p.agenda → IsUnbroken p
+pub path_breaks : (p : PathState Carried) → ((s : Side) → failing_mapping p.profile (end_at s p) ≡ None) → ((s : Side) → speaks (Voice.Aborts s) p.agenda ≡ true → ⊥) → Calm p.agenda → IsUnbroken p
 path_breaks p sound silent calm = record {
   duties = calm;
   broken = λ s reason is. true≢false (subst Calm is calm);
@@ -342,17 +343,18 @@ never_breaks start turns mild = record {
 
 -- ---- over octets
 
+pub shown_unbroken : (p : PathState Carried) → IsUnbroken p → IsUnbroken (shown_path p)
+shown_unbroken p h = record {
+  duties = h.duties;
+  broken = h.broken;
+  is_reset = h.is_reset;
+  stopped = h.stopped;
+  fails = λ s x. h.fails s (record { others = x.others; first = x.first; checksums = x.checksums; mapping = x.mapping; here = x.here; there = x.there; wrong = x.wrong });
+}
+
 shown_breaks : (m : Actor Carried) → NeverBroken m → HoldsOfKind (λ app. Unit {0}) IsNeverBroken (shown_member m)
 shown_breaks (App a) h = tt
-shown_breaks (Path p) h = λ first.
-    let was = h first in
-    record {
-      duties = was.duties;
-      broken = was.broken;
-      is_reset = was.is_reset;
-      stopped = was.stopped;
-      fails = λ s x. was.fails s (record { others = x.others; first = x.first; checksums = x.checksums; mapping = x.mapping; here = x.here; there = x.there; wrong = x.wrong });
-    }
+shown_breaks (Path p) h = λ first. shown_unbroken p (h first)
 
 world_breaks : (w : WorldState Carried) → NeverBreaks w → NeverBreaks (shown_world w)
 world_breaks w h = record {

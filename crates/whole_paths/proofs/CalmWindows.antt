@@ -34,6 +34,7 @@ use Rattle.whole_paths.proofs.RoundSteps.{Between, between, far, open_last}
 use Rattle.whole_paths.proofs.SegmentRounds.{stays_there}
 use Rattle.whole_paths.proofs.UnitRounds.{Parted, parted, rounds_of, well_after}
 use Rattle.whole_paths.proofs.WindowsAssured.{four_rounds_assure}
+use Rattle.whole_paths.proofs.WindowRoom.{one_path_is_roomy}
 
 open_then : (start : Start) (s : Side) (turns : List Turn) → OwedSince start s turns → IsOpenAfter start turns
 open_then start s turns (owed.now ts now due) = now
@@ -83,7 +84,7 @@ module _ (start : Start) (plan : PathPlan) (s : Side) (one : BeginsWithOnePath s
     since_on o = by (is_harmed A h.before.path h.after.path) refl (is_harmed B h.before.path h.after.path) refl
       where
         counted : (u : Side) → is_harmed u h.before.path h.after.path ≡ true → count turns < count (turns ++ turn ∷ [])
-        counted u harmed = (let is = harms_so start plan one turns turn h u in let once = ap one_if harmed in let more = counts.rises turns turn h in omega (arith, is, once, more))
+        counted u harmed = (let is = harms_so start (one_path_is_roomy start plan one) turns turn h u in let once = ap one_if harmed in let more = counts.rises turns turn h in omega (arith, is, once, more))
 
         by : (a : Bool) → is_harmed A h.before.path h.after.path ≡ a → (b : Bool) → is_harmed B h.before.path h.after.path ≡ b → Goes
         by true a b is = inl (counted A a)
@@ -145,9 +146,9 @@ module _ (Also : Start → PathPlan → Type 0) (tells : WhatIsOwedIsTold Also) 
     where
       by : WindowIsKept start s a → Goal
       by (kept.fits enough) = inr (let more = up a to_end in omega (arith, enough, more))
-      by (kept.there all) = inl (stays_there start plan one a u s to_end all)
+      by (kept.there all) = inl (stays_there start one.mild a u s to_end all)
       by (kept.since o) = ⊎_elim
-          (λ all. inl (stays_there start plan one a u s to_end all))
+          (λ all. inl (stays_there start one.mild a u s to_end all))
           (λ assured. inr (let heard = four_rounds_assure start plan a b one (rounds_of start Stand 4 a b four.first) s open_a.path open_a.here (read_after start s v + (plan.mss - 28)) assured in let more = up b from_b in omega (arith, heard, more)))
           (tells start plan s v a one also is_round o open_a.path open_a.here)
 

@@ -1,9 +1,9 @@
 -- Nothing is acknowledged that didn't come: each copy acknowledges what had come to its sender at most, and so does SND.UNA.
-use Rattle.std.proofs.Common.{◌≡◌, refl, sym, subst, ap, ◌∙◌, ◌⊎◌, inl, inr, ⊎_elim, ℕ, ◌+◌, ◌≤◌, arith, nat_lt, nat_le, ◌==◌, Bool, true, false, true≢false, ◌&&◌, if◌then◌else◌, Option, Some, None, is_some, List, [], ◌∷◌, le_refl}
+use Rattle.std.proofs.Common.{◌≡◌, refl, sym, subst, ap, ◌∙◌, ◌⊎◌, inl, inr, ⊎_elim, ℕ, ◌+◌, ◌≤◌, arith, nat_lt, nat_le, ◌==◌, Bool, true, false, true≢false, ◌&&◌, ◌||◌, if◌then◌else◌, Option, Some, None, is_some, List, [], ◌∷◌, le_refl}
 use Rattle.std.specs.Prelude.{IfSome}
 use Rattle.std.specs.Option.{option_map}
 use Rattle.std.specs.List.{position, slice_get}
-use Rattle.std.proofs.lemmas.Bool.{and_parts}
+use Rattle.std.proofs.lemmas.Bool.{and_parts, or_parts}
 use Rattle.std.proofs.lemmas.Option.{same_Some}
 use Rattle.path_segments.specs.declared.position.HeardPosition.TheVariants.{At}
 use Rattle.path_segments.specs.Heard.{HeardSegment}
@@ -37,7 +37,7 @@ use Rattle.subflow_tcp.specs.Opening.{after_begin}
 use Rattle.subflow_tcp.specs.Segments.{Copy}
 use Rattle.subflow_tcp.specs.State.{EndState, is_at_limit}
 use Rattle.subflow_tcp.specs.States.{is_dead, is_waiting}
-use Rattle.subflow_tcp.specs.Taking.{after_death, after_payload, after_ack_kind, after_acknowledgement, is_duplicate, after_duplicate, after_interruption, told_by, after_telling, after_heard_ack, after_established, after_hearing, after_taken, after_holding}
+use Rattle.subflow_tcp.specs.Taking.{after_death, after_dropping_held, after_keeping_held, after_payload, after_ack_kind, after_acknowledgement, is_duplicate, after_duplicate, after_interruption, told_by, after_telling, after_heard_ack, after_established, after_hearing, after_taken, after_holding}
 use Rattle.actor_desk.specs.declared.ask.Reply.{Reply}
 use Rattle.actor_desk.specs.Words.{tail_of, is_nil, pick}
 use Rattle.path_agenda.specs.Agenda.{start_of_turn, leaves, resets, emission}
@@ -57,6 +57,7 @@ use Rattle.path_core.specs.Addresses.{with_priority}
 use Rattle.path_core.specs.Arrival.{acknowledged_in, judged_in, after_judged, copy_heard, heard_in, copy_of, copy_judged, reset_for, owing_if, with_payload}
 use Rattle.path_core.specs.Breaking.{answered_break, reset_on, died_unless_dead}
 use Rattle.path_core.specs.Codec.{Codec}
+use Rattle.path_core.specs.Deliver.{after_keep, is_dropped, is_not_kept}
 use Rattle.path_core.specs.DssIn.{counts, is_clash, held_of, with_learned, with_skipped, with_data_fin}
 use Rattle.path_core.specs.Duties.{passed, sent_for, answered}
 use Rattle.path_core.specs.Emission.{answer_occasion, answered_data, answered_grant, first_unsent, Grant, grant_in, resend_occasion}
@@ -74,7 +75,7 @@ use Rattle.path_core.specs.Start.{waiting_path}
 use Rattle.path_core.specs.State.{PathState, at_tick, end_at, goes_on, with_agenda}
 use Rattle.path_core.specs.Steps.{settled, takes, begins_turn}
 use Rattle.path_core.specs.Timer.{after_firing, timer_fired}
-use Rattle.path_core.specs.Treated.{Treated}
+use Rattle.path_core.specs.Treated.{Treated, nothing_treated}
 use Rattle.path_core.specs.Treating.{item_passed, answered_heard, answered_item, item_of}
 use Rattle.path_core.specs.Values.{Carried, values, as_arrived, carried_by, stripped, altered}
 use Rattle.path_core.specs.declared.events.Event.{Event}
@@ -155,24 +156,60 @@ sent_una _ now s = refl
 
 -- ---- what a duty makes of an end
 
--- SND.UNA and the reset that answers a copy stay, or the end is dead
+-- what a copy said that is treated, and which byte of it is held
+abbrev pub said_of : Treated → Treated
+said_of t = record (copy_said t) { held_edge = t.held_edge }
+
+-- nothing of a copy is treated, or what it said stays, and the byte that is held, or that is held no more
+abbrev pub Recalls : Treated → Treated → Type 0
+Recalls t u = (said_of u ≡ nothing_treated) ⊎ ((copy_said u ≡ copy_said t) × ((u.held_edge ≡ None) ⊎ (u.held_edge ≡ t.held_edge)))
+
+recalls_then : (t u v : Treated) → Recalls t u → Recalls u v → Recalls t v
+recalls_then t u v x (inl none) = inl none
+recalls_then t u v (inr same) (inr more) = inr (more.0 ∙ same.0, ⊎_elim (λ none. inl none) (λ held. ⊎_elim (λ none. inl (held ∙ none)) (λ still. inr (held ∙ still)) same.1) more.1)
+recalls_then t u v (inl none) (inr more) = inl (by (copy_said nothing_treated) (more.0 ∙ ap copy_said none) None (⊎_elim (λ free. free) (λ held. held ∙ ap (λ (w : Treated). w.held_edge) none) more.1))
+  where
+    by : (c : Treated) → copy_said v ≡ c → (o : Option ℕ) → v.held_edge ≡ o → said_of v ≡ record c { held_edge = o }
+    by c is o held = ap (λ (w : Treated). record w { held_edge = v.held_edge }) is ∙ ap (λ o. record c { held_edge = o }) held
+
+-- SND.UNA and what the copy said stay, or the end is dead
 pub record Rests (e f : PathEnd) : Type 0 where
   pub una : (is_gone f ≡ true) ⊎ (f.tcp.send.una ≡ e.tcp.send.una)
-  pub answer : (f.treated.answer ≡ None) ⊎ (f.treated.answer ≡ e.treated.answer)
+  pub said : Recalls e.treated f.treated
 
-rests : (e f : PathEnd) → f.tcp.send.una ≡ e.tcp.send.una → f.treated.answer ≡ e.treated.answer → Rests e f
-rests e f una answer = record { una = inr una; answer = inr answer }
+-- the reset that answers the copy
+answer_rests : (e f : PathEnd) → Rests e f → (f.treated.answer ≡ None) ⊎ (f.treated.answer ≡ e.treated.answer)
+answer_rests e f x = ⊎_elim (λ none. inl (ap (λ (t : Treated). t.answer) none)) (λ same. inr (ap (λ (t : Treated). t.answer) same.0)) x.said
 
-only_rests : (w : EndWrites) (e f : PathEnd) → w.send ≡ false → w.copy ≡ false → Only w e f → Rests e f
-only_rests w e f send copy x = rests e f
-    (ap (λ (v : SendState). v.una) (unwritten w.send e.tcp.send f.tcp.send send (ap (λ (v : EndView). v.send) x.same)))
-    (ap (λ t. t.answer) (unwritten w.copy (copy_said e.treated) (copy_said f.treated) copy (ap (λ (v : EndView). v.copy) x.same)))
+rests : (e f : PathEnd) → f.tcp.send.una ≡ e.tcp.send.una → said_of f.treated ≡ said_of e.treated → Rests e f
+rests e f una said = record { una = inr una; said = inr (ap copy_said said, inr (ap (λ (t : Treated). t.held_edge) said)) }
+
+only_rests : (w : EndWrites) (e f : PathEnd) → w.send ≡ false → (w.copy || w.held_edge) ≡ false → Only w e f → Rests e f
+only_rests w e f send copy x =
+    let parts = or_parts w.copy w.held_edge copy in record {
+      una = inr (ap (λ (v : SendState). v.una) (unwritten w.send e.tcp.send f.tcp.send send (ap (λ (v : EndView). v.send) x.same)));
+      said = inr (
+        unwritten w.copy (copy_said e.treated) (copy_said f.treated) parts.0 (ap (λ (v : EndView). v.copy) x.same),
+        inr (unwritten w.held_edge e.treated.held_edge f.treated.held_edge parts.1 (ap (λ (v : EndView). v.held_edge) x.same)),
+      );
+    }
 
 item_rests : (s : Side) (o : Option Heard) (e : PathEnd) → Rests e (item_passed s o e)
 item_rests s None e = rests e e refl refl
 item_rests s (Some (says.Mapping fin)) e = elim (counts e) as (λ b. Rests e (if b then with_learned e else with_skipped e)) [ true ↦ rests e (with_learned e) refl refl | false ↦ rests e (with_skipped e) refl refl ]
 item_rests s (Some (says.DataFin place)) e = elim (counts e) as (λ b. Rests e (if b then with_data_fin place e else e)) [ true ↦ rests e (with_data_fin place e) refl refl | false ↦ rests e e refl refl ]
 item_rests s (Some _) e = rests e _ refl refl
+
+keep_rests : (s : Side) (e : PathEnd) → Rests e (after_keep s e)
+keep_rests s e = record { una = inr (by (is_dropped s e)); said = inr (refl, held (is_not_kept s e)) }
+  where
+    by : (b : Bool) → (if b then after_dropping_held e.tcp else after_keeping_held e.tcp).send.una ≡ e.tcp.send.una
+    by true = refl
+    by false = refl
+
+    held : (b : Bool) → ((if b then None else e.treated.held_edge) ≡ None) ⊎ ((if b then None else e.treated.held_edge) ≡ e.treated.held_edge)
+    held true = inl refl
+    held false = inr refl
 
 opened_rests : (keys : Option KeyPair) (e : PathEnd) → Rests e (opened_by keys e)
 opened_rests None e = rests e e refl refl
@@ -197,16 +234,16 @@ module _ {C : Type 0} where
   side A f p q x a b = record { a = subst (λ g. Rests p.a g) (sym a) x; b = subst (λ g. Rests p.b g) (sym b) (rests p.b p.b refl refl) }
   side B f p q x a b = record { a = subst (λ g. Rests p.a g) (sym a) (rests p.a p.a refl refl); b = subst (λ g. Rests p.b g) (sym b) x }
 
-  pub calm : (s : Side) (f : PathEnd) (p q : PathState C) → f.tcp.send.una ≡ (end_at s p).tcp.send.una → f.treated.answer ≡ (end_at s p).treated.answer → q.a ≡ pick s f p.a → q.b ≡ pick s p.b f → AllRest p q
-  calm s f p q una answer a b = side s f p q (rests (end_at s p) f una answer) a b
+  pub calm : (s : Side) (f : PathEnd) (p q : PathState C) → f.tcp.send.una ≡ (end_at s p).tcp.send.una → said_of f.treated ≡ said_of (end_at s p).treated → q.a ≡ pick s f p.a → q.b ≡ pick s p.b f → AllRest p q
+  calm s f p q una said a b = side s f p q (rests (end_at s p) f una said) a b
 
-  dying : (s : Side) (f : PathEnd) (p q : PathState C) → is_gone f ≡ true → f.treated.answer ≡ None → q.a ≡ pick s f p.a → q.b ≡ pick s p.b f → AllRest p q
-  dying s f p q dead answer a b = side s f p q (record { una = inl dead; answer = inl answer }) a b
+  dying : (s : Side) (f : PathEnd) (p q : PathState C) → is_gone f ≡ true → said_of f.treated ≡ nothing_treated → q.a ≡ pick s f p.a → q.b ≡ pick s p.b f → AllRest p q
+  dying s f p q dead none a b = side s f p q (record { una = inl dead; said = inl none }) a b
 
   sent : (occasion : Occasion) (s : Side) (f : PathEnd) (p q : PathState C) → f.tcp ≡ after_sending occasion p.clock (end_at s p).tcp → f.treated ≡ (end_at s p).treated → q.a ≡ pick s f p.a → q.b ≡ pick s p.b f
       → AllRest p q
   sent occasion s f p q tcp treated a b =
-      calm s f p q (ap (λ (t : EndState). t.send.una) tcp ∙ sent_una occasion p.clock (end_at s p).tcp) (ap (λ (t : Treated). t.answer) treated) a b
+      calm s f p q (ap (λ (t : EndState). t.send.una) tcp ∙ sent_una occasion p.clock (end_at s p).tcp) (ap said_of treated) a b
 
   either : (b : Bool) (p q r : PathState C) → AllRest p q → AllRest p r → AllRest p (if b then q else r)
   either true p q r x y = x
@@ -215,7 +252,7 @@ module _ {C : Type 0} where
   pub stay : (p q : PathState C) → q.a ≡ p.a → q.b ≡ p.b → AllRest p q
   stay p q a b = record { a = subst (λ g. Rests p.a g) (sym a) (rests p.a p.a refl refl); b = subst (λ g. Rests p.b g) (sym b) (rests p.b p.b refl refl) }
 
-  plain : (s : Side) (w : Writes) (p q : PathState C) → w.own.send ≡ false → w.own.copy ≡ false → w.other ≡ nothing → OnlyAt s w p q → AllRest p q
+  plain : (s : Side) (w : Writes) (p q : PathState C) → w.own.send ≡ false → (w.own.copy || w.own.held_edge) ≡ false → w.other ≡ nothing → OnlyAt s w p q → AllRest p q
   plain s w p q send copy none x = record { a = h.0; b = h.1 }
     where
       h : Rests p.a q.a × Rests p.b q.b
@@ -283,7 +320,7 @@ module _ {C : Type 0} where
   answered_rest k (duties.Silent d) r p other = stay p _ refl refl
   answered_rest k d r p other = plain (side_of d) (writes d) p _ refl refl refl (writes_no_more k d r p)
 
-  passed_rest : (d : Duty) (p : PathState C) → AllRest p (passed d p)
+  pub passed_rest : (d : Duty) (p : PathState C) → AllRest p (passed d p)
   passed_rest (duties.Ask ask_duties.JoinAgain) p = stay p p refl refl
   passed_rest (duties.Ask (ask_duties.LeaveNoted s)) p = stay p p refl refl
   passed_rest (duties.Step step_duties.Events) p = stay p p refl refl
@@ -293,7 +330,7 @@ module _ {C : Type 0} where
   passed_rest (duties.Step (step_duties.Unmapped s)) p = calm s _ p _ refl refl refl refl
   passed_rest (duties.Send d) p = stay p p refl refl
   passed_rest (duties.Silent (silent_duties.Timer s)) p = plain s (writes (duties.Silent (silent_duties.Timer s))) p _ refl refl refl (passes_no_more (duties.Silent (silent_duties.Timer s)) p)
-  passed_rest (duties.Silent (silent_duties.Keep s)) p = plain s (writes (duties.Silent (silent_duties.Keep s))) p _ refl refl refl (passes_no_more (duties.Silent (silent_duties.Keep s)) p)
+  passed_rest (duties.Silent (silent_duties.Keep s)) p = side s _ p _ (keep_rests s (end_at s p)) refl refl
   passed_rest (duties.Silent (silent_duties.PassFin s)) p = plain s (writes (duties.Silent (silent_duties.PassFin s))) p _ refl refl refl (passes_no_more (duties.Silent (silent_duties.PassFin s)) p)
   passed_rest d p = plain (side_of d) (writes d) p (passed d p) refl refl refl (passes_no_more d p)
 
@@ -360,7 +397,7 @@ rest_came p q rest far copies h = record {
   answers = λ t. ⊎_elim
       (λ none. subst (λ (o : Option Outgoing). IfSome o (λ (x : Outgoing). x.rst ≡ true)) (sym none) tt)
       (λ same. subst (λ (o : Option Outgoing). IfSome o (λ (x : Outgoing). x.rst ≡ true)) (sym same) (h.answers t))
-      (at_end rest t).answer;
+      (answer_rests (end_at t p) (end_at t q) (at_end rest t));
 }
 
 same_copies : (p q : PathState Carried) → q.link ≡ p.link → PathCame p → Every (AcksWhatCame p) q.link.under_way
@@ -476,11 +513,11 @@ own_came s f p up h m g (acked n acks rst is as_one) living far = ⊎_elim
 
 pub died_rests : (e : PathEnd) → Rests e (died_unless_dead e)
 died_rests e = (elim (is_dead e.tcp.state) as (λ b. is_dead e.tcp.state ≡ b → Rests e (if b then e else died e))
-    [ true ↦ λ dead. rests e e refl refl | false ↦ λ living. record { una = inl refl; answer = inl refl } ]) refl
+    [ true ↦ λ dead. rests e e refl refl | false ↦ λ living. record { una = inl refl; said = inl refl } ]) refl
 
 pub fired_rests : (now : ℕ) (e : PathEnd) → Rests e (after_firing now e)
 fired_rests now e = elim (is_sixth e.tcp) as (λ b. Rests e (record e { tcp = if b then after_death true e.tcp else after_expiry now e.tcp }))
-    [ true ↦ record { una = inl refl; answer = inr refl } | false ↦ rests e _ refl refl ]
+    [ true ↦ record { una = inl refl; said = inr (refl, inr refl) } | false ↦ rests e _ refl refl ]
 
 line_came : (action : LineAction) (p : PathState Carried) → AllFar p (after_line action p) → PathCame p → PathCame (after_line action p)
 line_came actions.Die p far h = rest_came p (after_line actions.Die p) (record { a = died_rests p.a; b = died_rests p.b }) far (record { each = λ i f there. cc }) h
@@ -608,7 +645,7 @@ both_then : (e f g : PathEnd) → Both e f → Both f g → Both e g
 both_then e f g x y = record {
   rest = record {
     una = ⊎_elim (λ dead. inl (gone_stays f g y.far dead)) (λ same. ⊎_elim (λ dead. inl dead) (λ more. inr (more ∙ same)) y.rest.una) x.rest.una;
-    answer = ⊎_elim (λ none. inl none) (λ same. ⊎_elim (λ none. inl (same ∙ none)) (λ more. inr (same ∙ more)) x.rest.answer) y.rest.answer;
+    said = recalls_then e.treated f.treated g.treated x.rest.said y.rest.said;
   };
   far = far_then e f g x.far y.far;
 }

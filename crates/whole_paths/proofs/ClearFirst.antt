@@ -321,7 +321,7 @@ event_says (Some (happenings.Fires s tick)) r p copies is = inl ((comes_sheds va
 abbrev pub Quiet : PathEnd → Type 0
 Quiet e = (e.tcp.send.nxt ≤ 1) × (e.tcp.send.finished ≡ false)
 
-quiet_on : (now : ℕ) (e f : PathEnd) → SubflowSteps now e.tcp f.tcp → NextStays e f → Quiet e → Quiet f
+pub quiet_on : (now : ℕ) (e f : PathEnd) → SubflowSteps now e.tcp f.tcp → NextStays e f → Quiet e → Quiet f
 quiet_on now e f steps same h = (
   let low = h.0 in omega (arith, same, low),
   ⊎_elim (λ still. still ∙ h.1) (λ rises. absurd (omega (arith, same, rises))) (steps_push now e.tcp f.tcp steps).goes,

@@ -1,15 +1,15 @@
 -- In four rounds all comes that is sent before the first record that may be lost.
-use Rattle.std.proofs.Common.{◌≡◌, sym, subst, ⊎_elim, ℕ, ◌+◌, ◌<◌, ◌≤◌, arith, List, [], ◌∷◌, ◌++◌}
+use Rattle.std.proofs.Common.{◌≡◌, sym, subst, inl, inr, ⊎_elim, ℕ, ◌+◌, ◌<◌, ◌≤◌, arith, List, [], ◌∷◌, ◌++◌}
 use Rattle.std.proofs.lemmas.List.{append-nil, append_assoc}
 use Rattle.sides.specs.declared.side.Side.{Side}
 use Rattle.sides.specs.Side.{peer}
 use Rattle.path_core.specs.State.{PathState, end_at}
 use Rattle.path_core.specs.Values.{Carried, values}
-use Rattle.world_laws.specs.Openings.{PathPlan, Start}
+use Rattle.world_laws.specs.Openings.{Start}
 use Rattle.world_laws.specs.RoundDone.{EndsAt, reached}
 use Rattle.world_laws.specs.Worlds.{Turn}
 use Rattle.world_laws.proofs.Rounds.DoneByTheEnd.{rounds_end_on_time}
-use Rattle.whole_paths.specs.ClearRounds.{EightRoundsClear, FourRoundsClear, IsAckedUpTo, IsClearUpTo, IsFirstOrFewer, IsSoonFirst, LostRecordsAreFirst, LostRecordsStay}
+use Rattle.whole_paths.specs.ClearRounds.{EightRoundsAcknowledge, EightRoundsClear, FourRoundsClear, IsAckedUpTo, IsClearUpTo, IsFirstOrFewer, IsSoonFirst, LostRecordsAreFirst, LostRecordsStay}
 use Rattle.whole_paths.specs.ClearRounds.{IsSoonFirst as soon_first}
 use Rattle.whole_paths.specs.ClearRounds.{IsAckedUpTo as acked}
 use Rattle.whole_paths.specs.ClearRounds.{IsClearUpTo as clear}
@@ -17,7 +17,7 @@ use Rattle.whole_paths.specs.Courses.{round_end}
 use Rattle.whole_paths.specs.Finish.{IsPathAt}
 use Rattle.whole_paths.specs.OctetsPassed.{ComesUpTo, ComesUpToLost}
 use Rattle.whole_paths.specs.OctetsPassed.{ComesUpToLost as up_to_lost}
-use Rattle.whole_paths.specs.OnePathScripts.{BeginsWithOnePath}
+use Rattle.whole_paths.specs.Mild.{IsMildStart}
 use Rattle.whole_paths.specs.OpenCourses.{IsOpenAfter}
 use Rattle.whole_paths.specs.SegmentRounds.{Rounds}
 use Rattle.whole_paths.specs.Unmended.{AreWellBut}
@@ -26,11 +26,11 @@ use Rattle.whole_paths.proofs.Losing.{harms_alone_lose_records}
 use Rattle.whole_paths.proofs.OctetsPassed.{octets_are_passed}
 use Rattle.whole_paths.proofs.RecordWaits.{path_is}
 use Rattle.whole_paths.proofs.RoundSteps.{Between, between, carried, early, open_first, open_last, over_after, rounds_later, silent}
-use Rattle.whole_paths.proofs.SegmentRounds.{four_rounds_tell}
+use Rattle.whole_paths.proofs.SegmentRounds.{four_rounds_bring, four_rounds_tell, stays_there}
 use Rattle.whole_paths.proofs.WellOctets.{all_comes_up_to_lost}
 use Rattle.whole_paths.proofs.OpenTurns.{begun}
 
-module _ (start : Start) (plan : PathPlan) (x : BeginsWithOnePath start plan) (v u : List Turn) (rounds : Rounds start 4 v u) (s : Side) (p q : PathState Carried)
+module _ (start : Start) (mild : IsMildStart start) (v u : List Turn) (rounds : Rounds start 4 v u) (s : Side) (p q : PathState Carried)
     (here : IsPathAt 0 (reached values start v) p) (there : IsPathAt 0 (reached values start u) q) where
   abbrev b : Between start v u
   b = between start 3 v u rounds
@@ -48,7 +48,7 @@ module _ (start : Start) (plan : PathPlan) (x : BeginsWithOnePath start plan) (v
   same_q = path_is (reached values start u) last.path q (subst (λ t. IsPathAt 0 (reached values start t) last.path) (sym b.is) last.here) there
 
   later : (n by_then : ℕ) → ComesUpTo s n by_then p → ComesUpTo s n by_then q
-  later n by_then h = carried start (ComesUpTo s n by_then) (λ turns turn before after. octets_are_passed.on start turns turn (record { mild = x.mild; before = before; after = after }) s n by_then)
+  later n by_then h = carried start (ComesUpTo s n by_then) (λ turns turn before after. octets_are_passed.on start turns turn (record { mild = mild; before = before; after = after }) s n by_then)
       v b.more b.stays_open p q here (subst (λ t. IsPathAt 0 (reached values start t) q) b.is there) h
 
   until : q.until ≡ round_end values start u
@@ -59,25 +59,31 @@ module _ (start : Start) (plan : PathPlan) (x : BeginsWithOnePath start plan) (v
 
   passes : (n : ℕ) → ComesUpTo s n (p.clock + 400) p → n ≤ (end_at (peer s) q).tcp.recv.edge
   passes n h = subst (λ (z : PathState Carried). n ≤ (end_at (peer s) z).tcp.recv.edge) same_q
-      (octets_are_passed.due start (v ++ b.more) x.mild last (subst (λ (z : PathState Carried). z.agenda ≡ []) (sym same_q) (silent start u q (over_after start 3 v u rounds) there)) s n (p.clock + 400)
+      (octets_are_passed.due start (v ++ b.more) mild last (subst (λ (z : PathState Carried). z.agenda ≡ []) (sym same_q) (silent start u q (over_after start 3 v u rounds) there)) s n (p.clock + 400)
       (subst (λ (z : PathState Carried). p.clock + 400 < z.until) (sym same_q) in_time) (subst (ComesUpTo s n (p.clock + 400)) (sym same_q) (later n (p.clock + 400) h)))
 
   clears : (lost : List ℕ) → AreWellBut s lost p → IsClearUpTo s lost p q
-  clears lost but = by (subst (ComesUpToLost s lost) same_p (all_comes_up_to_lost start v x.mild first s lost (subst (AreWellBut s lost) (sym same_p) but)))
+  clears lost but = by (subst (ComesUpToLost s lost) same_p (all_comes_up_to_lost start v mild first s lost (subst (AreWellBut s lost) (sym same_p) but)))
     where
       by : ComesUpToLost s lost p → IsClearUpTo s lost p q
       by (up_to_lost.none well) = clear.none well
       by (up_to_lost.up_to r is_one data_is sent among h) = clear.up_to r.pos among (passes r.pos h)
 
 pub four_rounds_clear : FourRoundsClear
-four_rounds_clear start plan v u x rounds s p q here there lost but = clears start plan x v u rounds s p q here there lost but
+four_rounds_clear start v u mild rounds s p q here there lost but = clears start mild v u rounds s p q here there lost but
 
 pub eight_rounds_clear : EightRoundsClear
-eight_rounds_clear start plan v a u x first second s p m q here between_here there lost but soon = by (four_rounds_clear start plan v a x first s p m here between_here lost but)
+eight_rounds_clear start v a u mild first second s p m q here between_here there lost but soon = by (four_rounds_clear start v a mild first s p m here between_here lost but)
   where
     by : IsClearUpTo s lost p m → IsAckedUpTo s lost p q (reached values start u)
     by (clear.none well) = acked.none well
-    by (clear.up_to position among comes) = ⊎_elim (λ all. acked.all_there all) (λ told. acked.up_to position among (omega (arith, comes, told))) (four_rounds_tell start plan a u x second s m q between_here there soon)
+    by (clear.up_to position among comes) = ⊎_elim (λ all. acked.all_there all) (λ told. acked.up_to position among (omega (arith, comes, told))) (four_rounds_tell start a u mild second s m q between_here there soon)
+
+pub eight_rounds_acknowledge : EightRoundsAcknowledge
+eight_rounds_acknowledge start v a u mild first second s p m q here between_here there well soon = ⊎_elim
+    (λ all. inl (stays_there start mild a u s (between start 3 a u second) all))
+    (λ comes. ⊎_elim (λ all. inl all) (λ told. inr (omega (arith, comes, told))) (four_rounds_tell start a u mild second s m q between_here there soon))
+    (four_rounds_bring start v a mild first s p m here between_here well)
 
 -- ---- no more are lost meanwhile
 
@@ -92,7 +98,7 @@ lost_records_stay start turns (turn ∷ more) mild stays s none p q here there l
     next = open_first start (turns ++ turn ∷ []) more stays.1
 
 pub lost_records_are_first : LostRecordsAreFirst
-lost_records_are_first start plan v a u more x first second is stays s none p m q here between_here there lost but soon = by (eight_rounds_clear start plan v a u x first second s p m q here between_here there lost but soon)
+lost_records_are_first start v a u more mild first second is stays s none p m q here between_here there lost but soon = by (eight_rounds_clear start v a u mild first second s p m q here between_here there lost but soon)
   where
     last : IsOpenAfter start (v ++ more)
     last = open_last start v more stays
@@ -101,10 +107,10 @@ lost_records_are_first start plan v a u more x first second is stays s none p m 
     same = path_is (reached values start u) last.path q (subst (λ t. IsPathAt 0 (reached values start t) last.path) (sym is) last.here) there
 
     later : AreWellBut s lost last.path
-    later = lost_records_stay start v more x.mild stays s none p last.path here last.here lost but
+    later = lost_records_stay start v more mild stays s none p last.path here last.here lost but
 
     by : IsAckedUpTo s lost p q (reached values start u) → IsSoonFirst s lost p q (reached values start u)
     by (acked.none well) = soon_first.none well
     by (acked.all_there all) = soon_first.all_there all
     by (acked.up_to position among low) = soon_first.reached_one (subst (IsFirstOrFewer s lost) same
-        (what_is_reached_is_first start (v ++ more) x.mild last s lost later position among (subst (λ (z : PathState Carried). position ≤ (end_at s z).tcp.send.una) (sym same) low)))
+        (what_is_reached_is_first start (v ++ more) mild last s lost later position among (subst (λ (z : PathState Carried). position ≤ (end_at s z).tcp.send.una) (sym same) low)))

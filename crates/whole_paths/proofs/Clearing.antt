@@ -1,4 +1,4 @@
--- While the SYN/ACK is treated at an end of path 0, the end may not send a DSS yet: it may from the first copy on that it takes.
+-- While the SYN/ACK is treated at an end, the end may not send a DSS yet: it may from the first copy on that it takes.
 use Rattle.std.proofs.Common.{◌≡◌, refl, sym, subst, ap, ◌∙◌, ⊎_elim, ℕ, zero, suc, ◌+◌, ◌≤◌, arith, Bool, true, false, true≢false, if◌then◌else◌, ◌||◌, ◌&&◌, ◌==◌, nat_lt, nat_le, Option, Some, None, List, [], ◌∷◌, ◌++◌, length}
 use Rattle.std.specs.List.{list_any}
 use Rattle.std.proofs.lemmas.Bool.{both_ways, leb-false, leb-true, or_cases, or_from, or_left, or_parts, or_right}
@@ -21,7 +21,7 @@ use Rattle.subflow_tcp.specs.declared.verdicts.Meaning.{Meaning}
 use Rattle.subflow_tcp.specs.declared.verdicts.Meaning.TheVariants as means
 use Rattle.actor_desk.specs.Words.{tail_of}
 use Rattle.actor_desk.specs.declared.ask.Reply.{Reply}
-use Rattle.path_agenda.specs.Agenda.{breaks, copy_came, emission, heard_and, leaves, payload_came, resets, rest_of_turn, start_of_turn, stops}
+use Rattle.path_agenda.specs.Agenda.{breaks, copy_came, emission, heard_and, join_came, leaves, payload_came, refuses, resets, rest_of_turn, start_of_turn, stops}
 use Rattle.path_agenda.specs.declared.duty.Duty.{Duty}
 use Rattle.path_agenda.specs.declared.duty.Duty.TheVariants as duties
 use Rattle.path_agenda.specs.declared.duty.AskDuty.TheVariants as ask_duties
@@ -38,8 +38,14 @@ use Rattle.path_core.specs.DssIn.{held_of}
 use Rattle.path_core.specs.Duties.{answered, passed, stands}
 use Rattle.path_core.specs.End.{PathEnd, died}
 use Rattle.path_core.specs.Events.{after_line, happens_if, next_event}
-use Rattle.path_core.specs.Judged.{taken_as}
-use Rattle.path_core.specs.MpJoin.{is_joined, is_never, join_begun, keys_begun, never_joined, opened_by}
+use Rattle.path_core.specs.Judged.{is_taken, taken_as, with_answer}
+use Rattle.path_core.specs.declared.judged.Judged.{Judged}
+use Rattle.path_core.specs.declared.judged.Judged.TheVariants as judged
+use Rattle.path_core.specs.declared.modes.Modes.{Modes}
+use Rattle.join_handshake.specs.declared.hearing.JoinAnswer.{JoinAnswer}
+use Rattle.path_agenda.specs.declared.heard.Heard.{Heard}
+use Rattle.path_core.proofs.Judgements.{judged_taken}
+use Rattle.path_core.specs.MpJoin.{is_joined, is_never, join_answer, join_begun, keys_begun, never_joined, opened_by}
 use Rattle.path_core.specs.OptionsIn.{items_of, options_heard}
 use Rattle.path_core.specs.Start.{waiting_path}
 use Rattle.path_core.specs.State.{PathState, at_tick, end_at, goes_on, with_agenda}
@@ -48,7 +54,7 @@ use Rattle.path_core.specs.Timer.{after_firing, template_fired}
 use Rattle.path_core.specs.declared.events.Event.{Event}
 use Rattle.path_core.specs.declared.events.Event.TheVariants as happenings
 use Rattle.world_laws.specs.declared.member.Member.TheVariants.{App, Path}
-use Rattle.world_laws.specs.Actors.{Actor, ActorCrew, is_over, member_next, member_takes}
+use Rattle.world_laws.specs.Actors.{Actor, ActorCrew, member_next, member_takes}
 use Rattle.world_laws.specs.Members.{HoldsOfKind}
 use Rattle.world_laws.specs.Openings.{PathPlan, Start, opened_world, path_begins}
 use Rattle.world_laws.specs.StampedBooks.{answer_to}
@@ -69,9 +75,8 @@ use Rattle.whole_paths.specs.Mild.{treats_answer}
 use Rattle.whole_paths.specs.Opening.{opens_to}
 use Rattle.whole_paths.proofs.Agendas.{answered_follows}
 use Rattle.whole_paths.proofs.Duties.{answered_steps, passed_steps}
-use Rattle.whole_paths.proofs.Flying.{next_frames, takes_frames}
 use Rattle.whole_paths.proofs.InTime.{is_event}
-use Rattle.whole_paths.proofs.Opening.{meaning_has, means_up}
+use Rattle.whole_paths.proofs.Opening.{HasSyn, meaning_has, means_up}
 use Rattle.whole_paths.proofs.Pieces.{own_only}
 use Rattle.whole_paths.proofs.Settling.{sides}
 use Rattle.whole_paths.proofs.Waiting.{path_far}
@@ -265,36 +270,50 @@ pub judged_clear : (told : List KeptMapping) (answer : Outgoing) (s : Side) (now
 judged_clear told answer s now h means.Opens e = refl
 judged_clear told answer s now h _ e = refl
 
+answer_clear : (o : Option JoinAnswer) (m : Modes) → (with_answer o m).clear ≡ m.clear
+answer_clear None m = refl
+answer_clear (Some answer) m = refl
+
+-- nor by any copy but one that B takes, on a path that joins
+pub joined_clear : (joined : Bool) (told : List KeptMapping) (answer : Outgoing) (s : Side) (now : ℕ) (h : HeardSegment) (m : Meaning) (e : PathEnd) → is_taken m ≡ false
+    → (copy_judged joined told answer s now h m e).modes.clear ≡ e.modes.clear
+joined_clear false told answer s now h m e other = judged_clear told answer s now h m e
+joined_clear true told answer s now h means.Opens e other = refl
+joined_clear true told answer s now h (means.Accepts acknowledged) e other = answer_clear (join_answer (items_of true s h) e.modes) e.modes
+joined_clear true told answer s now h (means.Taken position acknowledged) e other = absurd (true≢false other)
+joined_clear true told answer s now h _ e other = refl
+
 -- the end that it comes to, and the other one
-own_clears : (s : Side) (ds : List Duty) (e f : PathEnd) (c : Copy) (count : ℕ) (m : Meaning) → MeansIs c e.tcp m → (is_unwanted m ≡ true → 7 ≤ stage e.tcp.state) → IsFar e f → opens_to m ≤ stage f.tcp.state
-    → f.modes.clear ≡ e.modes.clear → Clears s ds e → Clears s (template_by false s count m) f
-own_clears s ds e f c count (means.Taken position acknowledged) fits over far up same h =
+own_clears : (joined : Bool) (s : Side) (ds : List Duty) (e f : PathEnd) (c : Copy) (count : ℕ) (m : Meaning) → MeansIs c e.tcp m → (is_unwanted m ≡ true → 7 ≤ stage e.tcp.state) → IsFar e f → opens_to m ≤ stage f.tcp.state
+    → (is_taken m ≡ false → f.modes.clear ≡ e.modes.clear) → Clears s ds e → Clears s (template_by joined s count m) f
+own_clears joined s ds e f c count (means.Taken position acknowledged) fits over far up same h =
     let none : list_any (answered_at s) (copy_came s count) ≡ false = answers_heard s s 0 count (payload_came s) refl in record {
       met = λ is. up;
-      early = λ low. same ∙ h.early (omega (arith, low, far));
+      early = λ low. absurd (omega (arith, low, up));
       unclear = λ is. absurd (both_ways (list_any (answered_at s) (copy_came s count)) none is);
       alone = λ is. absurd (both_ways (list_any (answered_at s) (copy_came s count)) none is);
       dead = λ is. absurd (both_ways (list_any (refused_at s) (copy_came s count)) (refuses_heard s s 0 count (payload_came s) refl) is);
     }
-own_clears s ds e f c count (means.Accepts acknowledged) fits over far up same h = record {
+own_clears false s ds e f c count (means.Accepts acknowledged) fits over far up same h = record {
   met = λ is. absurd (true≢false (sym is));
-  early = λ low. same ∙ h.early (omega (arith, low, far));
-  unclear = λ is. same ∙ h.early (subst (λ state. stage state ≤ 2) (sym fits.0) (omega arith));
+  early = λ low. same refl ∙ h.early (omega (arith, low, far));
+  unclear = λ is. same refl ∙ h.early (subst (λ state. stage state ≤ 2) (sym fits.0) (omega arith));
   alone = λ is. refl;
   dead = λ is. absurd (true≢false (sym is));
 }
-own_clears s ds e f c count means.Unwanted fits over far up same h = record {
+own_clears true s ds e f c count (means.Accepts acknowledged) fits over far up same h = fresh s e f far ds _ refl (same refl) h
+own_clears joined s ds e f c count means.Unwanted fits over far up same h = record {
   met = λ is. absurd (true≢false (sym is));
-  early = λ low. same ∙ h.early (omega (arith, low, far));
+  early = λ low. same refl ∙ h.early (omega (arith, low, far));
   unclear = λ is. absurd (true≢false (sym is));
   alone = λ is. refl;
   dead = λ is. let high = over refl in omega (arith, high, far);
 }
-own_clears s ds e f c count means.Ignored fits over far up same h = fresh s e f far ds _ refl same h
-own_clears s ds e f c count _ fits over far up same h = fresh s e f far ds _ refl same h
+own_clears joined s ds e f c count means.Ignored fits over far up same h = fresh s e f far ds _ refl (same refl) h
+own_clears joined s ds e f c count _ fits over far up same h = fresh s e f far ds _ refl (same refl) h
 
-other_clears : (t s : Side) → same_side s t ≡ false → (ds : List Duty) (e : PathEnd) (count : ℕ) (m : Meaning) → Clears t ds e → Clears t (template_by false s count m) e
-other_clears t s apart ds e count (means.Taken position acknowledged) h =
+other_clears : (joined : Bool) (t s : Side) → same_side s t ≡ false → (ds : List Duty) (e : PathEnd) (count : ℕ) (m : Meaning) → Clears t ds e → Clears t (template_by joined s count m) e
+other_clears joined t s apart ds e count (means.Taken position acknowledged) h =
     let answering : list_any (answered_at t) (copy_came s count) ≡ false = answers_heard t s 0 count (payload_came s) refl in
     let clearing : list_any (clears_at t) (copy_came s count) ≡ false = or_from (same_side s t) _ apart (others_heard t s apart 0 count (payload_came s) refl) in record {
       met = λ is. absurd (both_ways (list_any (clears_at t) (copy_came s count)) clearing is);
@@ -303,22 +322,23 @@ other_clears t s apart ds e count (means.Taken position acknowledged) h =
       alone = λ is. clearing;
       dead = λ is. absurd (both_ways (list_any (refused_at t) (copy_came s count)) (refuses_heard t s 0 count (payload_came s) refl) is);
     }
-other_clears t s apart ds e count (means.Accepts acknowledged) h = record {
+other_clears false t s apart ds e count (means.Accepts acknowledged) h = record {
   met = λ is. absurd (true≢false (sym is));
   early = h.early;
   unclear = λ is. absurd (both_ways (same_side s t || (same_side s t || false)) (or_from (same_side s t) (same_side s t || false) apart (or_from (same_side s t) false apart refl)) is);
   alone = λ is. refl;
   dead = λ is. absurd (true≢false (sym is));
 }
-other_clears t s apart ds e count means.Unwanted h = record {
+other_clears true t s apart ds e count (means.Accepts acknowledged) h = fresh t e e (omega arith) ds _ refl refl h
+other_clears joined t s apart ds e count means.Unwanted h = record {
   met = λ is. absurd (true≢false (sym is));
   early = h.early;
   unclear = λ is. absurd (true≢false (sym is));
   alone = λ is. refl;
   dead = λ is. absurd (both_ways (same_side s t || false) (or_from (same_side s t) false apart refl) is);
 }
-other_clears t s apart ds e count means.Ignored h = fresh t e e (omega arith) ds _ refl refl h
-other_clears t s apart ds e count _ h = fresh t e e (omega arith) ds _ refl refl h
+other_clears joined t s apart ds e count means.Ignored h = fresh t e e (omega arith) ds _ refl refl h
+other_clears joined t s apart ds e count _ h = fresh t e e (omega arith) ds _ refl refl h
 
 -- ---- a path
 
@@ -396,7 +416,7 @@ module _ {C : Type 0} where
 
   -- ---- events
 
-  goes_clear : (s t : Side) (f : PathEnd) (ds : List Duty) (p : PathState C) → f.modes.clear ≡ (end_at s p).modes.clear → (end_at t (goes_on s f ds p)).modes.clear ≡ (end_at t p).modes.clear
+  pub goes_clear : (s t : Side) (f : PathEnd) (ds : List Duty) (p : PathState C) → f.modes.clear ≡ (end_at s p).modes.clear → (end_at t (goes_on s f ds p)).modes.clear ≡ (end_at t p).modes.clear
   goes_clear A A f ds p is = is
   goes_clear A B f ds p is = refl
   goes_clear B A f ds p is = refl
@@ -431,47 +451,68 @@ module _ {C : Type 0} where
       by false far h = all_fresh ds (emission A) p (goes_on A (opened_by (keys_begun r) p.a) (emission A) p) far refl (λ t. goes_clear A t (opened_by (keys_begun r) p.a) (emission A) p (opened_clear (keys_begun r) p.a)) h
 
   -- what a copy makes of both ends
-  both_clear : (s : Side) (ds : List Duty) (f : PathEnd) (c : Copy) (count : ℕ) (m : Meaning) (p : PathState C) → MeansIs c (end_at s p).tcp m → (is_unwanted m ≡ true → 7 ≤ stage (end_at s p).tcp.state) → opens_to m ≤ stage f.tcp.state
-      → f.modes.clear ≡ (end_at s p).modes.clear → AllFar p (goes_on s f (template_by false s count m) p) → AllClear ds p → AllClear (template_by false s count m) (goes_on s f (template_by false s count m) p)
-  both_clear A ds f c count m p fits over up same far h A = own_clears A ds p.a f c count m fits over (far A) up same (h A)
-  both_clear A ds f c count m p fits over up same far h B = other_clears B A refl ds p.b count m (h B)
-  both_clear B ds f c count m p fits over up same far h A = other_clears A B refl ds p.a count m (h A)
-  both_clear B ds f c count m p fits over up same far h B = own_clears B ds p.b f c count m fits over (far B) up same (h B)
+  both_clear : (joined : Bool) (s : Side) (ds : List Duty) (f : PathEnd) (c : Copy) (count : ℕ) (m : Meaning) (p : PathState C) → MeansIs c (end_at s p).tcp m → (is_unwanted m ≡ true → 7 ≤ stage (end_at s p).tcp.state)
+      → opens_to m ≤ stage f.tcp.state → (is_taken m ≡ false → f.modes.clear ≡ (end_at s p).modes.clear) → AllFar p (goes_on s f (template_by joined s count m) p) → AllClear ds p
+      → AllClear (template_by joined s count m) (goes_on s f (template_by joined s count m) p)
+  both_clear joined A ds f c count m p fits over up same far h A = own_clears joined A ds p.a f c count m fits over (far A) up same (h A)
+  both_clear joined A ds f c count m p fits over up same far h B = other_clears joined B A refl ds p.b count m (h B)
+  both_clear joined B ds f c count m p fits over up same far h A = other_clears joined A B refl ds p.a count m (h A)
+  both_clear joined B ds f c count m p fits over up same far h B = own_clears joined B ds p.b f c count m fits over (far B) up same (h B)
 
-  told_clears : (now : ℕ) (s : Side) (h : HeardSegment) (ds : List Duty) (p : PathState C) → is_joined p.profile ≡ false → AllFar p (told_at now s h p) → AllClear ds p → AllClear (told_at now s h p).agenda (told_at now s h p)
-  told_clears now s h ds p first = by (is_joined p.profile) first
+  told_clears : (now : ℕ) (s : Side) (h : HeardSegment) (ds : List Duty) (p : PathState C) → AllFar p (told_at now s h p) → AllClear ds p → AllClear (told_at now s h p).agenda (told_at now s h p)
+  told_clears now s h ds p = by (judged_in joined s h e)
+      (judged_taken h.rst items e (λ m. MeansIs (copy_of h) e.tcp m) tt joined meaning (means_so (copy_of h) e.tcp))
+      (judged_taken h.rst items e (λ m. is_unwanted m ≡ true → 7 ≤ stage e.tcp.state) (λ is. absurd (true≢false (sym is))) joined meaning (unwanted_dead (copy_of h) e.tcp))
+      (judged_taken h.rst items e (λ m. HasSyn e.tcp.state m) tt joined meaning (meaning_has e.tcp.state (copy_of h) e.tcp))
     where
-      by : (joined : Bool) → joined ≡ false
-          → let q = goes_on s (copy_judged joined (held_of p.profile s h) (reset_for p.profile s h) s now h (taken_as (judged_in joined s h (end_at s p))) (end_at s p))
-          (template_of joined s (items_of joined s h) (judged_in joined s h (end_at s p))) p in
-          AllFar p q → AllClear ds p → AllClear q.agenda q
-      by true is = absurd (true≢false is)
-      by false is =
-          let e : PathEnd = end_at s p in let m : Meaning = meaning_of (copy_of h) e.tcp in
-          both_clear s ds (copy_judged false (held_of p.profile s h) (reset_for p.profile s h) s now h m e) (copy_of h) (length (items_of false s h)) m p (means_so (copy_of h) e.tcp) (unwanted_dead (copy_of h) e.tcp)
-          (subst (λ joined. opens_to m ≤ stage (copy_judged joined (held_of p.profile s h) (reset_for p.profile s h) s now h m e).tcp.state) first (means_up p.profile s now h e m (meaning_has e.tcp.state (copy_of h) e.tcp)))
-          (judged_clear (held_of p.profile s h) (reset_for p.profile s h) s now h m e)
+      e : PathEnd
+      e = end_at s p
 
-  copy_clears : (s : Side) (o : Option HeardSegment) (ds : List Duty) (p : PathState C) → is_joined p.profile ≡ false → AllFar p (copy_heard s o p) → AllClear ds p → AllClear (copy_heard s o p).agenda (copy_heard s o p)
-  copy_clears s None ds p first far h = all_fresh ds (emission s) p (copy_heard s None p) far refl (λ t. refl) h
-  copy_clears s (Some x) ds p first far h = told_clears p.clock s (options_heard (end_at s p) x) ds p first far h
+      joined : Bool
+      joined = is_joined p.profile
 
-  event_clears : (k : Codec C) (o : Option Event) (r : Reply) (ds : List Duty) (p : PathState C) → is_joined p.profile ≡ false → AllFar p (happens_if k o r p) → AllClear ds p
+      items : List Heard
+      items = items_of joined s h
+
+      meaning : Meaning
+      meaning = meaning_of (copy_of h) e.tcp
+
+      made : Meaning → PathEnd
+      made m = copy_judged joined (held_of p.profile s h) (reset_for p.profile s h) s now h m e
+
+      stays : (m : Meaning) → is_taken m ≡ false → (made m).modes.clear ≡ e.modes.clear
+      stays m other = joined_clear joined (held_of p.profile s h) (reset_for p.profile s h) s now h m e other
+
+      passed_over : (es : List Duty) → list_any is_sign es ≡ false → let q = goes_on s (made means.Ignored) es p in AllFar p q → AllClear ds p → AllClear es q
+      passed_over es none far h = all_fresh ds es p (goes_on s (made means.Ignored) es p) far none (λ t. goes_clear s t (made means.Ignored) es p (stays means.Ignored refl)) h
+
+      by : (v : Judged) → MeansIs (copy_of h) e.tcp (taken_as v) → (is_unwanted (taken_as v) ≡ true → 7 ≤ stage e.tcp.state) → HasSyn e.tcp.state (taken_as v)
+          → let q = goes_on s (made (taken_as v)) (template_of joined s items v) p in AllFar p q → AllClear ds p → AllClear (template_of joined s items v) q
+      by (judged.As m) fits over has = both_clear joined s ds (made m) (copy_of h) (length items) m p fits over (means_up p.profile s now h e m has) (stays m)
+      by judged.Asks fits over has = passed_over (join_came s) refl
+      by judged.Lacks fits over has = passed_over (refuses s) refl
+      by judged.Forged fits over has = passed_over (resets s 1) refl
+
+  copy_clears : (s : Side) (o : Option HeardSegment) (ds : List Duty) (p : PathState C) → AllFar p (copy_heard s o p) → AllClear ds p → AllClear (copy_heard s o p).agenda (copy_heard s o p)
+  copy_clears s None ds p far h = all_fresh ds (emission s) p (copy_heard s None p) far refl (λ t. refl) h
+  copy_clears s (Some x) ds p far h = told_clears p.clock s (options_heard (end_at s p) x) ds p far h
+
+  event_clears : (k : Codec C) (o : Option Event) (r : Reply) (ds : List Duty) (p : PathState C) → AllFar p (happens_if k o r p) → AllClear ds p
       → AllClear (happens_if k o r p).agenda (happens_if k o r p)
-  event_clears k None r ds p first far h = all_fresh ds rest_of_turn p (happens_if k None r p) far refl (λ t. refl) h
-  event_clears k (Some (happenings.Joins tick)) r ds p first far h = begun_clears r ds (record (at_tick tick p) { joined_at = None }) far h
-  event_clears k (Some (happenings.Takes line)) r ds p first far h = line_clears line.action ds (record (at_tick line.tick p) { lines = tail_of p.lines }) far h
-  event_clears k (Some (happenings.Arrives due)) r ds p first far h =
-      copy_clears due.to (heard_in k due.to (arriving due p.link) p) ds (record (at_tick due.tick p) { link = after_delivery due p.link }) first far h
-  event_clears k (Some (happenings.Fires s tick)) r ds p first far h =
+  event_clears k None r ds p far h = all_fresh ds rest_of_turn p (happens_if k None r p) far refl (λ t. refl) h
+  event_clears k (Some (happenings.Joins tick)) r ds p far h = begun_clears r ds (record (at_tick tick p) { joined_at = None }) far h
+  event_clears k (Some (happenings.Takes line)) r ds p far h = line_clears line.action ds (record (at_tick line.tick p) { lines = tail_of p.lines }) far h
+  event_clears k (Some (happenings.Arrives due)) r ds p far h =
+      copy_clears due.to (heard_in k due.to (arriving due p.link) p) ds (record (at_tick due.tick p) { link = after_delivery due p.link }) far h
+  event_clears k (Some (happenings.Fires s tick)) r ds p far h =
       all_fresh ds _ p (happens_if k (Some (happenings.Fires s tick)) r p) far (fired_unsigned (is_sixth (end_at s p).tcp) s) (λ t. let q : PathState C = at_tick tick p in goes_clear s t (after_firing q.clock (end_at s q)) (template_fired (is_sixth (end_at s q).tcp) s) q refl) h
 
   -- ---- a step
 
-  answered_clears : (k : Codec C) (d : Duty) (ds : List Duty) (r : Reply) (p : PathState C) → is_joined p.profile ≡ false → let x : PathState C = with_agenda (d ∷ ds) p in let q : PathState C = answered k d r x in
+  answered_clears : (k : Codec C) (d : Duty) (ds : List Duty) (r : Reply) (p : PathState C) → let x : PathState C = with_agenda (d ∷ ds) p in let q : PathState C = answered k d r x in
       AllFar x q → AllClear (d ∷ ds) x → AllClear q.agenda q
-  answered_clears k (duties.Step step_duties.Events) ds r p first far h t = let x : PathState C = with_agenda (duties.Step step_duties.Events ∷ ds) p in event_clears k (next_event x) r (duties.Step step_duties.Events ∷ ds) x first far h t
-  answered_clears k d ds r p first far h t =
+  answered_clears k (duties.Step step_duties.Events) ds r p far h t = let x : PathState C = with_agenda (duties.Step step_duties.Events ∷ ds) p in event_clears k (next_event x) r (duties.Step step_duties.Events ∷ ds) x far h t
+  answered_clears k d ds r p far h t =
       let x : PathState C = with_agenda (d ∷ ds) p in let q : PathState C = answered k d r x in
       kept t (end_at t x) (end_at t q) (far t) (d ∷ ds) q.agenda
       (λ is. back (clears_at t) (clears_sign t) (side_of d) _ d ds q.agenda (answered_follows k d ds r p) is)
@@ -479,36 +520,33 @@ module _ {C : Type 0} where
       (λ is. back (refused_at t) (refused_sign t) (side_of d) _ d ds q.agenda (answered_follows k d ds r p) is)
       (λ none. same_clear t d x q refl (writes_no_more k d r x) (or_parts (clears_at t d) (list_any (clears_at t) ds) none).0) (h t)
 
-  takes_clears : (k : Codec C) (r : Reply) (p : PathState C) → is_joined p.profile ≡ false → AllClear p.agenda p → AllClear (takes k r p).agenda (takes k r p)
-  takes_clears k r p first = by p.agenda
+  takes_clears : (k : Codec C) (r : Reply) (p : PathState C) → AllClear p.agenda p → AllClear (takes k r p).agenda (takes k r p)
+  takes_clears k r p = by p.agenda
     where
       by : (ds : List Duty) → AllClear ds (with_agenda ds p) → AllClear (takes k r (with_agenda ds p)).agenda (takes k r (with_agenda ds p))
       by [] h = h
       by (d ∷ ds) h =
           let x : PathState C = with_agenda (d ∷ ds) p in let q : PathState C = answered k d r x in
-          settled_clears q.agenda q (answered_clears k d ds r p first (λ t. (path_far x q (answered_steps k d r x) t).subflow.state) h)
+          settled_clears q.agenda q (answered_clears k d ds r p (λ t. (path_far x q (answered_steps k d r x) t).subflow.state) h)
 
   start_clears : (ds : List Duty) (p : PathState C) → AllClear ds p → AllClear start_of_turn p
   start_clears ds p h = all_fresh ds start_of_turn p p (λ t. omega arith) refl (λ t. refl) h
 
   -- ---- each path
 
-  abbrev pub PathClears : PathState C → Type 0
-  PathClears p = is_joined p.profile ≡ false → AllClear p.agenda p
+  abbrev pub Clearing : Actor C → Type 0
+  Clearing = HoldsOfKind (λ app. Unit {0}) (λ p. AllClear p.agenda p)
 
-  abbrev pub MemberClears : Actor C → Type 0
-  MemberClears = HoldsOfKind (λ app. Unit {0}) PathClears
-
-  member_takes_clears : (k : Codec C) (r : Reply) (m : Actor C) → MemberClears m → MemberClears (member_takes k r m)
+  member_takes_clears : (k : Codec C) (r : Reply) (m : Actor C) → Clearing m → Clearing (member_takes k r m)
   member_takes_clears k r (App a) h = tt
-  member_takes_clears k r (Path p) h = λ later. let first : is_joined p.profile ≡ false = ap is_joined (sym (takes_frames k r p).profile) ∙ later in takes_clears k r p first (h first)
+  member_takes_clears k r (Path p) h = takes_clears k r p h
 
   begins_clears : (p : PathState C) → AllClear p.agenda p → AllClear (next_round p).agenda (next_round p)
   begins_clears p h = let q : PathState C = record p { clock = p.until; until = p.until + 100 } in settled_clears start_of_turn (with_agenda start_of_turn q) (start_clears p.agenda q h)
 
-  member_begins_clears : (m : Actor C) → is_over m ≡ true → MemberClears m → MemberClears (member_next m)
-  member_begins_clears (App a) over h = tt
-  member_begins_clears (Path p) over h = λ later. begins_clears p (h (ap is_joined (sym (next_frames p over).profile) ∙ later))
+  member_begins_clears : (m : Actor C) → Clearing m → Clearing (member_next m)
+  member_begins_clears (App a) h = tt
+  member_begins_clears (Path p) h = begins_clears p h
 
   -- no end that may send a DSS treats the SYN/ACK
   pub never_treats : (p : PathState C) → AllClear p.agenda p → ((t : Side) → (end_at t p).modes.clear ≡ true) → treats_answer p.agenda ≡ true → ⊥
@@ -525,10 +563,24 @@ module _ {C : Type 0} where
   never_refuses p t h living others is =
       living_low (end_at t p).tcp.state living ((h t).dead (ap (λ ds. list_any (refused_at t) ds) is ∙ or_left (same_side t t) (list_any (refused_at t) others) (itself t)))
 
-  pub each_clears : (k : Codec C) (start : Start) (turns : List Turn) → Every (λ (c : ActorCrew C). MemberClears c.member) (world_run k turns (opened_world start)).crew
-  each_clears k start turns = run_lifted k (λ c. MemberClears c.member) (λ books c x asks h. member_takes_clears k (answer_to books x) c.member h) (λ stamp c over h. member_begins_clears c.member over h) turns (opened_world start)
-      (opened_lifted (λ c. MemberClears c.member) start tt tt (λ number plan there first.
+  pub always_clears : (k : Codec C) (start : Start) (turns : List Turn) → Every (λ (c : ActorCrew C). Clearing c.member) (world_run k turns (opened_world start)).crew
+  always_clears k start turns = run_lifted k (λ c. Clearing c.member) (λ books c x asks h. member_takes_clears k (answer_to books x) c.member h) (λ stamp c over h. member_begins_clears c.member h) turns (opened_world start)
+      (opened_lifted (λ c. Clearing c.member) start tt tt (λ number plan there.
       let p : PathState C = waiting_path (path_begins start number plan) start.lines in settled_clears start_of_turn (with_agenda start_of_turn p) (start_clears [] p (first_clears C number start plan))))
+
+  -- of path 0
+  abbrev pub PathClears : PathState C → Type 0
+  PathClears p = is_joined p.profile ≡ false → AllClear p.agenda p
+
+  abbrev pub MemberClears : Actor C → Type 0
+  MemberClears = HoldsOfKind (λ app. Unit {0}) PathClears
+
+  pub each_clears : (k : Codec C) (start : Start) (turns : List Turn) → Every (λ (c : ActorCrew C). MemberClears c.member) (world_run k turns (opened_world start)).crew
+  each_clears k start turns = record { each = λ i c there. by c.member ((always_clears k start turns).each i c there) }
+    where
+      by : (m : Actor C) → Clearing m → MemberClears m
+      by (App a) h = tt
+      by (Path p) h = λ first. h
 
 -- ---- the law
 

@@ -1,4 +1,4 @@
--- What holds up an exchange between open ends is counted: as news, or as a segment of path 0 that is harmed.
+-- What holds up an exchange between open ends is counted: as news, or as a segment of the path that is harmed.
 use Rattle.std.proofs.Common.{◌≡◌, refl, sym, subst, ap, ◌∙◌, inl, inr, ℕ, ◌+◌, ◌-◌, ◌^◌, ◌<◌, ◌≤◌, arith, true, false, true≢false, Some, List, [], ◌∷◌, ◌++◌}
 use Rattle.std.specs.List.{slice_get}
 use Rattle.sides.specs.declared.side.Side.{Side}
@@ -13,7 +13,7 @@ use Rattle.world_laws.specs.Openings.{Start, opened_world}
 use Rattle.world_laws.specs.RoundDone.{reached}
 use Rattle.world_laws.specs.Worlds.{WorldState, Turn, after_turn, world_run}
 use Rattle.world_laws.proofs.Weaving.WholeRounds.{run_append}
-use Rattle.whole_paths.specs.Courses.{counted}
+use Rattle.whole_paths.specs.Courses.{counted_at}
 use Rattle.whole_paths.specs.Exchanges.{IsHeldUp}
 use Rattle.whole_paths.specs.Exchanges.{IsHeldUp as held}
 use Rattle.whole_paths.specs.Finish.{harmed, harms_between, harms_of, is_harmed}
@@ -30,7 +30,7 @@ one_harmed B p q is = let one = ap one_if is in omega (arith, one)
 
 -- ---- a turn
 
-harmed_more : (number : ℕ) (turns : List Turn) (turn : Turn) (w : WorldState Carried) → let v = world_run values turns w in
+pub harmed_more : (number : ℕ) (turns : List Turn) (turn : Turn) (w : WorldState Carried) → let v = world_run values turns w in
     harmed values number (turns ++ turn ∷ []) w ≡ harmed values number turns w + harms_of (slice_get v.crew (2 + number)) (slice_get (after_turn values turn v).crew (2 + number))
 harmed_more number [] turn w = omega arith
 harmed_more number (first ∷ turns) turn w = let rest = harmed_more number turns turn (after_turn values first w) in omega (arith, rest)
@@ -39,7 +39,7 @@ pub harmed_snoc : (turns : List Turn) (turn : Turn) (w : WorldState Carried) →
     harmed values 0 (turns ++ turn ∷ []) w ≡ harmed values 0 turns w + harms_of (slice_get v.crew 2) (slice_get (after_turn values turn v).crew 2)
 harmed_snoc turns turn w = harmed_more 0 turns turn w
 
-module _ (start : Start) (turns : List Turn) (turn : Turn) where
+module _ (start : Start) (number : ℕ) (turns : List Turn) (turn : Turn) where
   abbrev w : WorldState Carried
   w = reached values start turns
 
@@ -47,7 +47,7 @@ module _ (start : Start) (turns : List Turn) (turn : Turn) where
   v = after_turn values turn w
 
   abbrev Rises : Type 0
-  Rises = counted values start turns < counted values start (turns ++ turn ∷ [])
+  Rises = counted_at values start number turns < counted_at values start number (turns ++ turn ∷ [])
 
   last : world_run values (turns ++ turn ∷ []) (opened_world start) ≡ v
   last = run_append values turns (turn ∷ []) (opened_world start)
@@ -55,18 +55,18 @@ module _ (start : Start) (turns : List Turn) (turn : Turn) where
   pub by_news : news start w < news start v → Rises
   by_news more =
       let up : news start w < news start (reached values start (turns ++ turn ∷ [])) = subst (λ (x : WorldState Carried). news start w < news start x) (sym last) more in
-      let harms = harmed_append values 0 turns (turn ∷ []) (opened_world start) in omega (arith, up, harms)
+      let harms = harmed_append values number turns (turn ∷ []) (opened_world start) in omega (arith, up, harms)
 
-  pub by_harm : (c d : ActorCrew Carried) → slice_get w.crew 2 ≡ Some c → slice_get v.crew 2 ≡ Some d → 0 < harms_between c.member d.member → Rises
+  pub by_harm : (c d : ActorCrew Carried) → slice_get w.crew (2 + number) ≡ Some c → slice_get v.crew (2 + number) ≡ Some d → 0 < harms_between c.member d.member → Rises
   by_harm c d was now harms =
-      let is = harmed_snoc turns turn (opened_world start) in
-      let one : harms_of (slice_get w.crew 2) (slice_get v.crew 2) ≡ harms_between c.member d.member = rw (was, now) refl in
+      let is = harmed_more number turns turn (opened_world start) in
+      let one : harms_of (slice_get w.crew (2 + number)) (slice_get v.crew (2 + number)) ≡ harms_between c.member d.member = rw (was, now) refl in
       let up : news start w ≤ news start (reached values start (turns ++ turn ∷ [])) = subst (λ (x : WorldState Carried). news start w ≤ news start x) (sym last) (news_never_falls values start turns (turn ∷ [])) in
       omega (arith, is, one, harms, up)
 
-  module _ (c d : ActorCrew Carried) (was : slice_get w.crew 2 ≡ Some c) (now : slice_get v.crew 2 ≡ Some d) where
+  module _ (c d : ActorCrew Carried) (was : slice_get w.crew (2 + number) ≡ Some c) (now : slice_get v.crew (2 + number) ≡ Some d) where
     pub by_counts : ActorCounts c.member d.member → Rises
-    by_counts is = by_news (each_news_counts values start turns (turn ∷ []) 2 c d was now is)
+    by_counts is = by_news (each_news_counts values start turns (turn ∷ []) (2 + number) c d was now is)
 
     path_counts : (p q : PathState Carried) → c.member ≡ Path p → d.member ≡ Path q → LinkIs p.link → ((s : Side) → is_dead (end_at s p).tcp.state ≡ false) → ((s : Side) → is_dead (end_at s q).tcp.state ≡ false) → ((s : Side) → segments_sent s p.link < 2 ^ 64 - 1) → (s : Side) → IsHeldUp s p q → Rises
     path_counts p q from to link living_p living_q few s h = by h
@@ -88,4 +88,4 @@ module _ (start : Start) (turns : List Turn) (turn : Turn) where
     held_counts (App a) n from to link = tt
 
 pub what_holds_up_counts : WhatHoldsUpCounts
-what_holds_up_counts start turns turn c d was now = held_counts start turns turn c d was now c.member d.member refl refl ((each_link values start turns).each 2 c was)
+what_holds_up_counts start number turns turn c d was now = held_counts start number turns turn c d was now c.member d.member refl refl ((each_link values start turns).each (2 + number) c was)

@@ -17,15 +17,12 @@ use Rattle.whole_paths.proofs.Courses.{harmed_append, round_next, round_step}
 use Rattle.whole_paths.proofs.ReturnWaits.{all_news_is_bounded, all_news_never_falls}
 use Rattle.whole_paths.proofs.Rounds.{what_is_awaited_comes}
 
-module _ {C : Type 0} (k : Codec C) (start : Start) (harms count : List Turn → ℕ) (Holds : List Turn → Type 0) (most within bound : ℕ) (Over : List Turn → Type 0) (Waits : ℕ → ℕ → List Turn → Type 0)
-    (x : WaitsByCount k start harms count Holds most within Over Waits) (harms_up : NeverFalls harms) (count_up : NeverFalls count) (few : (turns : List Turn) → harms turns ≤ most → count turns ≤ bound) where
-  abbrev system : System
+module _ {C : Type 0} (k : Codec C) (start : Start) (harms count : List Turn → ℕ) (Holds : List Turn → Type 0) (most : ℕ) (Over : List Turn → Type 0) (Waits : ℕ → ℕ → List Turn → Type 0)
+    (harms_up : NeverFalls harms) where
+  abbrev pub system : System
   system = counted_course k start harms count Holds most Over Waits
 
-  abbrev at : List Turn → WorldState C
-  at turns = reached k start turns
-
-  abbrev HoldAlong : List Turn → List Turn → Type 0
+  abbrev pub HoldAlong : List Turn → List Turn → Type 0
   HoldAlong before more = (ts us : List Turn) → ts ++ us ≡ more → Holds (before ++ ts)
 
   holds_now : (before more : List Turn) → HoldAlong before more → Holds before
@@ -37,7 +34,7 @@ module _ {C : Type 0} (k : Codec C) (start : Start) (harms count : List Turn →
   few_now : (before more : List Turn) (turn : Turn) → harms (before ++ turn ∷ more) ≤ most → harms ((before ++ turn ∷ []) ++ more) ≤ most
   few_now before more turn low = subst (λ ts. harms ts ≤ most) (sym (append_assoc before (turn ∷ []) more)) low
 
-  course_on : (first before more : List Turn) (n : ℕ) → Course system first n before → AreLawful k more (at before) → HoldAlong before more → harms (before ++ more) ≤ most
+  pub course_on : (first before more : List Turn) (n : ℕ) → Course system first n before → AreLawful k more (reached k start before) → HoldAlong before more → harms (before ++ more) ≤ most
       → Course system first (n + rounds_in more) (before ++ more)
   course_on first before [] n course lawful hold low = subst (λ ts. Course system first (n + 0) ts) (sym (append-nil before)) (subst (λ m. Course system first m before) (omega arith) course)
   course_on first before (Turn.Step actor ∷ more) n course lawful hold low =
@@ -58,7 +55,12 @@ module _ {C : Type 0} (k : Codec C) (start : Start) (harms count : List Turn →
       (subst (λ m. Course system first m (now ++ more)) (omega arith)
       (course_on first now more (suc n) (opens n before now course step) (subst (AreLawful k more) (sym (run_append k before (Turn.Round ∷ []) (opened_world start))) lawful.1) then_hold low_now))
 
-  drives : Drives system bound within
+module _ {C : Type 0} (k : Codec C) (start : Start) (harms count : List Turn → ℕ) (Holds : List Turn → Type 0) (most within bound : ℕ) (Over : List Turn → Type 0) (Waits : ℕ → ℕ → List Turn → Type 0)
+    (x : WaitsByCount k start harms count Holds most within Over Waits) (harms_up : NeverFalls harms) (count_up : NeverFalls count) (few : (turns : List Turn) → harms turns ≤ most → count turns ≤ bound) where
+  abbrev counted : System
+  counted = system k start harms count Holds most Over Waits harms_up
+
+  drives : Drives counted bound within
   drives = record {
     sound_on = λ v u sound step. step.few;
     sound_next = λ v u sound step. step.few;
@@ -75,12 +77,12 @@ module _ {C : Type 0} (k : Codec C) (start : Start) (harms count : List Turn →
     begins = λ v u sound step. x.begins v u step;
   }
 
-  ends_so : (before more : List Turn) → AreLawful k more (at before) → HoldAlong before more → harms (before ++ more) ≤ most → ticks_for within (suc bound) < 100 * rounds_in more → Over (before ++ more)
+  ends_so : (before more : List Turn) → AreLawful k more (reached k start before) → HoldAlong k start harms count Holds most Over Waits harms_up before more → harms (before ++ more) ≤ most → ticks_for within (suc bound) < 100 * rounds_in more → Over (before ++ more)
   ends_so before more lawful hold low enough =
-      let course : Course system before (0 + rounds_in more) (before ++ more) = course_on before before more 0 stays lawful hold low in
+      let course : Course counted before (0 + rounds_in more) (before ++ more) = course_on k start harms count Holds most Over Waits harms_up before before more 0 stays lawful hold low in
       let fewer = harms_up before more in
-      what_is_awaited_comes system bound within (100 * (round_of k start before).number) drives before (omega (arith, fewer, low)) (omega arith) (rounds_in more) (before ++ more)
-      (subst (λ m. Course system before m (before ++ more)) (omega arith) course) enough
+      what_is_awaited_comes counted bound within (100 * (round_of k start before).number) drives before (omega (arith, fewer, low)) (omega arith) (rounds_in more) (before ++ more)
+      (subst (λ m. Course counted before m (before ++ more)) (omega arith) course) enough
 
 pub counted_courses_end : {C : Type 0} (k : Codec C) → CountedCoursesEnd k
 counted_courses_end k start harms count Holds most within bound Over Waits x harms_up count_up few before more = ends_so k start harms count Holds most within bound Over Waits x harms_up count_up few before more

@@ -204,7 +204,7 @@ module _ (start : Start) (plan : PathPlan) (one : BeginsWithOnePath start plan) 
     -- so much came: the end is told soon
     came : (position : ℕ) → Has (λ n. n ≡ position) lost → (by : ℕ) → by + 60700 ≤ x → until ≤ by + 100 → position ≤ edge → IsToldSoon s p ⊎ Has (λ n. n ≡ edge) [] → MendsLater
     came position among by_then late bound low (inr has) = absurd (let there = has.there in cc)
-    came position among by_then late bound low (inl (told_soon.past_fin is_past)) = whole (past_is_there start plan one turns p h.here s h.is_open is_past)
+    came position among by_then late bound low (inl (told_soon.past_fin is_past)) = whole (past_is_there start one.mild turns p h.here s h.is_open is_past)
     came position among by_then late bound low (inl (told_soon.owed due)) = absurd (not_owing due)
     came position among by_then late bound low (inl (told_soon.told told)) = let early_now = clock_low in
         mends_later (in_turn.told position among (p.clock + 400) (omega (arith, early_now, late, bound)) (omega (arith, late, bound)) (told_lower s position edge (p.clock + 400) p low told))

@@ -61,6 +61,7 @@ use Rattle.whole_paths.proofs.Settling.{sides}
 use Rattle.whole_paths.proofs.UnaSaid.{each_una_is_said}
 use Rattle.whole_paths.proofs.Waiting.{no_timer_is_put_off}
 use Rattle.whole_paths.specs.Sent.{WasSent}
+use Rattle.whole_paths.proofs.WindowRoom.{one_path_is_roomy}
 
 -- ---- lists
 
@@ -178,10 +179,10 @@ module _ (start : Start) (plan : PathPlan) (one : BeginsWithOnePath start plan) 
   edge z = (end_at t z).tcp.recv.edge
 
   told_stays : ToldStays s p q
-  told_stays = stays start plan one turns turn (begun start turns turn h) s
+  told_stays = stays start (one_path_is_roomy start plan one) turns turn (begun start turns turn h) s
 
   clock_up : p.clock ≤ q.clock
-  clock_up = clock start plan one turns turn (begun start turns turn h) s
+  clock_up = clock start (one_path_is_roomy start plan one) turns turn (begun start turns turn h) s
 
   abbrev crew : ActorCrew Carried
   crew = h.before.here.crew
@@ -190,10 +191,10 @@ module _ (start : Start) (plan : PathPlan) (one : BeginsWithOnePath start plan) 
   there = h.before.here.there
 
   una_later : una p ≤ una q
-  una_later = una_up start plan one turns turn (begun start turns turn h) s s
+  una_later = una_up start (one_path_is_roomy start plan one) turns turn (begun start turns turn h) s s
 
   edge_later : edge p ≤ edge q
-  edge_later = edge_up start plan one turns turn (begun start turns turn h) s t
+  edge_later = edge_up start (one_path_is_roomy start plan one) turns turn (begun start turns turn h) s t
 
   heard_later : (end_at s p).sending.heard ≤ (end_at s q).sending.heard
   heard_later = (with_both start turns turn h EndsKeepWhatWaits (what_waits_is_kept values w (turn ∷ []) 2 crew there) s).heard
@@ -222,7 +223,7 @@ module _ (start : Start) (plan : PathPlan) (one : BeginsWithOnePath start plan) 
     there_then all = all_there (what_is_there_stays start turns (turn ∷ []) h.mild s all)
 
     past_then : is_fin_passed (end_at t q).tcp ≡ true → Goes
-    past_then past = all_there (past_is_there start plan one later q h.after.here s h.after.is_open past)
+    past_then past = all_there (past_is_there start one.mild later q h.after.here s h.after.is_open past)
 
     -- SND.UNA has reached one of them, or it goes on
     unless_heard : (n : ℕ) → Has (λ m. m ≡ n) unheard → (una q < n → Goes) → Goes
@@ -250,7 +251,7 @@ module _ (start : Start) (plan : PathPlan) (one : BeginsWithOnePath start plan) 
       unless_moved : (EdgeIsUnheard s unheard q → Goes) → Goes
       unless_moved then_so = unless_heard (edge p) is_unheard.among (λ behind. ⊎_elim
           (rises (edge p) is_unheard.among behind edge_later bound)
-          (λ few. (let same : edge q ≡ edge p = omega (arith, few, edge_up start plan one turns turn (begun start turns turn h) s t) in
+          (λ few. (let same : edge q ≡ edge p = omega (arith, few, edge_up start (one_path_is_roomy start plan one) turns turn (begun start turns turn h) s t) in
           then_so (record { behind = omega (arith, behind, same); among = subst (λ n. Has (λ m. m ≡ n) unheard) (sym same) is_unheard.among })))
           (cases_lt (edge p) (edge q)))
 
@@ -295,7 +296,7 @@ module _ (start : Start) (plan : PathPlan) (one : BeginsWithOnePath start plan) 
         stands = hears.waits is_unheard nothing tick runs level late bound
 
         nothing_later : NothingElseComes s unheard q
-        nothing_later = says_only_on start plan one turns turn (begun start turns turn h) s (λ n. (n ≤ una p) ⊎ Has (λ m. m ≡ n) unheard) (λ n. (n ≤ una q) ⊎ Has (λ m. m ≡ n) unheard)
+        nothing_later = says_only_on start (one_path_is_roomy start plan one) turns turn (begun start turns turn h) s (λ n. (n ≤ una p) ⊎ Has (λ m. m ≡ n) unheard) (λ n. (n ≤ una q) ⊎ Has (λ m. m ≡ n) unheard)
             (λ n so. ⊎_elim (λ low. inl (let up = una_later in omega (arith, low, up))) (λ has. inr has) so) nothing (λ y is from rst. inr (inr is_unheard.among))
 
         ran_out : EdgeIsUnheard s unheard q → (at : ℕ) → RunsOut s at p → Goes
@@ -339,7 +340,7 @@ module _ (start : Start) (plan : PathPlan) (one : BeginsWithOnePath start plan) 
         data_left = subst (HoldsOfKind (λ app. Unit {0}) HasDataLeft) h.before.here.is (what_is_left_is_data start turns h.mild.plain.size h.mild.fit crew there)
 
         is_data : IsData r (end_at s p)
-        is_data = data_left s (h.before.is_open.past s) (h.before.is_open.living s) (inl (unfinished start plan one turns p h.before.here s may)) r others records
+        is_data = data_left s (h.before.is_open.past s) (h.before.is_open.living s) (inl (unfinished start one.mild turns p h.before.here s may)) r others records
 
     resends_on : EdgeIsUnheard s unheard p → IsToSendAgain s p → until + 1000 ≤ x → Goes
     resends_on is_unheard again bound = unless_moved is_unheard (omega (arith, bound)) (λ still. by still again)
@@ -349,7 +350,7 @@ module _ (start : Start) (plan : PathPlan) (one : BeginsWithOnePath start plan) 
             (λ same. same_path same (hears.resends is_unheard (inl is) bound))
             (λ given. on (hears.resends still (inr given.0) bound))
             ((with_both start turns turn h (PathsGoAgain values) (what_runs_out_goes_again values w turn 2 crew there)).gives_back s is)
-        by still (inr is) = if_may start plan one Goes turns p h.before.here h.before.is_open s there_then (λ may. goes_on is_unheard bound is (end_at s p).tcp.send.records refl may still)
+        by still (inr is) = if_may start one.mild Goes turns p h.before.here h.before.is_open s there_then (λ may. goes_on is_unheard bound is (end_at s p).tcp.send.records refl may still)
 
     flies_on : EdgeIsUnheard s unheard p → (r : Record) → r.kind ≡ kinds.Data → end_of r ≤ edge p → (by : ℕ) → by + 500 ≤ x → until + 400 ≤ x → ComesBy s r by p → Goes
     flies_on is_unheard r kind passed by_then late bound comes = unless_moved is_unheard bound (λ still. ⊎_elim
@@ -361,7 +362,7 @@ module _ (start : Start) (plan : PathPlan) (one : BeginsWithOnePath start plan) 
     hears_on (hears.comes n among behind by_then low told) = unless_heard n among (λ still. on (hears.comes n among still by_then low (told_stays.comes n by_then told)))
     hears_on (hears.owes n among behind low bound due) = unless_heard n among (λ still. is_owed n among still (let up = edge_later in omega (arith, low, up)) bound due)
     hears_on (hears.settles is_unheard by_then late bound heard) = unless_moved is_unheard (omega (arith, late, bound)) (λ still. on (hears.settles still by_then late bound
-        (says_only_on start plan one turns turn (begun start turns turn h) s (λ n. IsToldBy s n by_then p ⊎ Has (λ m. m ≡ n) unheard) (λ n. IsToldBy s n by_then q ⊎ Has (λ m. m ≡ n) unheard)
+        (says_only_on start (one_path_is_roomy start plan one) turns turn (begun start turns turn h) s (λ n. IsToldBy s n by_then p ⊎ Has (λ m. m ≡ n) unheard) (λ n. IsToldBy s n by_then q ⊎ Has (λ m. m ≡ n) unheard)
         (λ n so. ⊎_elim (λ told. inl (told_stays.comes n by_then told)) (λ has. inr has) so) heard (λ y is from rst. inr (inr is_unheard.among)))))
     hears_on (hears.waits is_unheard nothing tick runs level late bound) = waits_on is_unheard nothing tick runs level late bound
     hears_on (hears.resends is_unheard again bound) = resends_on is_unheard again bound
@@ -387,7 +388,7 @@ module _ (start : Start) (plan : PathPlan) (one : BeginsWithOnePath start plan) 
             by kinds.Fin is = well_by.other (λ data_is. (let apart : kinds.Fin ≡ kinds.Data = sym is ∙ data_is in cc))
             by kinds.Data is = ⊎_elim
                 (λ before. absurd (omega (arith, before, same, past)))
-                (λ passed. well_by.sent (passed_there start plan one later q h.after.here s r passed (q.clock + 400)))
+                (λ passed. well_by.sent (passed_there start one.mild later q h.after.here s r passed (q.clock + 400)))
                 (agree.whole later h.after r is_one is)
 
         among : Has (λ n. n ≡ r.pos) some_lost → IsWell s q r ⊎ Has (λ n. n ≡ r.pos) (without position some_lost)

@@ -35,6 +35,7 @@ use Rattle.whole_paths.specs.Kept.{IsSameRecord}
 use Rattle.whole_paths.specs.Mapped.{IsMapped}
 use Rattle.whole_paths.specs.Mending.{IsRecordOf, IsThereBy, IsToldBy, IsToldSoon, IsWell, LeavesRoomFor, IsBegunTurn}
 use Rattle.whole_paths.specs.Mending.{IsThereBy as there_by, IsToldSoon as told_soon, IsWell as well_by}
+use Rattle.whole_paths.specs.Mild.{IsMildStart}
 use Rattle.whole_paths.specs.News.{one_if}
 use Rattle.whole_paths.specs.OnePathScripts.{BeginsWithOnePath}
 use Rattle.whole_paths.specs.OpenCourses.{IsOpenAfter, IsNow}
@@ -43,6 +44,7 @@ use Rattle.whole_paths.specs.Straying.{IsOpen, IsOpenFrom}
 use Rattle.whole_paths.specs.ToldStays.{ToldStays}
 use Rattle.whole_paths.specs.Unmended.{AreWellBut}
 use Rattle.whole_paths.specs.WholeMappings.{HasRecord}
+use Rattle.whole_paths.specs.WindowRoom.{IsRoomy}
 use Rattle.whole_paths.proofs.Arrivals.{sender_of}
 use Rattle.whole_paths.proofs.Copied.{CopiesWere, WasThere, each_copy_was_there}
 use Rattle.whole_paths.proofs.Copied.{WasThere as was}
@@ -62,7 +64,6 @@ use Rattle.whole_paths.proofs.SegmentRounds.{counts, of_path, unfinished, if_may
 use Rattle.whole_paths.proofs.ToldSoon.{SaysSoon, each_end_says_soon}
 use Rattle.whole_paths.proofs.ToldStays.{told_later, who_is_told_stays_told}
 use Rattle.whole_paths.proofs.WholeMappings.{long}
-use Rattle.whole_paths.proofs.WindowRoom.{each_window_has_room}
 
 -- ---- a list that may have one more
 
@@ -95,7 +96,7 @@ SaysOnly s Told p = (f : Flight Carried) (n : ℕ) → IsUnderWay f p → f.to �
 
 -- ---- a turn
 
-module _ (start : Start) (plan : PathPlan) (one : BeginsWithOnePath start plan) (turns : List Turn) (turn : Turn) (h : IsBegunTurn start turns turn) (s : Side) where
+module _ (start : Start) (roomy : IsRoomy start) (turns : List Turn) (turn : Turn) (h : IsBegunTurn start turns turn) (s : Side) where
   abbrev p : PathState Carried
   p = h.before.path
 
@@ -112,7 +113,7 @@ module _ (start : Start) (plan : PathPlan) (one : BeginsWithOnePath start plan) 
   w = reached values start turns
 
   pub stays : ToldStays s p q
-  stays = who_is_told_stays_told start plan turns turn one h s
+  stays = who_is_told_stays_told start turns turn roomy h s
 
   says : SaysSoon s p q
   says = each_end_says_soon start turns turn h s
@@ -158,7 +159,7 @@ module _ (start : Start) (plan : PathPlan) (one : BeginsWithOnePath start plan) 
             (says.acks x is from)
 
   room : LeavesRoomFor s p
-  room = each_window_has_room start plan turns one p h.before.here h.before.is_open s
+  room = roomy.room turns p h.before.here h.before.is_open.living s
 
   -- ---- what the end is told
 
@@ -240,12 +241,12 @@ module _ (start : Start) (plan : PathPlan) (one : BeginsWithOnePath start plan) 
 
 -- ---- where all is there
 
-module _ (start : Start) (plan : PathPlan) (one : BeginsWithOnePath start plan) (turns : List Turn) (p : PathState Carried) (here : IsPathAt 0 (reached values start turns) p) (s : Side) where
+module _ (start : Start) (mild : IsMildStart start) (turns : List Turn) (p : PathState Carried) (here : IsPathAt 0 (reached values start turns) p) (s : Side) where
   -- past its FIN
   pub past_is_there_so : 3 ≤ stage (end_at s p).tcp.state → is_dead (end_at s p).tcp.state ≡ false → is_fin_passed (end_at (peer s) p).tcp ≡ true → IsAllThere s (reached values start turns)
-  past_is_there_so high living past = if_may_so start plan one (IsAllThere s (reached values start turns)) turns p here s high living (λ all. all) (λ may. absurd
+  past_is_there_so high living past = if_may_so start mild (IsAllThere s (reached values start turns)) turns p here s high living (λ all. all) (λ may. absurd
       (unpassed (end_at (peer s) p).tcp.fin_at (end_at (peer s) p).tcp.recv.edge
-      ((of_path start plan one turns p (IsFirstPath start) here (each_first start turns one.mild.plain.size here.crew here.there)).fins s (unfinished start plan one turns p here s may)) past))
+      ((of_path start mild turns p (IsFirstPath start) here (each_first start turns mild.plain.size here.crew here.there)).fins s (unfinished start mild turns p here s may)) past))
 
   pub past_is_there : IsOpen p → is_fin_passed (end_at (peer s) p).tcp ≡ true → IsAllThere s (reached values start turns)
   past_is_there is_open past = past_is_there_so (is_open.past s) (is_open.living s) past
@@ -254,6 +255,8 @@ module _ (start : Start) (plan : PathPlan) (one : BeginsWithOnePath start plan) 
   pub passed_there : (r : Record) → end_of r ≤ (end_at (peer s) p).tcp.recv.edge → (by_then : ℕ) → IsThereBy s r by_then p
   passed_there r low by_then = there_by.there (λ pos from below. (let under : pos < (end_at (peer s) p).tcp.recv.edge = omega (arith, below, low) in ((0, IsThere.passed under), IsMapped.passed under)))
 
+-- over one path
+module _ (start : Start) (plan : PathPlan) (one : BeginsWithOnePath start plan) (turns : List Turn) (p : PathState Carried) (here : IsPathAt 0 (reached values start turns) p) (s : Side) where
   -- each record is well
   pub all_are_well : IsAllThere s (reached values start turns) → AreWellBut s [] p
   all_are_well all r is_one = by r.kind refl
@@ -261,20 +264,20 @@ module _ (start : Start) (plan : PathPlan) (one : BeginsWithOnePath start plan) 
       by : (k : RecordKind) → r.kind ≡ k → IsWell s p r ⊎ Has (λ n. n ≡ r.pos) []
       by kinds.Syn is = inl (well_by.other (λ data_is. (let apart : kinds.Syn ≡ kinds.Data = sym is ∙ data_is in cc)))
       by kinds.Fin is = inl (well_by.other (λ data_is. (let apart : kinds.Fin ≡ kinds.Data = sym is ∙ data_is in cc)))
-      by kinds.Data is = inl (well_by.sent (passed_there r low (p.clock + 400)))
+      by kinds.Data is = inl (well_by.sent (passed_there start one.mild turns p here s r low (p.clock + 400)))
         where
           has : HasRecord r (end_at s p)
           has = record { at = is_one.at; item = is_one.item; there = is_one.there; holds = subst (λ (x : Record). IsSameRecord r x) (sym is_one.holds) (same_record r) }
 
           stands : StandsWithin (end_at s p).tcp.send.nxt (end_at s p).tcp.send.finished is_one.item
-          stands = (of_path start plan one turns p DataStands here ((data_always_stands start turns one.mild.plain.size).each 2 here.crew here.there) s).each is_one.at is_one.item is_one.there
+          stands = (of_path start one.mild turns p DataStands here ((data_always_stands start turns one.mild.plain.size).each 2 here.crew here.there) s).each is_one.at is_one.item is_one.there
               (ap (λ (x : Record). x.kind) is_one.holds ∙ is)
 
           low : end_of r ≤ (end_at (peer s) p).tcp.recv.edge
           low = by_fin (end_at s p).tcp.send.finished refl
             where
               size : is_one.item.pos + is_one.item.mapping.length ≡ end_of r
-              size = long p (of_path start plan one turns p Shown here (each_shown start turns one.mild.plain.size one.mild.fit 2 here.crew here.there)) s r has is
+              size = long p (of_path start one.mild turns p Shown here (each_shown start turns one.mild.plain.size one.mild.fit 2 here.crew here.there)) s r has is
 
               bytes : CountsBytes (reached values start turns) p s
               bytes = counts start plan one turns p here s
@@ -285,7 +288,7 @@ module _ (start : Start) (plan : PathPlan) (one : BeginsWithOnePath start plan) 
 
 -- ---- debts
 
-module _ (start : Start) (plan : PathPlan) (most : ℕ) (s : Side) (one : BeginsWithOnePath start plan) where
+module _ (start : Start) (plan : PathPlan) (most : ℕ) (s : Side) (roomy : IsRoomy start) where
   abbrev On : ℕ → List Turn → List Turn → Type 0
   On = OwesOn start plan most (OwesAlong start s)
 
@@ -299,12 +302,12 @@ module _ (start : Start) (plan : PathPlan) (most : ℕ) (s : Side) (one : Begins
       after = b.after
 
       harms_are_so : harmed_so_far values start (turns ++ turn ∷ []) ≡ harmed_so_far values start turns + (one_if (is_harmed s before.path after.path) + one_if (is_harmed (peer s) before.path after.path))
-      harms_are_so = harms_so start plan one turns turn b s
+      harms_are_so = harms_so start roomy turns turn b s
 
       now_there : IsAllThere s (reached values start turns) → On debts turns (turns ++ turn ∷ [])
       now_there all = record {
         now = 0;
-        owes = record { path = after.path; here = after.here; owing = owing.all_there (what_is_there_stays start turns (turn ∷ []) one.mild s all) };
+        owes = record { path = after.path; here = after.here; owing = owing.all_there (what_is_there_stays start turns (turn ∷ []) roomy.mild s all) };
         few = omega (arith, harms_are_so);
       }
 
@@ -313,31 +316,44 @@ module _ (start : Start) (plan : PathPlan) (most : ℕ) (s : Side) (one : Begins
       by (owing.these lost unheard x few) = by_fin (is_fin_passed (end_at (peer s) before.path).tcp) refl
         where
           by_fin : (b : Bool) → is_fin_passed (end_at (peer s) before.path).tcp ≡ b → On debts turns (turns ++ turn ∷ [])
-          by_fin true past = now_there (past_is_there_so start plan one turns before.path before.here s (before.is_open.past s) (before.is_open.living s) past)
+          by_fin true past = now_there (past_is_there_so start roomy.mild turns before.path before.here s (before.is_open.past s) (before.is_open.living s) past)
           by_fin false unpast =
-              let m = these_more start plan one turns turn b s unpast lost unheard x in record {
+              let m = these_more start roomy turns turn b s unpast lost unheard x in record {
                 now = debts + (one_if (is_harmed s before.path after.path) + one_if (is_harmed (peer s) before.path after.path));
                 owes = record { path = after.path; here = after.here; owing = owing.these m.lost m.unheard m.these (let less = m.few in omega (arith, less, few)) };
                 few = omega (arith, harms_are_so);
               }
 
   pub owes_then : (turns : List Turn) (turn : Turn) (debts : ℕ) → IsOpenAfter start turns → IsOpenAfter start (turns ++ turn ∷ []) → OwesAlong start s debts turns → On debts turns (turns ++ turn ∷ [])
-  owes_then turns turn debts before after h = owes_next turns turn debts (begun start turns turn (record { mild = one.mild; before = before; after = after })) h
+  owes_then turns turn debts before after h = owes_next turns turn debts (begun start turns turn (record { mild = roomy.mild; before = before; after = after })) h
 
 pub who_is_told_but_stays_so : WhoIsToldButStaysSo
-who_is_told_but_stays_so start plan turns turn one h s unpast unheard told = told_but_later start plan one turns turn h s unpast unheard told
+who_is_told_but_stays_so start turns turn roomy h s unpast unheard told = told_but_later start roomy turns turn h s unpast unheard told
 
 pub directions_go_on : DirectionsGoOn
-directions_go_on start plan most s debts turns then_turns one (inl step) h = subst (λ t. OwesOn start plan most (OwesAlong start s) debts turns t) (sym step.is)
-    (owes_then start plan most s one turns (Turn.Step step.actor) debts step.before (subst (IsOpenAfter start) step.is step.after) h)
-directions_go_on start plan most s debts turns then_turns one (inr step) h = subst (λ t. OwesOn start plan most (OwesAlong start s) debts turns t) (sym step.is)
-    (owes_then start plan most s one turns Turn.Round debts step.before (subst (IsOpenAfter start) step.is step.after) h)
+directions_go_on start plan most s debts turns then_turns roomy (inl step) h = subst (λ t. OwesOn start plan most (OwesAlong start s) debts turns t) (sym step.is)
+    (owes_then start plan most s roomy turns (Turn.Step step.actor) debts step.before (subst (IsOpenAfter start) step.is step.after) h)
+directions_go_on start plan most s debts turns then_turns roomy (inr step) h = subst (λ t. OwesOn start plan most (OwesAlong start s) debts turns t) (sym step.is)
+    (owes_then start plan most s roomy turns Turn.Round debts step.before (subst (IsOpenAfter start) step.is step.after) h)
 
 -- ---- nothing is owed
 
 none_in : (ns : List ℕ) (n : ℕ) → length ns ≤ 0 → Has (λ m. m ≡ n) ns → ⊥
 none_in [] n few h = (let there = h.there in cc)
 none_in (m ∷ ns) n few h = omega (arith, few)
+
+-- all is there, or each record is well, and the end is told soon
+pub none_is_owed : (start : Start) (turns : List Turn) (s : Side) (p : PathState Carried) → IsPathAt 0 (reached values start turns) p → OwesAlong start s 0 turns
+    → IsAllThere s (reached values start turns) ⊎ (Every (IsWell s p) (end_at s p).tcp.send.records × IsToldSoon s p)
+none_is_owed start turns s p here h = subst (λ (z : PathState Carried). IsAllThere s (reached values start turns) ⊎ (Every (IsWell s z) (end_at s z).tcp.send.records × IsToldSoon s z))
+    (path_is (reached values start turns) h.path p h.here here) (by h.owing)
+  where
+    by : Owing s 0 h.path (reached values start turns) → IsAllThere s (reached values start turns) ⊎ (Every (IsWell s h.path) (end_at s h.path).tcp.send.records × IsToldSoon s h.path)
+    by (owing.all_there all) = inl all
+    by (owing.these lost unheard x few) = inr (
+      record { each = λ i r there. ⊎_elim (λ y. y) (λ has. absurd (none_in lost r.pos (omega (arith, few)) has)) (x.well r (record { at = i; item = r; there = there; holds = refl })) },
+      ⊎_elim (λ soon. soon) (λ has. absurd (none_in unheard (end_at (peer s) h.path).tcp.recv.edge (omega (arith, few)) has)) x.told.told,
+    )
 
 pub what_owes_none_is_well : WhatOwesNoneIsWell
 what_owes_none_is_well start plan turns s one h = record { path = h.path; here = h.here; records = record { each = λ i r there. well h.owing r (record { at = i; item = r; there = there; holds = refl }) }; told = told h.owing }

@@ -46,6 +46,7 @@ use Rattle.whole_paths.proofs.RoundSteps.{early}
 use Rattle.whole_paths.proofs.ToldStays.{told_later}
 use Rattle.whole_paths.proofs.WellOctets.{all_comes_up_to_lost}
 use Rattle.whole_paths.proofs.OpenTurns.{begun}
+use Rattle.whole_paths.proofs.WindowRoom.{one_path_is_roomy}
 
 -- what comes up to a position by a tick does so by a later one
 comes_up_later : (s : Side) (last before later : ℕ) (p : PathState Carried) → before ≤ later → ComesUpTo s last before p → ComesUpTo s last later p
@@ -103,7 +104,7 @@ module _ (start : Start) (plan : PathPlan) (most : ℕ) (s : Side) (one : Begins
     in_round = let low = early start later q after.here in omega (arith, low)
 
     counted : harms later ≡ harms turns + (one_if (is_harmed s p q) + one_if (is_harmed (peer s) p q))
-    counted = harms_so start plan one turns turn (begun start turns turn open_turn) s
+    counted = harms_so start (one_path_is_roomy start plan one) turns turn (begun start turns turn open_turn) s
 
     -- no segment is harmed, and the peer isn't past the FIN
     module _ (none : is_harmed s p q ≡ false) (none_back : is_harmed (peer s) p q ≡ false) (unpast : is_fin_passed (end_at (peer s) p).tcp ≡ false) where
@@ -120,7 +121,7 @@ module _ (start : Start) (plan : PathPlan) (most : ℕ) (s : Side) (one : Begins
       hears_then lost unheard these few stage = by (turned.hears_on start plan one turns turn open_turn s agree unpast none none_back x (until later) in_round lost unheard still stage)
         where
           still : OwesThese s lost unheard q
-          still = these_stay start plan one turns turn (begun start turns turn open_turn) s unpast none none_back lost unheard these
+          still = these_stay start (one_path_is_roomy start plan one) turns turn (begun start turns turn open_turn) s unpast none none_back lost unheard these
 
           by : turned.Goes start plan one turns turn open_turn s agree unpast none none_back x (until later) in_round lost unheard still → On debts x turns later
           by (goes.on more) = quiet (record { path = q; here = after.here; some = some; mends = these_mend.hears lost unheard still few more })
@@ -131,7 +132,7 @@ module _ (start : Start) (plan : PathPlan) (most : ℕ) (s : Side) (one : Begins
       mends_then lost these few stage = by (turned.mends_on start plan one turns turn open_turn s agree unpast none none_back x (until later) in_round lost still stage)
         where
           still : OwesThese s lost [] q
-          still = these_stay start plan one turns turn (begun start turns turn open_turn) s unpast none none_back lost [] these
+          still = these_stay start (one_path_is_roomy start plan one) turns turn (begun start turns turn open_turn) s unpast none none_back lost [] these
 
           by : turned.MendsOnSo start plan one turns turn open_turn s agree unpast none none_back x (until later) in_round lost still → On debts x turns later
           by (mends_so.goes_on_so more) = quiet (record { path = q; here = after.here; some = some; mends = these_mend.mends lost still few more })
@@ -147,7 +148,7 @@ module _ (start : Start) (plan : PathPlan) (most : ℕ) (s : Side) (one : Begins
       where
         is_past : is_fin_passed (end_at (peer s) p).tcp ≡ true → is_harmed s p q ≡ false → is_harmed (peer s) p q ≡ false → On debts x turns later
         is_past past none none_back = fewer 0
-            (record { path = q; here = after.here; owing = owing.all_there (what_is_there_stays start turns (turn ∷ []) one.mild s (past_is_there start plan one turns p before.here s before.is_open past)) })
+            (record { path = q; here = after.here; owing = owing.all_there (what_is_there_stays start turns (turn ∷ []) one.mild s (past_is_there start one.mild turns p before.here s before.is_open past)) })
             (let is = counted in omega (arith, some, is))
 
         unharmed : (b : Bool) → is_fin_passed (end_at (peer s) p).tcp ≡ b → is_harmed s p q ≡ false → is_harmed (peer s) p q ≡ false → On debts x turns later
@@ -169,7 +170,7 @@ module _ (start : Start) (plan : PathPlan) (most : ℕ) (s : Side) (one : Begins
       after = subst (IsOpenAfter start) step.is step.after
 
       owes : OwesOn start plan most Along debts v (v ++ Turn.Step step.actor ∷ [])
-      owes = subst (λ t. OwesOn start plan most Along debts v t) step.is (directions_go_on start plan most s debts v u one (inl step) (owed debts x v m))
+      owes = subst (λ t. OwesOn start plan most Along debts v t) step.is (directions_go_on start plan most s debts v u (one_path_is_roomy start plan one) (inl step) (owed debts x v m))
 
   -- ---- as a round begins
 
@@ -184,7 +185,7 @@ module _ (start : Start) (plan : PathPlan) (most : ℕ) (s : Side) (one : Begins
     later_end = round_next values start v step.over
 
     go_on : (debts : ℕ) → Along debts v → OwesOn start plan most Along debts v u
-    go_on debts h = directions_go_on start plan most s debts v u one (inr step) h
+    go_on debts h = directions_go_on start plan most s debts v u (one_path_is_roomy start plan one) (inr step) h
 
     -- fewer before the round
     less : (debts x : ℕ) (now : ℕ) → now < debts → Along now v → On debts x v u
@@ -266,7 +267,7 @@ module _ (start : Start) (plan : PathPlan) (most : ℕ) (s : Side) (one : Begins
 
         -- the end is told soon
         soon_told : (n : ℕ) → Has (λ m. m ≡ n) unheard → n ≤ edge → IsToldSoon s r → Begins
-        soon_told n among low (told_soon.past_fin past) = all_now (past_is_there start plan one u r step.after.here s step.after.is_open past)
+        soon_told n among low (told_soon.past_fin past) = all_now (past_is_there start one.mild u r step.after.here s step.after.is_open past)
         soon_told n among low (told_soon.owed due) = unless_heard n among (λ behind. hears_now (hears.owes n among behind low (let is = until_u in omega (arith, is)) due))
         soon_told n among low (told_soon.told told) = unless_heard n among (λ behind. hears_now (hears.comes n among behind (r.clock + 400) (let early_now = clock_low in omega (arith, early_now)) (told_lower s n edge (r.clock + 400) r low told)))
 
@@ -303,8 +304,8 @@ module _ (start : Start) (plan : PathPlan) (most : ℕ) (s : Side) (one : Begins
 
   pub along_mended : DebtsAreMended start plan most Along Waits
   along_mended = record {
-    on = λ debts v u step h. directions_go_on start plan most s debts v u one (inl step) h;
-    next = λ debts v u step h. directions_go_on start plan most s debts v u one (inr step) h;
+    on = λ debts v u step h. directions_go_on start plan most s debts v u (one_path_is_roomy start plan one) (inl step) h;
+    next = λ debts v u step h. directions_go_on start plan most s debts v u (one_path_is_roomy start plan one) (inr step) h;
     owing = owed;
     mends_on = steps;
     mends_next = λ debts x v u step m. opens v u step debts x m;

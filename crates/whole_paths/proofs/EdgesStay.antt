@@ -87,15 +87,15 @@ use Rattle.whole_paths.proofs.Unpassed.{is_edge, own_holds, passed_holds}
 
 -- ---- what arrives leaves RCV.NXT
 
-abbrev Same : PathEnd → PathEnd → Type 0
+abbrev pub Same : PathEnd → PathEnd → Type 0
 Same e f = f.tcp.recv.edge ≡ e.tcp.recv.edge
 
-arrival_edge : (m : Meaning) (items : List Heard) (now : ℕ) (c : Copy) (s : EndState) → (after_arrival m (hint_of items) now c s).recv.edge ≡ s.recv.edge
+pub arrival_edge : (m : Meaning) (items : List Heard) (now : ℕ) (c : Copy) (s : EndState) → (after_arrival m (hint_of items) now c s).recv.edge ≡ s.recv.edge
 arrival_edge (means.Accepts n) items now c s = ap (λ (v : Receiving). v.edge) (ack_recv n now (record (after_hearing (after_payload 1 (hint_of items) c s)) { state = phase.Established }))
 arrival_edge (means.Taken pos n) items now c s = ap (λ (v : Receiving). v.edge) (heard_recv n (hint_of items) now c (after_established (after_hearing (after_payload pos (hint_of items) c s))))
 arrival_edge _ items now c s = refl
 
-held_edge : (m : Meaning) (octets : List ℕ) (s : EndState) → (with_payload m octets s).recv.edge ≡ s.recv.edge
+pub held_edge : (m : Meaning) (octets : List ℕ) (s : EndState) → (with_payload m octets s).recv.edge ≡ s.recv.edge
 held_edge (means.Taken pos n) [] s = refl
 held_edge (means.Taken pos n) (octet ∷ octets) s = refl
 held_edge _ octets s = refl
@@ -111,9 +111,9 @@ judged_edge c s now x e =
     owing true s = refl
     owing false s = refl
 
-record AllSame (p q : PathState Carried) : Type 0 where
-  a : Same p.a q.a
-  b : Same p.b q.b
+pub record AllSame (p q : PathState Carried) : Type 0 where
+  pub a : Same p.a q.a
+  pub b : Same p.b q.b
 
 side_same : (s : Side) (f : PathEnd) (p q : PathState Carried) → Same (end_at s p) f → q.a ≡ pick s f p.a → q.b ≡ pick s p.b f → AllSame p q
 side_same A f p q x a b = record { a = subst (Same p.a) (sym a) x; b = subst (Same p.b) (sym b) refl }
@@ -137,7 +137,7 @@ heard_edges : (s : Side) (o : Option HeardSegment) (p : PathState Carried) → A
 heard_edges s None p = record { a = refl; b = refl }
 heard_edges s (Some heard) p = side_same s _ p _ (judged_edge p.profile s p.clock (options_heard (end_at s p) heard) (end_at s p)) refl refl
 
-event_edges : (o : Option Event) (r : Reply) (p : PathState Carried) → AllSame p (happens_if values o r p)
+pub event_edges : (o : Option Event) (r : Reply) (p : PathState Carried) → AllSame p (happens_if values o r p)
 event_edges None r p = record { a = refl; b = refl }
 event_edges (Some (happenings.Joins tick)) r p =
     let x : PathState Carried = record (at_tick tick p) { joined_at = None } in
@@ -149,7 +149,7 @@ event_edges (Some (happenings.Arrives due)) r p =
 event_edges (Some (happenings.Fires s tick)) r p = side_same s (after_firing (at_tick tick p).clock (end_at s p)) p _
     (elim (is_sixth (end_at s p).tcp) as (λ b. (if b then after_death true (end_at s p).tcp else after_expiry (at_tick tick p).clock (end_at s p).tcp).recv.edge ≡ (end_at s p).tcp.recv.edge) [ true ↦ refl | false ↦ refl ]) refl refl
 
-same_at : (t : Side) (p q : PathState Carried) → AllSame p q → Same (end_at t p) (end_at t q)
+pub same_at : (t : Side) (p q : PathState Carried) → AllSame p q → Same (end_at t p) (end_at t q)
 same_at A p q x = x.a
 same_at B p q x = x.b
 
@@ -162,7 +162,7 @@ none_at v edge none = either (nat_lt edge v.forgotten) _ (rw none refl)
     either true o is = refl
     either false o is = is
 
-no_piece : (c : Profile) (e : PathEnd) → e.modes.identity ≡ false → e.modes.peer_infinite ≡ None → e.receiving.mappings.live ≡ [] → next_piece c e ≡ None
+pub no_piece : (c : Profile) (e : PathEnd) → e.modes.identity ≡ false → e.modes.peer_infinite ≡ None → e.receiving.mappings.live ≡ [] → next_piece c e ≡ None
 no_piece c e identity finite none = rw (identity, finite, none_at e.receiving.mappings e.tcp.recv.edge none) refl
 
 -- where an end may send no DSS the duty by which bytes are passed never stands first
@@ -181,7 +181,7 @@ never_passes s ds p first (Holds.Next d es q between now calm does passes) mappe
 -- ---- a duty that is answered
 
 -- the other end of a duty stays
-other_edge : (d : Duty) (p q : PathState Carried) → is_event d ≡ false → OnlyAt (side_of d) (writes d) p q → Same (end_at (peer (side_of d)) p) (end_at (peer (side_of d)) q)
+pub other_edge : (d : Duty) (p q : PathState Carried) → is_event d ≡ false → OnlyAt (side_of d) (writes d) p q → Same (end_at (peer (side_of d)) p) (end_at (peer (side_of d)) q)
 other_edge d p q other x =
     let e : PathEnd = end_at (peer (side_of d)) p in let f : PathEnd = end_at (peer (side_of d)) q in
     let only : Only nothing e f = subst (λ v. Only v e f) (none_other d other) (record { same = ap (λ (v : PathView Carried). v.other) x.same }) in
@@ -239,14 +239,14 @@ may_write_fin (duties.Step step_duties.Events) = true
 may_write_fin (duties.Ask (ask_duties.JoinHeard s)) = true
 may_write_fin _ = false
 
-fin_unwritten : (d : Duty) → may_write_fin d ≡ false → (writes d).own.fin_at ≡ false
+pub fin_unwritten : (d : Duty) → may_write_fin d ≡ false → (writes d).own.fin_at ≡ false
 fin_unwritten (duties.Step step_duties.Events) none = absurd (true≢false none)
 fin_unwritten (duties.Ask (ask_duties.JoinHeard s)) none = absurd (true≢false none)
 fin_unwritten (duties.Send (send_duties.Syn s)) none = refl
 fin_unwritten (duties.Silent (silent_duties.Timer s)) none = refl
 fin_unwritten _ none = refl
 
-fin_passed : (d : Duty) (p : PathState Carried) (t : Side) → (end_at t (passed d p)).tcp.fin_at ≡ (end_at t p).tcp.fin_at
+pub fin_passed : (d : Duty) (p : PathState Carried) (t : Side) → (end_at t (passed d p)).tcp.fin_at ≡ (end_at t p).tcp.fin_at
 fin_passed (duties.Step step_duties.Events) p t = refl
 fin_passed (duties.Ask (ask_duties.JoinHeard s)) p t = refl
 fin_passed d p t = by t
@@ -260,7 +260,7 @@ fin_passed d p t = by t
     by A = both.0
     by B = both.1
 
-keep_edge : (s : Side) (e : PathEnd) → Same e (after_keep s e)
+pub keep_edge : (s : Side) (e : PathEnd) → Same e (after_keep s e)
 keep_edge s e = by (is_dropped s e) (is_fin_passed e.tcp)
   where
     by : (dropped over : Bool) → (if dropped then record e.tcp { recv = record e.tcp.recv { incoming = None } } else record e.tcp { recv = (if over then record e.tcp.recv { incoming = None } else after_keep_held e.tcp.recv) }).recv.edge ≡ e.tcp.recv.edge
@@ -271,7 +271,7 @@ keep_edge s e = by (is_dropped s e) (is_fin_passed e.tcp)
 pass_fin_edge : (e : PathEnd) → e.tcp.fin_at ≡ None → Same e (after_pass_fin e)
 pass_fin_edge e none = ap (λ (o : Option ℕ). (if is_at e.tcp.recv.edge o && nat_lt e.tcp.recv.edge (2 ^ 62) then after_passing_fin e.tcp else e.tcp).recv.edge) none
 
-own_passed : (d : Duty) (p : PathState Carried) → (end_at (side_of d) p).tcp.fin_at ≡ None → Same (end_at (side_of d) p) (end_at (side_of d) (passed d p))
+pub own_passed : (d : Duty) (p : PathState Carried) → (end_at (side_of d) p).tcp.fin_at ≡ None → Same (end_at (side_of d) p) (end_at (side_of d) (passed d p))
 own_passed (duties.Silent (silent_duties.Keep s)) p none = there s (after_keep s (end_at s p)) p (keep_edge s (end_at s p))
   where
     there : (s : Side) (f : PathEnd) (p : PathState Carried) → Same (end_at s p) f → Same (end_at s p) (pick s (pick s f p.a) (pick s p.b f))
@@ -284,7 +284,7 @@ own_passed (duties.Silent (silent_duties.PassFin s)) p none = there s (after_pas
     there B f p x = x
 own_passed d p none = let n = (end_at (side_of d) p).tcp.recv.edge in passed_holds (λ v. v.edge ≡ n) (λ m v h. h) ⊥ (λ no to v h. absurd no) d p refl refl
 
-away_passed : (d : Duty) (p : PathState Carried) → Same (end_at (peer (side_of d)) p) (end_at (peer (side_of d)) (passed d p))
+pub away_passed : (d : Duty) (p : PathState Carried) → Same (end_at (peer (side_of d)) p) (end_at (peer (side_of d)) (passed d p))
 away_passed (duties.Step step_duties.Events) p = refl
 away_passed d p = other_edge d p (passed d p) refl (passes_no_more d p)
 

@@ -70,7 +70,7 @@ module _ (start : Start) (plan : PathPlan) (x : BeginsWithOnePath start plan) (s
       by B = prefix_len _ _ (writes_the_files values start turns).b.prefix
 
   closed_then : IsClosed start s written_at
-  closed_then = by (goes_on_writing start plan x a written_at writes s)
+  closed_then = by (goes_on_writing start x.mild a written_at writes s)
     where
       by : GoesOnWriting (pick s start.file_a start.file_b) start.buffer (acked_len (written_by s (reached values start a)).marks) (written_by s (reached values start written_at)) → IsClosed start s written_at
       by (GoesOnWriting.whole is closed) = closed
@@ -106,7 +106,7 @@ module _ (start : Start) (plan : PathPlan) (x : BeginsWithOnePath start plan) (s
 
   -- where all is there the end is known
   there_known : IsAllThere s (reached values start b) → Goal
-  there_known all = known_so _ _ (stays_there start plan x b u s to_known all).known
+  there_known all = known_so _ _ (stays_there start x.mild b u s to_known all).known
 
   module _ (una : (end_at (peer s) p).tcp.recv.edge ≤ (end_at s told_path.path).tcp.send.una) (may : may_finish (end_at s q).tcp.state ≡ true) where
     none_left : (end_at s q).tcp.send.records ≡ []
@@ -115,12 +115,12 @@ module _ (start : Start) (plan : PathPlan) (x : BeginsWithOnePath start plan) (s
         by : (rs : List Record) → (end_at s q).tcp.send.records ≡ rs → (end_at s q).tcp.send.records ≡ []
         by [] is = is
         by (r ∷ others) is = absurd (
-            let none = unfinished start plan x b q sent_path.here s may in
-            let left_data = of_path start plan x b q HasDataLeft sent_path.here (what_is_left_is_data start b x.mild.plain.size x.mild.fit sent_path.here.crew sent_path.here.there) s (sent_path.is_open.past s) (sent_path.is_open.living s) (inl none) r others is in
+            let none = unfinished start x.mild b q sent_path.here s may in
+            let left_data = of_path start x.mild b q HasDataLeft sent_path.here (what_is_left_is_data start b x.mild.plain.size x.mild.fit sent_path.here.crew sent_path.here.there) s (sent_path.is_open.past s) (sent_path.is_open.living s) (inl none) r others is in
             let left = left_data.left in
             let within = left_data.within in
             let came = (counts start plan x v p here s).came in
-            let later = una_up start plan x s told_path.path q (path_far start plan x heard_at b told_path.path q to_sent told_path.here sent_path.here) in
+            let later = una_up start x.mild s told_path.path q (path_far start x.mild heard_at b told_path.path q to_sent told_path.here sent_path.here) in
             let few = few_written b in
             let most = (counts start plan x b q sent_path.here s).within none in omega (arith, left, within, came, una, later, few, most, all_read))
 
@@ -128,7 +128,7 @@ module _ (start : Start) (plan : PathPlan) (x : BeginsWithOnePath start plan) (s
     sent_or_known goes = by (end_at s q).sending.fin_sent refl
       where
         by_mappings : GoesByMappings q.profile (end_at s q)
-        by_mappings = of_path start plan x b q EndsGoByMappings sent_path.here ((mapping_is_kept start b x.mild).each 2 sent_path.here.crew sent_path.here.there) s
+        by_mappings = of_path start x.mild b q EndsGoByMappings sent_path.here ((mapping_is_kept start b x.mild).each 2 sent_path.here.crew sent_path.here.there) s
 
         maps : sends_plainly (end_at s q).modes ≡ false
         maps = rw (by_mappings.identity, by_mappings.own) refl
@@ -144,7 +144,7 @@ module _ (start : Start) (plan : PathPlan) (x : BeginsWithOnePath start plan) (s
         by : (c : Bool) → (end_at s q).sending.fin_sent ≡ c → Goal
         by true is = goes is
         by false is = ⊎_elim
-            (λ own. there_known (of_path start plan x b q (FinishedIsThere (reached values start b)) sent_path.here (what_is_finished_is_there start plan b x.one x.mild 2 sent_path.here.crew sent_path.here.there) s (HasFinished.acknowledged own)))
+            (λ own. there_known (of_path start x.mild b q (FinishedIsThere (reached values start b)) sent_path.here (what_is_finished_is_there start plan b x.one x.mild 2 sent_path.here.crew sent_path.here.there) s (HasFinished.acknowledged own)))
             (λ stop. absurd (both_ways _ (subst (λ (w : WorldState Carried). (written_by s w).aborted ≡ false) (ended start written_at b sends) ((mild_paths_are_never_stopped start plan b x.one x.mild).send s)) stop))
             (acked (λ sent unacked. true≢false (sym sent ∙ is)))
 
@@ -155,13 +155,13 @@ module _ (start : Start) (plan : PathPlan) (x : BeginsWithOnePath start plan) (s
       acked : total < (end_at s q).tcp.send.una
       acked =
           let came = (counts start plan x v p here s).came in
-          let later = una_up start plan x s told_path.path q (path_far start plan x heard_at b told_path.path q to_sent told_path.here sent_path.here) in omega (arith, came, una, later, all_read)
+          let later = una_up start x.mild s told_path.path q (path_far start x.mild heard_at b told_path.path q to_sent told_path.here sent_path.here) in omega (arith, came, una, later, all_read)
 
   known_last : Goal
   known_last = ⊎_elim
-      (λ all. there_known (stays_there start plan x heard_at b s to_sent all))
-      (λ una. if_may start plan x Goal b q sent_path.here sent_path.is_open s there_known (λ may. sent_or_known una may (λ sent. comes (sent_behind una sent))))
-      (⊎_elim (λ told. tell start plan x v heard_at first.1.0 s p told_path.path here told_path.here told) (λ all. inl (stays_there start plan x v heard_at s to_heard all)) mended)
+      (λ all. there_known (stays_there start x.mild heard_at b s to_sent all))
+      (λ una. if_may start x.mild Goal b q sent_path.here sent_path.is_open s there_known (λ may. sent_or_known una may (λ sent. comes (sent_behind una sent))))
+      (⊎_elim (λ told. tell start x.mild v heard_at first.1.0 s p told_path.path here told_path.here told) (λ all. inl (stays_there start x.mild v heard_at s to_heard all)) mended)
 
 pub an_end_is_told : AnEndIsTold
 an_end_is_told start plan x s v a b u first second third p here mended all_read all_acked comes = record {

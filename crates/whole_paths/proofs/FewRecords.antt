@@ -132,14 +132,14 @@ module _ (start : Start) (plan : PathPlan) (x : BeginsWithOnePath start plan) (s
   EachFull p = IsAlive p → (end_at s p).tcp.send.finished ≡ false → (r : Record) → IsRecordOf (end_at s p) r → IsFull p.profile size r
 
   profile_at : (turns : List Turn) (p : PathState Carried) → IsPathAt 0 (reached values start turns) p → p.profile ≡ (path_begins start 0 plan).profile
-  profile_at turns p here = of_path start plan x turns p (λ z. z.profile ≡ (path_begins start 0 plan).profile) here (only_profile start plan turns x.one x.mild 2 here.crew here.there)
+  profile_at turns p here = of_path start x.mild turns p (λ z. z.profile ≡ (path_begins start 0 plan).profile) here (only_profile start plan turns x.one x.mild 2 here.crew here.there)
 
   shown_at : (turns : List Turn) (p : PathState Carried) → IsPathAt 0 (reached values start turns) p → Shown p
-  shown_at turns p here = of_path start plan x turns p Shown here (each_shown start turns x.mild.plain.size x.mild.fit 2 here.crew here.there)
+  shown_at turns p here = of_path start x.mild turns p Shown here (each_shown start turns x.mild.plain.size x.mild.fit 2 here.crew here.there)
 
   joined_at : (turns : List Turn) (p : PathState Carried) → IsPathAt 0 (reached values start turns) p
       → Joined (first_of (end_at s p).tcp.send.records (end_at s p).tcp.send.nxt) (end_at s p).tcp.send.nxt (map span_of (end_at s p).tcp.send.records)
-  joined_at turns p here = let lined = (of_path start plan x turns p EndsAreReached here ((each_is_reached values start turns).each 2 here.crew here.there) s).lined in
+  joined_at turns p here = let lined = (of_path start x.mild turns p EndsAreReached here ((each_is_reached values start turns).each 2 here.crew here.there) s).lined in
       joined_so (end_at s p).tcp.send.una (end_at s p).tcp.send.nxt (end_at s p).tcp.send.records lined.line
 
   module _ (turns : List Turn) (turn : Turn) (p q : PathState Carried) (here : IsPathAt 0 (reached values start turns) p) (there : IsPathAt 0 (reached values start (turns ++ turn ∷ [])) q)
@@ -249,13 +249,13 @@ records_are_full start plan turns s x fits p here alive unsent = full_at start p
 module _ (start : Start) (plan : PathPlan) (x : BeginsWithOnePath start plan) (fits : FitsFirstWindow start A) (turns : List Turn) (p : PathState Carried) (here : IsPathAt 0 (reached values start turns) p)
     (is_open : IsOpenFrom B p) (may : may_finish p.a.tcp.state ≡ true) where
   unsent : p.a.tcp.send.finished ≡ false
-  unsent = unfinished start plan x turns p here A may
+  unsent = unfinished start x.mild turns p here A may
 
   first : IsFirstPath start p
-  first = of_path start plan x turns p (IsFirstPath start) here (each_first start turns x.mild.plain.size here.crew here.there)
+  first = of_path start x.mild turns p (IsFirstPath start) here (each_first start turns x.mild.plain.size here.crew here.there)
 
   begun : 1 ≤ p.a.tcp.send.una
-  begun = (of_path start plan x turns p EndsAreBegun here ((each_is_begun values start turns).each 2 here.crew here.there) A).past (is_open.past A) (living_low p.a.tcp.state (is_open.living A))
+  begun = (of_path start x.mild turns p EndsAreBegun here ((each_is_begun values start turns).each 2 here.crew here.there) A).past (is_open.past A) (living_low p.a.tcp.state (is_open.living A))
 
   -- none stands at position 0
   none_first : (r : Record) → IsRecordOf p.a r → r.pos ≡ 0 → ⊥
@@ -265,11 +265,11 @@ module _ (start : Start) (plan : PathPlan) (x : BeginsWithOnePath start plan) (f
       there = has.there ∙ ap Some has.holds
 
       by : (k : RecordKind) → r.kind ≡ k → ⊥
-      by kinds.Data is = let stands = of_path start plan x turns p DataStands here ((data_always_stands start turns x.mild.plain.size).each 2 here.crew here.there) in
+      by kinds.Data is = let stands = of_path start x.mild turns p DataStands here ((data_always_stands start turns x.mild.plain.size).each 2 here.crew here.there) in
           let behind = ((stands A).each has.at r there is).behind in omega (arith, behind, at)
       by kinds.Syn is =
           let end : end_of r ≡ r.pos + 1 = ap (λ k. r.pos + occupied k r.piece) is in
-          let more = left A p (of_path start plan x turns p EndsAreReached here ((each_is_reached values start turns).each 2 here.crew here.there)) (shown_at start plan x A fits turns p here) r has in
+          let more = left A p (of_path start x.mild turns p EndsAreReached here ((each_is_reached values start turns).each 2 here.crew here.there)) (shown_at start plan x A fits turns p here) r has in
           let some = begun in omega (arith, end, more, some, at)
       by kinds.Fin is = (first.kinds A unsent).each has.at r there is
 
@@ -285,7 +285,7 @@ module _ (start : Start) (plan : PathPlan) (x : BeginsWithOnePath start plan) (f
 
   next_low : p.a.tcp.send.nxt ≤ suc (length start.file_a)
   next_low =
-      let counts : CountsBytes (reached values start turns) p A = of_path start plan x turns p (λ z. (t : Side) → CountsBytes (reached values start turns) z t) here ((positions_count_bytes start turns plan x.one x.mild).each 2 here.crew here.there) A in
+      let counts : CountsBytes (reached values start turns) p A = of_path start x.mild turns p (λ z. (t : Side) → CountsBytes (reached values start turns) z t) here ((positions_count_bytes start turns plan x.one x.mild).each 2 here.crew here.there) A in
       let low = counts.within unsent in
       ⊎_elim (λ none. omega (arith, none, low)) (λ all. omega (arith, all, low)) (what_fits_is_written_at_once values start turns A x.mild.fit (let room = fits.buffer in omega (arith, room)))
 
@@ -309,7 +309,7 @@ opens_owing_segments start plan turns x fits h = by (paths_open_by_clearing star
     by : OpensByClearing start turns → (debts : ℕ) × OwesAlong start A debts turns × (debts ≤ segments plan.mss (length start.file_a))
     by c = subst (λ ts. HasJustOpened start ts → (debts : ℕ) × OwesAlong start A debts ts × (debts ≤ segments plan.mss (length start.file_a))) (sym c.is)
         (λ now. let q : PathState Carried = now.now.path in
-        if_may_so start plan x ((debts : ℕ) × OwesAlong start A debts (c.before ++ c.turn ∷ []) × (debts ≤ segments plan.mss (length start.file_a))) (c.before ++ c.turn ∷ []) q now.now.here A (now.now.is_open.past A) (now.now.is_open.living A)
+        if_may_so start x.mild ((debts : ℕ) × OwesAlong start A debts (c.before ++ c.turn ∷ []) × (debts ≤ segments plan.mss (length start.file_a))) (c.before ++ c.turn ∷ []) q now.now.here A (now.now.is_open.past A) (now.now.is_open.living A)
         (λ all. (0, record { path = q; here = now.now.here; owing = owing.all_there all }, omega arith))
         (λ may. (
           length (positions start plan x q),

@@ -34,7 +34,7 @@ use Rattle.whole_paths.proofs.FinsComing.{comes_later, data_fins_come_soon}
 use Rattle.whole_paths.proofs.FinsSent.{FinGoesNext, FinsGoNext, fins_go_next}
 use Rattle.whole_paths.proofs.OpenTurns.{of_before, with_both}
 use Rattle.whole_paths.proofs.SegmentRounds.{counts, if_may_so, unfinished}
-use Rattle.whole_paths.proofs.WindowRoom.{each_window_has_room}
+use Rattle.whole_paths.proofs.WindowRoom.{each_window_has_room, one_path_is_roomy}
 
 -- ---- a moment
 
@@ -52,8 +52,8 @@ few_written start s turns = by s
 -- where SND.NXT lies further than just behind the file, the FIN was sent: all of the stream is there
 pub sent_past : (start : Start) (plan : PathPlan) → BeginsWithOnePath start plan → (s : Side) (turns : List Turn) (p : PathState Carried) → IsPathAt 0 (reached values start turns) p → 3 ≤ stage (end_at s p).tcp.state
     → is_dead (end_at s p).tcp.state ≡ false → suc (file_size start s) < (end_at s p).tcp.send.nxt → IsAllThere s (reached values start turns)
-sent_past start plan one s turns p here past living far = if_may_so start plan one (IsAllThere s (reached values start turns)) turns p here s past living (λ all. all) (λ may. absurd
-    (let within = (counts start plan one turns p here s).within (unfinished start plan one turns p here s may) in let few = few_written start s turns in omega (arith, within, few, far)))
+sent_past start plan one s turns p here past living far = if_may_so start one.mild (IsAllThere s (reached values start turns)) turns p here s past living (λ all. all) (λ may. absurd
+    (let within = (counts start plan one turns p here s).within (unfinished start one.mild turns p here s may) in let few = few_written start s turns in omega (arith, within, few, far)))
 
 -- ---- a turn
 
@@ -77,7 +77,7 @@ module _ (start : Start) (plan : PathPlan) (one : BeginsWithOnePath start plan) 
   Goes = FinStandsOn start s turns turn p q
 
   clock_up : p.clock ≤ q.clock
-  clock_up = clock start plan one turns turn h s
+  clock_up = clock start (one_path_is_roomy start plan one) turns turn h s
 
   go_on : FinsGoOn s p q
   go_on = data_fins_come_soon start turns turn h s

@@ -34,7 +34,7 @@ use Rattle.whole_paths.proofs.Turns.{turn_each}
 
 -- ---- the subflow
 
-abbrev Stays : EndState → EndState → Type 0
+abbrev pub Stays : EndState → EndState → Type 0
 Stays s t = (pos : ℕ) → s.fin_at ≡ Some pos → t.fin_at ≡ Some pos
 
 first_stays : (fin : Bool) (n : ℕ) (o : Option ℕ) (pos : ℕ) → o ≡ Some pos → first_fin o fin n ≡ Some pos
@@ -91,11 +91,11 @@ module _ {C : Type 0} where
   abbrev pub FinsStay : PathState C → PathState C → Type 0
   FinsStay p q = (s : Side) → Stays (end_at s p).tcp (end_at s q).tcp
 
-  step_stay : (p q : PathState C) → PathStep p q → FinsStay p q
+  pub step_stay : (p q : PathState C) → PathStep p q → FinsStay p q
   step_stay p q x A = steps_fin q.clock p.a.tcp q.a.tcp x.a.subflow
   step_stay p q x B = steps_fin q.clock p.b.tcp q.b.tcp x.b.subflow
 
-  stay_last : Lasts FinsStay
+  pub stay_last : Lasts FinsStay
   stay_last = record { agenda = λ ds p s pos h. h; chains = λ p q r x y s pos h. y s pos (x s pos h); passes = λ d p. step_stay p (passed d p) (passed_steps d p) }
 
   abbrev pub FinsStayMember : Actor C → Actor C → Type 0

@@ -6,7 +6,7 @@ use Rattle.path_agenda.specs.declared.duty.Duty.{Duty}
 use Rattle.path_core.specs.State.{PathState, end_at}
 use Rattle.path_core.specs.Values.{Carried, values}
 use Rattle.world_laws.specs.Members.{HoldsOfKind}
-use Rattle.world_laws.specs.Openings.{PathPlan, Start}
+use Rattle.world_laws.specs.Openings.{Start}
 use Rattle.actor_desk.specs.Books.{books_in}
 use Rattle.world_laws.specs.RoundDone.{reached}
 use Rattle.world_laws.specs.Worlds.{Turn, WorldState}
@@ -17,7 +17,7 @@ use Rattle.whole_paths.specs.EndRounds.{EndIsKnown}
 use Rattle.whole_paths.specs.Finish.{IsPathAt}
 use Rattle.whole_paths.specs.FinsComing.{FinIsTold, FourRoundsEnd}
 use Rattle.whole_paths.specs.FinsComing.{FinIsTold as told}
-use Rattle.whole_paths.specs.OnePathScripts.{BeginsWithOnePath}
+use Rattle.whole_paths.specs.Mild.{IsMildStart}
 use Rattle.whole_paths.specs.SegmentRounds.{Rounds}
 use Rattle.whole_paths.proofs.ClosingKnown.{who_heard_the_end_knows_it}
 use Rattle.whole_paths.proofs.FinsComing.{data_fins_come_soon}
@@ -33,7 +33,7 @@ has_come s p over (fin.came is) = is
 has_come s p over (fin.told place hear tell) = absurd (none_to_tell s p.agenda over tell)
 has_come s p over (fin.heard some tell) = absurd (none_to_tell s p.agenda over tell)
 
-module _ (start : Start) (plan : PathPlan) (x : BeginsWithOnePath start plan) (v u : List Turn) (rounds : Rounds start 4 v u) (s : Side) (p q : PathState Carried)
+module _ (start : Start) (mild : IsMildStart start) (v u : List Turn) (rounds : Rounds start 4 v u) (s : Side) (p q : PathState Carried)
     (here : IsPathAt 0 (reached values start v) p) (there : IsPathAt 0 (reached values start u) q) (position : ℕ) where
   abbrev at : List Turn → WorldState Carried
   at turns = reached values start turns
@@ -45,7 +45,7 @@ module _ (start : Start) (plan : PathPlan) (x : BeginsWithOnePath start plan) (v
   Comes = FinIsTold s position (p.clock + 400)
 
   told_then : Comes p → Comes q
-  told_then h = carried start Comes (λ turns turn before after. (data_fins_come_soon start turns turn (begun start turns turn (record { mild = x.mild; before = before; after = after })) s).comes position (p.clock + 400))
+  told_then h = carried start Comes (λ turns turn before after. (data_fins_come_soon start turns turn (begun start turns turn (record { mild = mild; before = before; after = after })) s).comes position (p.clock + 400))
       v on_the_way.more on_the_way.stays_open p q here (subst (λ t. IsPathAt 0 (at t) q) on_the_way.is there) h
 
   knows : IsFinHeard (peer s) q → EndIsKnown start s u
@@ -65,4 +65,4 @@ module _ (start : Start) (plan : PathPlan) (x : BeginsWithOnePath start plan) (v
       let all = rounds_later start 4 v u rounds in absurd (omega (arith, tick, clock, first_tick, same, all))
 
 pub four_rounds_end : FourRoundsEnd
-four_rounds_end start plan v u x rounds s p q here there position h = ends start plan x v u rounds s p q here there position (told_then start plan x v u rounds s p q here there position h)
+four_rounds_end start v u mild rounds s p q here there position h = ends start mild v u rounds s p q here there position (told_then start mild v u rounds s p q here there position h)

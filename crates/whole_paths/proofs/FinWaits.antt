@@ -73,7 +73,7 @@ use Rattle.whole_paths.proofs.SegmentRounds.{if_may, unfinished}
 use Rattle.whole_paths.proofs.Sent.{what_came_was_sent}
 use Rattle.whole_paths.proofs.Timing.{timers_run_out}
 use Rattle.whole_paths.proofs.Waiting.{no_timer_is_put_off}
-use Rattle.whole_paths.proofs.WindowRoom.{each_window_has_room}
+use Rattle.whole_paths.proofs.WindowRoom.{each_window_has_room, one_path_is_roomy}
 
 -- a DATA_FIN that was sent and isn't acknowledged is owed, where bytes are mapped
 owed_so : (e : PathEnd) → e.modes.identity ≡ false → e.modes.own_infinite ≡ None → e.sending.fin_sent ≡ true → e.sending.close.own_acked ≡ false → is_data_fin_owed e ≡ true
@@ -122,7 +122,7 @@ module _ (start : Start) (plan : PathPlan) (one : BeginsWithOnePath start plan) 
   begun_turn = begun start turns turn h
 
   una_later : (end_at s p).tcp.send.una ≤ (end_at s q).tcp.send.una
-  una_later = una_up start plan one turns turn begun_turn s s
+  una_later = una_up start (one_path_is_roomy start plan one) turns turn begun_turn s s
 
   heard_later : (end_at s p).sending.heard ≤ (end_at s q).sending.heard
   heard_later = (with_both start turns turn h EndsKeepWhatWaits (what_waits_is_kept values w (turn ∷ []) 2 crew there) s).heard
@@ -221,7 +221,7 @@ module _ (start : Start) (plan : PathPlan) (one : BeginsWithOnePath start plan) 
     goes_out none unacked = ⊎_elim
         (λ same. same_stage same (goes_by.resends left (inr is)))
         (λ goes. ⊎_elim (λ harmed. on.harmed harmed)
-        (λ c. on.stands (stands.comes e.tcp.send.nxt (comes_later s e.tcp.send.nxt (p.clock + 400) (q.clock + 400) q (let up = clock start plan one turns turn begun_turn s in omega (arith, up)) c)))
+        (λ c. on.stands (stands.comes e.tcp.send.nxt (comes_later s e.tcp.send.nxt (p.clock + 400) (q.clock + 400) q (let up = clock start (one_path_is_roomy start plan one) turns turn begun_turn s in omega (arith, up)) c)))
         goes)
         (fin_goes_again start turns turn begun_turn s (each_window_has_room start plan turns one p begun_turn.before.here begun_turn.before.is_open t) (h.before.is_open.clear s) ((knows.knows s).ended left.sent) (emission s) is none
         (never e.modes.owes_third (λ owes. both_ways (is_joined p.profile) h.before.is_open.first ((alone s).third owes)))
@@ -239,12 +239,12 @@ module _ (start : Start) (plan : PathPlan) (one : BeginsWithOnePath start plan) 
     goes_so : may_finish e.tcp.state ≡ true → (records : List Record) → e.tcp.send.records ≡ records → Goes
     goes_so may [] none = unacked_goes none
     goes_so may (r ∷ others) records =
-        let data_left = of_before start turns turn h HasDataLeft (what_is_left_is_data start turns h.mild.plain.size h.mild.fit crew there) s (h.before.is_open.past s) (h.before.is_open.living s) (inl (unfinished start plan one turns p h.before.here s may)) r others records in
+        let data_left = of_before start turns turn h HasDataLeft (what_is_left_is_data start turns h.mild.plain.size h.mild.fit crew there) s (h.before.is_open.past s) (h.before.is_open.living s) (inl (unfinished start one.mild turns p h.before.here s may)) r others records in
         let below = data_left.left in let within = data_left.within in let acked = left.acked in
         there_then (sent_past start plan one s turns p h.before.here (h.before.is_open.past s) (h.before.is_open.living s) (omega (arith, below, within, acked)))
 
     sends : Goes
-    sends = if_may start plan one Goes turns p h.before.here h.before.is_open s there_then (λ may. goes_so may e.tcp.send.records refl)
+    sends = if_may start one.mild Goes turns p h.before.here h.before.is_open s there_then (λ may. goes_so may e.tcp.send.records refl)
 
   goes_again : FinGoesBy start s x p → Goes
   goes_again (goes_by.waits left level tick runs near) = waits_so left level tick runs near
@@ -292,7 +292,7 @@ module _ (start : Start) (plan : PathPlan) (one : BeginsWithOnePath start plan) 
 
   -- where it is left the timer runs, unless all of the stream is there
   pub awaited : IsEndLeft start s z → IsAllThere s (reached values start turns) ⊎ FinGoesBy start s (until + 60000) z
-  awaited left = if_may start plan one (IsAllThere s (reached values start turns) ⊎ FinGoesBy start s (until + 60000) z) turns z h.here h.is_open s (λ all. inl all) (λ may. by at_end.sending.close.own_acked refl may)
+  awaited left = if_may start one.mild (IsAllThere s (reached values start turns) ⊎ FinGoesBy start s (until + 60000) z) turns z h.here h.is_open s (λ all. inl all) (λ may. by at_end.sending.close.own_acked refl may)
     where
       maps : EndsGoByMappings z
       maps = of_path EndsGoByMappings ((mapping_is_kept start turns one.mild).each 2 h.here.crew h.here.there)
@@ -303,7 +303,7 @@ module _ (start : Start) (plan : PathPlan) (one : BeginsWithOnePath start plan) 
       runs_to : may_finish at_end.tcp.state ≡ true → (o : Option ℕ) → at_end.tcp.timing.timer ≡ o → IsSome o → FinGoesBy start s (until + 60000) z
       runs_to may None runs some = absurd (true≢false (sym some))
       runs_to may (Some tick) runs some = goes_by.waits left
-          (positions_are_acked_as_bytes start plan turns one z h.here nothing_to_do h.is_open.living s (unfinished start plan one turns z h.here s may)).heard
+          (positions_are_acked_as_bytes start plan turns one z h.here nothing_to_do h.is_open.living s (unfinished start one.mild turns z h.here s may)).heard
           tick
           (record { timer = runs; settled = of_path IsSettledAtTheEnd (((no_timer_is_put_off values).settled start turns).each 2 h.here.crew h.here.there) nothing_to_do s (h.is_open.living s); living = living })
           (let near = (is_near tick s runs).0 in let low = early start turns z h.here in omega (arith, near, low))

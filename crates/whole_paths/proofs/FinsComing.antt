@@ -29,7 +29,7 @@ use Rattle.path_core.specs.OptionsOut.{ack_said, carried_said, opening_options, 
 use Rattle.path_core.specs.State.{PathState, end_at}
 use Rattle.path_core.specs.Turns.{FirstStands}
 use Rattle.path_core.specs.Values.{Carried, as_arrived, values}
-use Rattle.world_laws.specs.Openings.{PathPlan, Start}
+use Rattle.world_laws.specs.Openings.{Start}
 use Rattle.world_laws.specs.RoundDone.{reached}
 use Rattle.world_laws.specs.Worlds.{WorldState, Turn, after_turn}
 use Rattle.world_laws.proofs.Whole.Falls.{MemberUpright, each_upright}
@@ -43,7 +43,7 @@ use Rattle.whole_paths.specs.FinsComing.{FinIsSoon as is_soon}
 use Rattle.whole_paths.specs.FinsComing.FinIsTold.{heard, comes, behind}
 use Rattle.whole_paths.specs.Mending.{IsBegunTurn, LeavesRoomFor}
 use Rattle.whole_paths.specs.Mild.{IsMildStart}
-use Rattle.whole_paths.specs.OnePathScripts.{BeginsWithOnePath}
+use Rattle.whole_paths.specs.WindowRoom.{IsRoomy}
 use Rattle.whole_paths.specs.OpenCourses.{IsNow}
 use Rattle.whole_paths.specs.Straying.{IsOpenFrom}
 use Rattle.whole_paths.proofs.Arrivals.{sender_of}
@@ -52,7 +52,6 @@ use Rattle.whole_paths.proofs.Closing.{each_data_fin_counts, each_data_fin_is_sa
 use Rattle.whole_paths.proofs.Exchanges.{Known}
 use Rattle.whole_paths.proofs.FinsSent.{FinGoesNext, FinsGoNext, fins_go_next}
 use Rattle.whole_paths.proofs.RecordWaits.{last, nxt_up}
-use Rattle.whole_paths.proofs.WindowRoom.{each_window_has_room}
 use Rattle.whole_paths.proofs.RecordsWell.{by_turn, clock, keyless, known, mapped_p, mapped_q, unbroken_q}
 use Rattle.whole_paths.proofs.Straying.{never_resets}
 
@@ -258,9 +257,9 @@ told_later s position by later p up (heard is) = heard is
 told_later s position by later p up (behind past) = behind past
 told_later s position by later p up (comes h) = comes (comes_later s position by later p up h)
 
--- ---- over one path
+-- ---- where windows have room
 
-module _ (start : Start) (plan : PathPlan) (one : BeginsWithOnePath start plan) (turns : List Turn) (turn : Turn) (before : IsNow (IsOpenFrom B) (reached values start turns)) (after : IsNow (IsOpenFrom B) (after_turn values turn (reached values start turns)))
+module _ (start : Start) (roomy : IsRoomy start) (turns : List Turn) (turn : Turn) (before : IsNow (IsOpenFrom B) (reached values start turns)) (after : IsNow (IsOpenFrom B) (after_turn values turn (reached values start turns)))
     (s : Side) where
   abbrev from : PathState Carried
   from = before.path
@@ -269,16 +268,16 @@ module _ (start : Start) (plan : PathPlan) (one : BeginsWithOnePath start plan) 
   to = after.path
 
   later_clock : from.clock ≤ to.clock
-  later_clock = clock start one.mild turns turn before after
+  later_clock = clock start roomy.mild turns turn before after
 
   go_on : FinsGoOn s from to
-  go_on = fins_go_on start one.mild turns turn before after s
+  go_on = fins_go_on start roomy.mild turns turn before after s
 
   told_still : (position : ℕ) → FinIsTold s position (from.clock + 400) from → FinIsSoon s to
   told_still position h = is_soon.told position (told_later s position (from.clock + 400) (to.clock + 400) to (let up = later_clock in omega (arith, up)) (go_on.comes position (from.clock + 400) h))
 
   next_so : FinGoesNext s from to
-  next_so = by_turn start one.mild turns turn before after FinsGoNext (fins_go_next values (reached values start turns) turn 2 before.here.crew before.here.there) s
+  next_so = by_turn start roomy.mild turns turn before after FinsGoNext (fins_go_next values (reached values start turns) turn 2 before.here.crew before.here.there) s
 
   abbrev Stays : Type 0
   Stays = (is_harmed s from to ≡ true) ⊎ FinIsSoon s to
@@ -287,7 +286,7 @@ module _ (start : Start) (plan : PathPlan) (one : BeginsWithOnePath start plan) 
   is_sent none others first = ⊎_elim
       (λ same. inr (is_soon.unsent (ap (λ (y : PathState Carried). (end_at s y).sending.fin_sent) same ∙ none)))
       (λ goes. ⊎_elim (λ harmed. inl harmed) (λ c. inr (is_soon.told (end_at s from).tcp.send.nxt (told_later s (end_at s from).tcp.send.nxt (from.clock + 400) (to.clock + 400) to (let up = later_clock in omega (arith, up)) (comes c)))) goes)
-      (go_on.sent (each_window_has_room start plan turns one from before.here before.is_open (peer s)) others first)
+      (go_on.sent (roomy.room turns from before.here before.is_open.living (peer s)) others first)
 
   stays_soon : FinIsSoon s from → Stays
   stays_soon (is_soon.told position h) = inr (told_still position h)
@@ -309,6 +308,6 @@ fin_goes_again start turns turn h s room clear knows others first none third clo
     (λ a. sent_again start h.mild turns turn h.before a s room clear knows others first none third close owed) h.after
 
 pub data_fins_stay_soon : DataFinsStaySoon
-data_fins_stay_soon start plan turns turn one h s =
+data_fins_stay_soon start turns turn roomy h s =
     subst (λ (u : WorldState Carried). (a : IsNow (IsOpenFrom B) u) → FinIsSoon s h.before.path → (is_harmed s h.before.path a.path ≡ true) ⊎ FinIsSoon s a.path) (sym (last start h.mild turns turn))
-    (λ a. stays_soon start plan one turns turn h.before a s) h.after
+    (λ a. stays_soon start roomy turns turn h.before a s) h.after

@@ -47,11 +47,11 @@ module _ (start : Start) (plan : PathPlan) (s : Side) (v u : List Turn) (one : B
   known_where all = ap (λ (o : Option ℕ). is_some o) all.known
 
   came_there : (end_at s p0).tcp.send.una ≤ (end_at (peer s) p0).tcp.recv.edge
-  came_there = (of_path start plan one v p0 HasCome x.here ((what_is_acknowledged_came start v).each 2 x.here.crew x.here.there)).una s
+  came_there = (of_path start one.mild v p0 HasCome x.here ((what_is_acknowledged_came start v).each 2 x.here.crew x.here.there)).una s
       (subst (λ (z : PathState Carried). is_dead (end_at s z).tcp.state ≡ false) (path_is (reached values start v) first_open.path p0 first_open.here x.here) (first_open.is_open.living s))
 
   heard_in_four : (position : ℕ) → FinIsTold s position (p0.clock + 400) p0 → (position < (end_at s p4).tcp.send.nxt → EndIsKnown start s u) → EndIsKnown start s u
-  heard_in_four position is behind = ⊎_elim (λ known. known) behind (four_rounds_end start plan v u one rounds s p0 p4 x.here last_path.here position is)
+  heard_in_four position is behind = ⊎_elim (λ known. known) behind (four_rounds_end start v u one.mild rounds s p0 p4 x.here last_path.here position is)
 
   known_so : FinStands start s p0 (reached values start v) → EndIsKnown start s u
   known_so (stands.bytes few) = absurd (let all = (sent p0 x.here).1 in omega (arith, few, all))
@@ -59,7 +59,7 @@ module _ (start : Start) (plan : PathPlan) (s : Side) (v u : List Turn) (one : B
   known_so (stands.heard is) = heard_in_four (end_at s p4).tcp.send.nxt (told.heard is) (λ more. absurd (omega (arith, more)))
   known_so (stands.comes position c) = heard_in_four position (told.comes c) (λ more. known_where (sent_past start plan one s u p4 last_path.here (last_path.is_open.past s) (last_path.is_open.living s)
       (let all = (sent p0 x.here).1 in let low = came_there in let from = c.bare.from in let at = c.at in omega (arith, all, low, from, at, more))))
-  known_so (stands.all_there all) = known_where (stays_there start plan one v u s on_the_way all)
+  known_so (stands.all_there all) = known_where (stays_there start one.mild v u s on_the_way all)
 
 pub fins_are_heard : FinsAreHeard
 fins_are_heard start plan s v u one rounds x sent = known_so start plan s v u one rounds x sent x.stands

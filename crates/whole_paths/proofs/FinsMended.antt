@@ -51,6 +51,7 @@ use Rattle.whole_paths.proofs.OpenClears.{paths_open_by_clearing}
 use Rattle.whole_paths.proofs.OpenTurns.{begun}
 use Rattle.whole_paths.proofs.RecordWaits.{path_is}
 use Rattle.whole_paths.proofs.RoundBegins.{Rests, none_harmed}
+use Rattle.whole_paths.proofs.WindowRoom.{one_path_is_roomy}
 
 -- ---- all bytes are acknowledged
 
@@ -60,7 +61,7 @@ acked_is start s turns p here = ap (on_path (is_all_acked start s)) here.there �
 pub what_is_acked_lasts : WhatIsAckedLasts
 what_is_acked_lasts start plan s one turns turn h is =
     let before = ltb-true (file_size start s) (end_at s h.before.path).tcp.send.una (sym (acked_is start s turns h.before.path h.before.here) ∙ is) in
-    let up = una_up start plan one turns turn h s s in
+    let up = una_up start (one_path_is_roomy start plan one) turns turn h s s in
     acked_is start s (turns ++ turn ∷ []) h.after.path h.after.here ∙ lt-ltb (file_size start s) (end_at s h.after.path).tcp.send.una (omega (arith, before, up))
 
 -- ---- as the path opens
@@ -129,7 +130,7 @@ module _ (start : Start) (plan : PathPlan) (most : ℕ) (s : Side) (count : List
     later = turns ++ turn ∷ []
 
     harms : harmed_so_far values start later ≡ harmed_so_far values start turns + (one_if (is_harmed s p q) + one_if (is_harmed (peer s) p q))
-    harms = harms_so start plan one turns turn h s
+    harms = harms_so start (one_path_is_roomy start plan one) turns turn h s
 
     by_harm : is_harmed s p q ≡ true → count turns < count later
     by_harm harmed =

@@ -139,7 +139,7 @@ module _ {C : Type 0} where
   abbrev pub SameProfile : PathState C → PathState C → Type 0
   SameProfile p q = q.profile ≡ p.profile
 
-  profile_lasts : Lasts SameProfile
+  pub profile_lasts : Lasts SameProfile
   profile_lasts = record { agenda = λ ds p. refl; chains = λ p q r x y. y ∙ x; passes = λ d p. ap (λ (v : PathView C). v.profile) (passes_no_more d p).same }
 
   abbrev pub SameClock : PathState C → PathState C → Type 0

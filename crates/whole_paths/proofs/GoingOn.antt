@@ -36,7 +36,7 @@ use Rattle.world_laws.proofs.Rounds.Lifting.{all_over_each}
 use Rattle.world_laws.proofs.Weaving.WholeRounds.{run_append}
 use Rattle.whole_paths.specs.Acknowledged.{IdleIsAcknowledged, IsAllAcknowledged}
 use Rattle.whole_paths.specs.AsFar.{IsActorAsFar, IsSideAsFar, stage}
-use Rattle.whole_paths.specs.Courses.{counted}
+use Rattle.whole_paths.specs.Courses.{counted, counted_at}
 use Rattle.whole_paths.specs.Delivery.{AllIsThere, FinishedIsThere, HasFinished, IsAllThere}
 use Rattle.whole_paths.specs.GoingOn.{EndsGoOn, IsEndOpen, IsEndOpenHere, going_side, IsAboutToGoOn, IsWaiting, RoundsBeginToGoOn, RoundsGoOn, StepsLetItGoOn, steps_of}
 use Rattle.whole_paths.specs.GoingOn.IsAboutToGoOn.{this_round, next_round}
@@ -142,12 +142,16 @@ module _ (start : Start) where
   runs turns more = run_append values turns more (opened_world start)
 
   -- with what a side gains
-  pub gains_count : (turns more : List Turn) (s : Side) → Gains s (books_in (at turns).books) (books_in (at (turns ++ more)).books) → counted values start turns < counted values start (turns ++ more)
-  gains_count turns more s gain =
+  pub gains_count_at : (number : ℕ) (turns more : List Turn) (s : Side) → Gains s (books_in (at turns).books) (books_in (at (turns ++ more)).books)
+      → counted_at values start number turns < counted_at values start number (turns ++ more)
+  gains_count_at number turns more s gain =
       let rises = each_gain_counts values start turns more s (subst (λ (w : WorldState Carried). Gains s (books_in (at turns).books) (books_in w.books)) (runs turns more) gain) in
       let up : news start (at turns) < news start (at (turns ++ more)) = subst (λ (w : WorldState Carried). news start (at turns) < news start w) (sym (runs turns more)) rises in
-      let harms = harmed_append values 0 turns more (opened_world start) in
+      let harms = harmed_append values number turns more (opened_world start) in
       omega (arith, up, harms)
+
+  pub gains_count : (turns more : List Turn) (s : Side) → Gains s (books_in (at turns).books) (books_in (at (turns ++ more)).books) → counted values start turns < counted values start (turns ++ more)
+  gains_count turns more s gain = gains_count_at 0 turns more s gain
 
   pub sides_far : (turns more : List Turn) (s : Side) → IsSideAsFar s (books_in (at turns).books) (books_in (at (turns ++ more)).books)
   sides_far turns more s = subst (λ (w : WorldState Carried). IsSideAsFar s (books_in (at turns).books) (books_in w.books)) (sym (runs turns more)) ((goes_on_so values (at turns) more).sides s)

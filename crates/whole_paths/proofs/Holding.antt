@@ -95,7 +95,7 @@ app_asks_none : (d : AppDuty) (a : AppState) → AsksNone (app_ask d a)
 app_asks_none AppDuty.Write a = tt
 app_asks_none _ a = tt
 
-app_never : (s : Side) (number : ℕ) (x : Ask) (a : AppState) (ds : List AppDuty) → app_asks_first ds a ≡ Some x → AsksBytes s number x → ⊥
+pub app_never : (s : Side) (number : ℕ) (x : Ask) (a : AppState) (ds : List AppDuty) → app_asks_first ds a ≡ Some x → AsksBytes s number x → ⊥
 app_never s number x a [] asking bytes = cc
 app_never s number x a (d ∷ ds) asking bytes = subst AsksNone (same_Some (app_ask d a) x asking ∙ bytes.is) (app_asks_none d a)
 
@@ -156,11 +156,11 @@ module _ {C : Type 0} (k : Codec C) where
   IsNamed actor (App a) = actor < 2
   IsNamed actor (Path p) = (2 + path_of p ≡ actor) × IsSettled p
 
-  takes_named : (actor : ℕ) (r : Reply) (m : Actor C) → IsNamed actor m → IsNamed actor (member_takes k r m)
+  pub takes_named : (actor : ℕ) (r : Reply) (m : Actor C) → IsNamed actor m → IsNamed actor (member_takes k r m)
   takes_named actor r (App a) h = h
   takes_named actor r (Path p) h = (ap (λ n. 2 + n) (takes_keeps k r p).2 ∙ h.0, let q : PathState C = answers k p.agenda r p in settled_settled q.agenda q)
 
-  next_named : (actor : ℕ) (m : Actor C) → IsNamed actor m → IsNamed actor (member_next m)
+  pub next_named : (actor : ℕ) (m : Actor C) → IsNamed actor m → IsNamed actor (member_next m)
   next_named actor (App a) h = h
   next_named actor (Path p) h =
       let q : PathState C = record p { clock = p.until; until = p.until + 100 } in (ap (λ n. 2 + n) (first_keeps q).2 ∙ h.0, settled_settled start_of_turn (with_agenda start_of_turn q))

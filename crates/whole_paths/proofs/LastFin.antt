@@ -1,5 +1,5 @@
 -- The FIN of a lane stands behind all of its bytes, and SND.NXT behind the FIN.
-use Rattle.std.proofs.Common.{◌≡◌, refl, sym, subst, ℕ, suc, arith, Bool, true, false, Option, Some, None, List, length}
+use Rattle.std.proofs.Common.{◌≡◌, refl, sym, subst, ℕ, suc, ◌+◌, ◌≤◌, arith, Bool, true, false, Option, Some, None, List, length}
 use Rattle.std.specs.Prelude.{IfSome}
 use Rattle.sides.specs.declared.side.Side.{Side}
 use Rattle.sides.specs.declared.side.Side.TheVariants.{A, B}
@@ -11,7 +11,7 @@ use Rattle.stream_lanes.specs.View.{View}
 use Rattle.stream_lanes.specs.Words.{Every}
 use Rattle.stream_lanes.proofs.Duos.{any_held}
 use Rattle.subflow_send.specs.Records.{Record}
-use Rattle.subflow_send.specs.declared.record.RecordKind.TheVariants.{Fin}
+use Rattle.subflow_send.specs.declared.record.RecordKind.TheVariants.{Data, Fin}
 use Rattle.path_store.specs.declared.granted_piece.GrantedPiece.{GrantedPiece}
 use Rattle.actor_desk.specs.Books.{books_in}
 use Rattle.path_core.specs.Profile.{Profile}
@@ -49,8 +49,18 @@ module _ (path : ℕ) (v : View) (out : Lane) (holds : LaneHolds v path out) (fi
   heard_last None h = tt
   heard_last (Some position) h = fin_last path v finished nxt heard granted out.sent out.fins out.pair sent holds.fins position h
 
+-- the bytes of a lane stand before its FIN
+data_before : (path : ℕ) (v : View) (c : Profile) (s : Side) (out : Lane) (rs : List Record) → LaneHolds v path out → (at : Option ℕ) → IfSome at (HasFin out.fins) → Every (RecordShows c s out.alters out.sent out.datas out.fins) rs
+    → IfSome at (λ position. Every (λ (r : Record). r.kind ≡ Data → r.pos + r.mapping.length ≤ position) rs)
+data_before path v c s out rs holds None has h = tt
+data_before path v c s out rs holds (Some position) has h = record {
+  each = λ i r there is.
+      let piece = subst (λ k. KindShows c s out.alters out.sent out.datas out.fins k r) is (h.each i r there) in
+      let within = piece.summed.within in let fin = has.holds in let last = (holds.fins.each has.at has.item has.there).last in omega (arith, within, fin, last);
+}
+
 path_last : (path : ℕ) (v u : View) (c : Profile) (p : PathState Carried) (ab ba : Lane) → PathShows c p ab ba → LaneHolds v path ab → LaneHolds u path ba → FinIsLast p
-path_last path v u c p ab ba shows ab_holds ba_holds = record { sent = sent; heard = heard }
+path_last path v u c p ab ba shows ab_holds ba_holds = record { sent = sent; heard = heard; behind = behind }
   where
     sent : (s : Side) → Every (λ (r : Record). r.kind ≡ Fin → suc r.pos ≡ (end_at s p).tcp.send.nxt) (end_at s p).tcp.send.records
     sent A = records_last path v ab ab_holds p.a.tcp.send.finished p.a.tcp.send.nxt p.a.sending.heard p.a.sending.granted shows.a.sender.sent c A p.a.tcp.send.records shows.a.sender.pieces
@@ -59,6 +69,10 @@ path_last path v u c p ab ba shows ab_holds ba_holds = record { sent = sent; hea
     heard : (s : Side) → IfSome (end_at (peer s) p).tcp.fin_at (λ position. suc position ≡ (end_at s p).tcp.send.nxt)
     heard A = heard_last path v ab ab_holds p.a.tcp.send.finished p.a.tcp.send.nxt p.a.sending.heard p.a.sending.granted shows.a.sender.sent p.b.tcp.fin_at shows.b.receiver.fin
     heard B = heard_last path u ba ba_holds p.b.tcp.send.finished p.b.tcp.send.nxt p.b.sending.heard p.b.sending.granted shows.b.sender.sent p.a.tcp.fin_at shows.a.receiver.fin
+
+    behind : (s : Side) → IfSome (end_at (peer s) p).tcp.fin_at (λ position. Every (λ (r : Record). r.kind ≡ Data → r.pos + r.mapping.length ≤ position) (end_at s p).tcp.send.records)
+    behind A = data_before path v c A ab p.a.tcp.send.records ab_holds p.b.tcp.fin_at shows.b.receiver.fin shows.a.sender.pieces
+    behind B = data_before path u c B ba p.b.tcp.send.records ba_holds p.a.tcp.fin_at shows.a.receiver.fin shows.b.sender.pieces
 
 -- ---- the world
 

@@ -213,8 +213,8 @@ module _ {C : Type 0} (k : Codec C) where
   -- ---- any duty
 
   -- an end that lives does so still, or is to leave; or its side noted that it leaves, so that it gives back now
-  record GoesOrGives (d : Duty) (p q : PathState C) : Type 0 where
-    each : (t : Side) → Goes t p q ⊎ (d ≡ duties.Ask (ask_duties.LeaveNoted t))
+  pub record GoesOrGives (d : Duty) (p q : PathState C) : Type 0 where
+    pub each : (t : Side) → Goes t p q ⊎ (d ≡ duties.Ask (ask_duties.LeaveNoted t))
 
   all_or : (d : Duty) (p q : PathState C) → AllGo p q → GoesOrGives d p q
   all_or d p q x = record { each = λ t. inl (x.each t) }
@@ -228,7 +228,7 @@ module _ {C : Type 0} (k : Codec C) where
   noted_goes : (s : Side) (e : PathEnd) (p q : PathState C) → q.a ≡ (goes_on s e [] p).a → q.b ≡ (goes_on s e [] p).b → GoesOrGives (duties.Ask (ask_duties.LeaveNoted s)) p q
   noted_goes s e p q a b = record { each = noted_go s e p q a b }
 
-  answered_goes : (d : Duty) (ds : List Duty) (r : Reply) (p : PathState C) → GoesOrGives d (with_agenda (d ∷ ds) p) (answered k d r (with_agenda (d ∷ ds) p))
+  pub answered_goes : (d : Duty) (ds : List Duty) (r : Reply) (p : PathState C) → GoesOrGives d (with_agenda (d ∷ ds) p) (answered k d r (with_agenda (d ∷ ds) p))
   answered_goes (duties.Step step_duties.Events) ds r p = let x : PathState C = with_agenda (duties.Step step_duties.Events ∷ ds) p in all_or _ x _ (event_goes (next_event x) r x)
   answered_goes (duties.Ask ask_duties.JoinAgain) ds r p =
       let x : PathState C = with_agenda (duties.Ask ask_duties.JoinAgain ∷ ds) p in all_or _ x _ (join_goes r (duties.Ask (ask_duties.Leave A) ∷ ds) ds x (leaving.leaves ds))
@@ -271,7 +271,7 @@ module _ {C : Type 0} (k : Codec C) where
 
   -- ---- a step of a path
 
-  settled_goes : (t : Side) (p q : PathState C) → Goes t p q → Goes t p (settled q.agenda q)
+  pub settled_goes : (t : Side) (p q : PathState C) → Goes t p q → Goes t p (settled q.agenda q)
   settled_goes t p q (inl x) = inl (spared_then (end_at t p) (end_at t q) (end_at t (settled q.agenda q)) x (at_side k t q (settled q.agenda q) (settled_lasts (BothSpared k) (spared_lasts k) q.agenda q)))
   settled_goes t p q (inr l) = inr (leaves_settled t q.agenda q l)
 

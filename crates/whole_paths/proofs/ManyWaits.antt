@@ -30,17 +30,17 @@ use Rattle.world_laws.proofs.Promises.Made.{keep_their_word}
 use Rattle.world_laws.proofs.Rounds.ReadAll.{readers_caught_up}
 use Rattle.world_laws.proofs.Weaving.WholeRounds.{run_append}
 use Rattle.world_laws.proofs.Whole.Falls.{MemberUpright, PathUpright, each_upright}
-use Rattle.whole_paths.specs.AnswerWaits.{AnswersAreAwaited}
+use Rattle.whole_paths.specs.AnswerWaits.{AnswersAreAwaitedAt}
 use Rattle.whole_paths.specs.BookNews.{book_news}
 use Rattle.whole_paths.specs.CountedCourses.{CountsOfPaths, counted_with}
-use Rattle.whole_paths.specs.Courses.{counted, round_end}
+use Rattle.whole_paths.specs.Courses.{counted_at, round_end}
 use Rattle.whole_paths.specs.EdgeStands.{IsShutOutAt}
 use Rattle.whole_paths.specs.Finish.{IsPathAt}
 use Rattle.whole_paths.specs.GoingOn.{steps_of}
 use Rattle.whole_paths.specs.HolderWaits.{IsLent, LetsGo}
 use Rattle.whole_paths.specs.HolderWaits.{LetsGo as lets}
 use Rattle.whole_paths.specs.Holders.{IsAwaitedAt}
-use Rattle.whole_paths.specs.ManyWaits.{EachMissingByteIsWaitedFor, WaitsForAByte}
+use Rattle.whole_paths.specs.ManyWaits.{EachMissingByteIsWaitedFor, EachMissingByteIsWaitedForAt, WaitsForAByte}
 use Rattle.whole_paths.specs.ManyWaits.{WaitsForAByte as waits}
 use Rattle.whole_paths.specs.Mild.{IsMildStart}
 use Rattle.whole_paths.specs.MissingBytes.{IsMissing}
@@ -48,27 +48,30 @@ use Rattle.whole_paths.specs.MissingBytes.{IsMissing as missing}
 use Rattle.whole_paths.specs.News.{Gains, news}
 use Rattle.whole_paths.specs.OpenAsks.IsUnanswered.{bytes}
 use Rattle.whole_paths.specs.Received.{GrantedIsPlaced}
-use Rattle.whole_paths.specs.RecordWaits.{LeavesRoom, Opens, RecordsAreAwaited, SentNoFin}
+use Rattle.whole_paths.specs.RecordWaits.{LeavesRoom, OpensAt, RecordsAreAwaitedAt, SentNoFinAt}
 use Rattle.whole_paths.specs.ReturnWaits.{AwaitsAReturn, ReturnsAreAwaited, all_news}
 use Rattle.whole_paths.specs.Room.{HasWindows}
-use Rattle.whole_paths.specs.WindowWaits.{DoesNotStandBy, WindowsAreAwaited}
-use Rattle.whole_paths.proofs.AnswerWaits.{answers_are_awaited}
+use Rattle.whole_paths.specs.Serving.{ServesAt}
+use Rattle.whole_paths.specs.Straying.{IsOpen, IsSound}
+use Rattle.whole_paths.specs.WindowWaits.{WindowsAreAwaitedAt}
+use Rattle.whole_paths.proofs.AnswerWaits.{answers_await}
 use Rattle.whole_paths.proofs.BookNews.{book_news_never_falls}
 use Rattle.whole_paths.proofs.CountedCourses.{paths_are_counted}
 use Rattle.whole_paths.proofs.Courses.{harmed_append}
 use Rattle.whole_paths.proofs.Delivery.{bounds_at}
 use Rattle.whole_paths.proofs.EdgeStands.{send_is_tiled}
-use Rattle.whole_paths.proofs.GoingOn.{gains_count, prefix_up, sides_far}
+use Rattle.whole_paths.proofs.GoingOn.{gains_count_at, prefix_up, sides_far}
 use Rattle.whole_paths.proofs.MissingBytes.{what_is_missing_is_awaited}
 use Rattle.whole_paths.proofs.News.{news_never_falls}
 use Rattle.whole_paths.proofs.Offered.{what_is_taken_is_offered}
 use Rattle.whole_paths.proofs.Received.{what_is_granted_is_placed}
-use Rattle.whole_paths.proofs.RecordWaits.{records_are_awaited_always}
+use Rattle.whole_paths.proofs.OpenAsks.{open_sound}
+use Rattle.whole_paths.proofs.RecordWaits.{records_are_awaited}
 use Rattle.whole_paths.proofs.ReturnWaits.{returns_are_awaited_always}
 use Rattle.whole_paths.proofs.Room.{who_is_done_may_ask}
 use Rattle.whole_paths.proofs.ShutWindows.{not_going}
 use Rattle.whole_paths.proofs.Unstopped.{sides_are_never_stopped}
-use Rattle.whole_paths.proofs.WindowWaits.{shut_ends_are_awaited}
+use Rattle.whole_paths.proofs.WindowWaits.{HoldsOfSound, shut_ends_await}
 
 -- the mark behind those that are acknowledged isn't
 unacked_at : (n : ℕ) (ms : List ByteMark) → AreAcked n ms → n < length ms → (m : ByteMark) × (slice_get ms n ≡ Some m) × (is_acked m ≡ false)
@@ -103,18 +106,18 @@ return_later start turns x more low h = record {
 
 -- ---- what is counted
 
-module _ (start : Start) where
+module _ (number : ℕ) (start : Start) where
   abbrev count : List Turn → ℕ
-  count turns = counted_with start 0 turns
+  count turns = counted_with start number turns
 
   books_up : (turns more : List Turn) (s : Side) → book_news start s (reached values start turns) ≤ book_news start s (reached values start (turns ++ more))
   books_up turns more s = subst (λ (u : WorldState Carried). book_news start s (reached values start turns) ≤ book_news start s u) (sym (run_append values turns more (opened_world start))) (book_news_never_falls values start turns more s)
 
   pub news_up : (turns more : List Turn) → all_news start (reached values start turns) < all_news start (reached values start (turns ++ more)) → count turns < count (turns ++ more)
-  news_up turns more up = let harms = harmed_append values 0 turns more (opened_world start) in omega (arith, up, harms)
+  news_up turns more up = let harms = harmed_append values number turns more (opened_world start) in omega (arith, up, harms)
 
-  -- what counts over one path does over more
-  pub counts_too : (turns more : List Turn) → counted values start turns < counted values start (turns ++ more) → count turns < count (turns ++ more)
+  -- what counts without bytes does with them
+  pub counts_too : (turns more : List Turn) → counted_at values start number turns < counted_at values start number (turns ++ more) → count turns < count (turns ++ more)
   counts_too turns more up = let a = books_up turns more A in let b = books_up turns more B in omega (arith, up, a, b)
 
   pub book_counts : (turns more : List Turn) (s : Side) → book_news start s (reached values start turns) < book_news start s (reached values start (turns ++ more)) → count turns < count (turns ++ more)
@@ -129,8 +132,9 @@ module _ (start : Start) where
 
 -- ---- as a round is over
 
-module _ (start : Start) (mild : IsMildStart start) (buffer : 32 ≤ start.buffer) (most : ℕ) (since : List Turn) (order : List ℕ) (u : List Turn) (begin : BeginsRound values start (reached values start since))
-    (step : Opens start most (since ++ steps_of order) u) (serves : DoesNotStandBy start (since ++ steps_of order)) (s : Side) where
+module _ (number : ℕ) (Holds : PathState Carried → Type 0) (start : Start) (mild : IsMildStart start) (sound : HoldsOfSound number Holds start) (buffer : 32 ≤ start.buffer) (most : ℕ) (since : List Turn)
+    (order : List ℕ) (u : List Turn) (begin : BeginsRound values start (reached values start since)) (step : OpensAt number Holds start most (since ++ steps_of order) u)
+    (serves : ServesAt number (reached values start (since ++ steps_of order))) (s : Side) where
   abbrev v : List Turn
   v = since ++ steps_of order
 
@@ -144,36 +148,39 @@ module _ (start : Start) (mild : IsMildStart start) (buffer : 32 ≤ start.buffe
   p = step.before.path
 
   abbrev Up : Type 0
-  Up = counted_with start 0 since < counted_with start 0 u
+  Up = counted_with start number since < counted_with start number u
 
   abbrev Result : Type 0
-  Result = Up ⊎ WaitsForAByte start (round_end values start v + 60800) u
+  Result = Up ⊎ WaitsForAByte number start (round_end values start v + 60800) u
 
-  of_counts : CountsOfPaths start 0
-  of_counts = paths_are_counted start 0 mild.plain mild.fit
+  of_counts : CountsOfPaths start number
+  of_counts = paths_are_counted start number mild.plain mild.fit
 
-  to_v : counted_with start 0 since ≤ counted_with start 0 v
+  to_v : counted_with start number since ≤ counted_with start number v
   to_v = of_counts.counts since (steps_of order)
 
-  to_u : counted_with start 0 v ≤ counted_with start 0 u
-  to_u = subst (λ ts. counted_with start 0 v ≤ counted_with start 0 ts) (sym step.is) (of_counts.counts v (Turn.Round ∷ []))
+  to_u : counted_with start number v ≤ counted_with start number u
+  to_u = subst (λ ts. counted_with start number v ≤ counted_with start number ts) (sym step.is) (of_counts.counts v (Turn.Round ∷ []))
 
-  in_round : counted_with start 0 since < counted_with start 0 v → Up
+  in_round : counted_with start number since < counted_with start number v → Up
   in_round more = let on = to_u in omega (arith, more, on)
 
   by_gain : (t : Side) → Gains t (books_in was.books) (books_in w.books) → Up
-  by_gain t gain = in_round (counts_too start since (steps_of order) (gains_count start since (steps_of order) t gain))
+  by_gain t gain = in_round (counts_too number start since (steps_of order) (gains_count_at start number since (steps_of order) t gain))
+
+  is_sound : IsSound p
+  is_sound = sound v p step.before.here step.before.is_open
 
   pub upright : PathUpright p
-  upright = subst MemberUpright step.before.here.is ((each_upright start v mild.plain mild.strips).each 2 step.before.here.crew step.before.here.there)
+  upright = subst MemberUpright step.before.here.is ((each_upright start v mild.plain mild.strips).each (2 + number) step.before.here.crew step.before.here.there)
 
   -- where the end may still send its FIN
   module _ (may : may_finish (end_at s p).tcp.state ≡ true) where
-    abbrev sender : SentNoFin start v
+    abbrev sender : SentNoFinAt number start v
     sender = record { path = p; here = step.before.here; side = s; unfinished = upright.passes.unfinished s may }
 
-    records_wait : RecordsAreAwaited start most
-    records_wait = records_are_awaited_always start most mild
+    records_wait : RecordsAreAwaitedAt number Holds start most
+    records_wait = records_are_awaited number start most mild Holds sound
 
     -- it has a record, or its peer sent more than it has room for, or neither
     pub by_records : (LeavesRoom sender → (end_at s p).tcp.send.records ≡ [] → Result) → Result
@@ -184,7 +191,7 @@ module _ (start : Start) (mild : IsMildStart start) (buffer : 32 ≤ start.buffe
         by room (first ∷ others) records = inr (waits.piece (records_wait.begins v u step
             (record { path = p; here = step.before.here; side = s; first = first; others = others; records = records; unfinished = sender.unfinished })))
 
-    module _ (stood : last_on_standby s false (steps_since 2 was w) ≡ false) (left : acked_len (written_by s w).marks < length (written_by s was).written) where
+    module _ (stood : last_on_standby s false (steps_since (2 + number) was w) ≡ false) (left : acked_len (written_by s w).marks < length (written_by s was).written) where
       abbrev y : ℕ
       y = acked_len (written_by s w).marks
 
@@ -201,8 +208,8 @@ module _ (start : Start) (mild : IsMildStart start) (buffer : 32 ≤ start.buffe
       module _ (room : LeavesRoom sender) (none : (end_at s p).tcp.send.records ≡ []) where
         asks : may_ask p.profile s (end_at s p) ≡ true
         asks =
-            let windows : HasWindows p = subst (HoldsOfKind (λ app. Unit {0}) HasWindows) step.before.here.is (who_is_done_may_ask start v mild.plain.size mild.fit 2 step.before.here.crew step.before.here.there) in
-            windows.unsent s may (step.before.is_open.clear s) none
+            let windows : HasWindows p = subst (HoldsOfKind (λ app. Unit {0}) HasWindows) step.before.here.is (who_is_done_may_ask start v mild.plain.size mild.fit (2 + number) step.before.here.crew step.before.here.there) in
+            windows.unsent s may (is_sound.clear s) none
 
         -- its path waits for the byte
         by_own : IsAwaitedAt y (end_at s p).sending → Result
@@ -218,8 +225,8 @@ module _ (start : Start) (mild : IsMildStart start) (buffer : 32 ≤ start.buffe
           room = room;
         })))
           where
-            answers : AnswersAreAwaited start most
-            answers = answers_are_awaited start most mild
+            answers : AnswersAreAwaitedAt number start Holds most
+            answers = answers_await number start mild Holds sound most
 
             ends : (nat_le h.piece.item.from y ≡ true) × (nat_lt y h.piece.item.to ≡ true)
             ends = and_parts (nat_le h.piece.item.from y) (nat_lt y h.piece.item.to) h.piece.holds
@@ -231,15 +238,15 @@ module _ (start : Start) (mild : IsMildStart start) (buffer : 32 ≤ start.buffe
             under = ltb-true y h.piece.item.to ends.1
 
             placed : GrantedIsPlaced w p
-            placed = subst (HoldsOfKind (λ app. Unit {0}) (GrantedIsPlaced w)) step.before.here.is ((what_is_granted_is_placed start v mild.plain.size).each 2 step.before.here.crew step.before.here.there)
+            placed = subst (HoldsOfKind (λ app. Unit {0}) (GrantedIsPlaced w)) step.before.here.is ((what_is_granted_is_placed start v mild.plain.size).each (2 + number) step.before.here.crew step.before.here.there)
 
             stands : IsPlaced (arrived_at (peer s) w).read (arrived_at (peer s) w).places y
-            stands = (placed s (step.before.is_open.living s) none).each h.piece.at h.piece.item h.piece.there y over under
+            stands = (placed s (is_sound.living s) none).each h.piece.at h.piece.item h.piece.there y over under
 
         -- another path holds it
         by_lent : (other : ℕ) (q : PathState Carried) → IsPathAt other w q → IsLent s other y (q.clock + 60000) w → Result
         by_lent other q at lent = ⊎_elim
-            (λ more. inl (let now : counted_with start 0 v < counted_with start 0 u = subst (λ ts. counted_with start 0 v < counted_with start 0 ts) (sym step.is) (news_up start v (Turn.Round ∷ []) more) in let before = to_v in omega (arith, before, now)))
+            (λ more. inl (let now : counted_with start number v < counted_with start number u = subst (λ ts. counted_with start number v < counted_with start number ts) (sym step.is) (news_up number start v (Turn.Round ∷ []) more) in let before = to_v in omega (arith, before, now)))
             (λ h. inr (waits.lent (subst (λ ts. AwaitsAReturn start (round_end values start v + 60800) ts) (sym step.is) h)))
             (returns.on v Turn.Round (round_end values start v + 60800) (later (returns.begins v s other y q at lent)))
           where
@@ -265,8 +272,8 @@ module _ (start : Start) (mild : IsMildStart start) (buffer : 32 ≤ start.buffe
             (cases_lt (received (arrived_at (peer s) was)) (received (arrived_at (peer s) w))))
             (cases_lt (written_by s was).edge (written_by s w).edge)
           where
-            windows : WindowsAreAwaited IsShutOutAt start (DoesNotStandBy start) most
-            windows = shut_ends_are_awaited start most mild
+            windows : WindowsAreAwaitedAt IsShutOutAt number Holds start (λ turns. ServesAt number (reached values start turns)) most
+            windows = shut_ends_await number Holds start mild sound most
 
             size : (arrived_at (peer s) w).capacity ≡ start.buffer
             size = (what_is_taken_is_offered values).sizes start v (peer s)
@@ -278,8 +285,8 @@ module _ (start : Start) (mild : IsMildStart start) (buffer : 32 ≤ start.buffe
                 (λ stopped. absurd (both_ways _ (subst (λ (x : WorldState Carried). was_told tells_stop (notes_of (peer s) x.crew) ≡ false) ended ((sides_are_never_stopped start v mild).told (peer s))) stopped))
                 (readers_caught_up values start was order begin (peer s) (not_going (pick (peer s) 0 1) (after_steps values order was) (subst (λ (x : WorldState Carried). all_over x.crew ≡ true) ended step.over)))
 
-        by_missing : IsMissing start s 0 y was w p → Result
-        by_missing (missing.counts more) = inl (in_round (book_counts start since (steps_of order) s more))
+        by_missing : IsMissing start s number y was w p → Result
+        by_missing (missing.counts more) = inl (in_round (book_counts number start since (steps_of order) s more))
         by_missing (missing.own is) = by_own is
         by_missing (missing.lent other q apart at lent) = by_lent other q at lent
         by_missing (missing.shut shut edge) = by_shut shut edge
@@ -290,11 +297,14 @@ module _ (start : Start) (mild : IsMildStart start) (buffer : 32 ≤ start.buffe
             let tiled = send_is_tiled start v mild.plain.size s in
             let whole = tiled.0 in let up = more_written in
             let found = unacked_at y (written_by s w).marks tiled.1 (omega (arith, whole, up, left)) in
-            by_missing (subst (λ (x : WorldState Carried). all_over x.crew ≡ true → IsPathAt 0 x p → slice_get (written_by s x).marks y ≡ Some found.0 → IsMissing start s 0 y was x p) (sym ended)
-            (λ over here there. what_is_missing_is_awaited start since order mild begin over 0 p here s asks y left found.0 there found.2) step.over step.before.here found.1)
+            by_missing (subst (λ (x : WorldState Carried). all_over x.crew ≡ true → IsPathAt number x p → slice_get (written_by s x).marks y ≡ Some found.0 → IsMissing start s number y was x p) (sym ended)
+            (λ over here there. what_is_missing_is_awaited start since order mild begin over number p here s asks y left found.0 there found.2) step.over step.before.here found.1)
 
       missing_waits : Result
       missing_waits = by_records (λ room none. by_byte room none)
 
+pub each_missing_byte : (number : ℕ) (Holds : PathState Carried → Type 0) (start : Start) → IsMildStart start → HoldsOfSound number Holds start → EachMissingByteIsWaitedForAt number Holds start
+each_missing_byte number Holds start mild sound most since order u again buffer begin step serves s stood may left = missing_waits number Holds start mild sound buffer most since order u begin step serves s may stood left
+
 pub each_missing_byte_is_waited_for : EachMissingByteIsWaitedFor
-each_missing_byte_is_waited_for start most since order u mild buffer begin step serves s stood may left = missing_waits start mild buffer most since order u begin step serves s may stood left
+each_missing_byte_is_waited_for start most since order u mild = each_missing_byte 0 IsOpen start mild (open_sound start mild) most since order u mild

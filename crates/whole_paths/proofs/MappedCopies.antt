@@ -37,14 +37,13 @@ use Rattle.path_agenda.specs.declared.heard.Heard.{Heard}
 use Rattle.path_agenda.specs.declared.heard.Heard.TheVariants as says
 use Rattle.path_agenda.specs.declared.notice.OwnNotice.{OwnNotice}
 use Rattle.path_agenda.specs.declared.notice.OwnNotice.TheVariants as notes
-use Rattle.path_store.specs.declared.infinite_mapping.InfiniteMapping.{InfiniteMapping}
 use Rattle.path_store.specs.declared.lines.LineAction.{LineAction}
 use Rattle.path_store.specs.declared.lines.LineAction.TheVariants as actions
 use Rattle.path_core.specs.Arrival.{copy_heard, heard_in}
 use Rattle.path_core.specs.Choices.{is_side_a}
 use Rattle.path_core.specs.DataFin.{is_data_fin_owed}
 use Rattle.path_core.specs.DssIn.{is_clash}
-use Rattle.path_core.specs.DssOut.{checksum_told, data_fin_mapping, fail_beside, fail_options, fin_options, first_piece_options, infinite_or, is_first_piece, mapped_options, owes_mapping, piece_mapping, plain_options}
+use Rattle.path_core.specs.DssOut.{checksum_told, data_fin_mapping, fail_beside, fail_options, fin_options, first_piece_options, infinite_or, is_first_piece, mapped_options, piece_mapping, plain_options}
 use Rattle.path_core.specs.Duties.{answered}
 use Rattle.path_core.specs.Emission.{first_record, first_unsent}
 use Rattle.path_core.specs.End.{PathEnd}
@@ -97,9 +96,10 @@ use Rattle.whole_paths.proofs.Saying.{ToSend}
 
 -- ---- a segment
 
--- the option maps bytes
+-- the option maps bytes, as an infinite mapping does
 abbrev pub maps_bytes : PlainOption → Bool
 maps_bytes (Dss next (Some (Bytes place position len fin checksum))) = true
+maps_bytes (Dss next (Some (Infinite place position))) = true
 maps_bytes (Capable flag_a flag_c (WithData own other len checksum)) = true
 maps_bytes _ = false
 
@@ -168,25 +168,11 @@ module _ (c : Profile) (s : Side) (e : PathEnd) where
       by false false true = refl
       by false false false = keys_none s e.modes.peer_key
 
-  abbrev own_or : Option InfiniteMapping → Bool → List PlainOption
-  own_or None owes = Dss (Some e.receiving.next) None ∷ []
-  own_or (Some mapping) owes = Dss (Some e.receiving.next) (if owes then Some (Infinite mapping.place mapping.position) else None) ∷ []
-
-  same_own : (own : Option InfiniteMapping) → infinite_or own (Dss (Some e.receiving.next) None ∷ []) e ≡ own_or own (owes_mapping e)
-  same_own None = refl
-  same_own (Some mapping) = refl
-
-  fin_none : (at_position : ℕ) → MapsNone (fin_options at_position e)
-  fin_none at_position = subst (λ (options : List PlainOption). MapsNone (if e.modes.identity then plain_options at_position e else options)) (sym (same_own e.modes.own_infinite))
-      (by e.modes.identity e.modes.own_infinite (owes_mapping e))
-    where
-      by : (plain : Bool) (own : Option InfiniteMapping) (owes : Bool) → MapsNone (if plain then (if owes then Dss None (Some (Infinite (at_position - 1) at_position)) ∷ [] else [])
-          else (own_or own owes))
-      by true own true = refl
-      by true own false = refl
-      by false None owes = refl
-      by false (Some mapping) true = refl
-      by false (Some mapping) false = refl
+  -- by an end that goes by mappings of pieces
+  fin_none : e.modes.identity ≡ false → e.modes.own_infinite ≡ None → (at_position : ℕ) → MapsNone (fin_options at_position e)
+  fin_none mapped finite at_position =
+      ap (λ b. list_any maps_bytes (if b then plain_options at_position e else infinite_or e.modes.own_infinite (Dss (Some e.receiving.next) None ∷ []) e)) mapped
+      ∙ ap (λ o. list_any maps_bytes (infinite_or o (Dss (Some e.receiving.next) None ∷ []) e)) finite
 
   broken_maps_none : (reason : Option ℕ) → MapsNone (if e.modes.identity then [] else broken_options e.treated.failed_mapping reason)
   broken_maps_none reason = by e.modes.identity e.treated.failed_mapping reason
@@ -257,7 +243,7 @@ module _ (c : Profile) (s : Side) (e : PathEnd) (mapped : e.modes.identity ≡ f
       by Syn kind kinds behind = none behind (ap (λ k. list_any maps_bytes (record_options k c s r e)) kind ∙ syn_none c s e)
       by Data kind kinds behind = (elim (is_first_piece s r e) as (λ b. is_first_piece s r e ≡ b → MapsAll s (said r))
           [ true ↦ λ is. first_said r kind told kinds is | false ↦ λ is. piece_said r kind told kinds behind is ]) refl
-      by Fin kind kinds behind = none behind (ap (λ k. list_any maps_bytes (record_options k c s r e)) kind ∙ fin_none c s e r.pos)
+      by Fin kind kinds behind = none behind (ap (λ k. list_any maps_bytes (record_options k c s r e)) kind ∙ fin_none c s e mapped finite r.pos)
 
 -- ---- what a duty sends
 
@@ -307,7 +293,7 @@ heard_none : (s : Side) (o : Option Heard) (p : PathState Carried) → AllMap (h
 heard_none s (Some (says.Mapping fin)) p = elim (is_clash (end_at s p)) as (λ b. AllMap (if b then broken_by s 1 p else None) p) [ true ↦ broken_none s 1 p | false ↦ tt ]
 heard_none s _ p = tt
 
-module _ (p : PathState Carried) (maps : RecordsMap p) where
+module _ (p : PathState Carried) (maps : RecordsMap p) (goes : EndsGoByMappings p) where
   unsent_maps : (s : Side) → MapsAll s (record_or_ack p.profile s (first_unsent (end_at s p)) (end_at s p))
   unsent_maps s = or_ack p.profile s (end_at s p) (first_unsent (end_at s p)) (every_find is_unsent (end_at s p).tcp.send.records (maps s))
 
@@ -330,7 +316,7 @@ module _ (p : PathState Carried) (maps : RecordsMap p) where
   duty_maps (duties.Send (send_duties.Update s)) = none refl (ack_none p.profile s (end_at s p) None)
   duty_maps (duties.Send (send_duties.Acknowledge s)) = none refl (ack_none p.profile s (end_at s p) None)
   duty_maps (duties.Send (send_duties.DataFin s)) = none refl (ack_none p.profile s (end_at s p) (end_at s p).sending.known_end)
-  duty_maps (duties.Send (send_duties.Fin s)) = none refl (fin_none p.profile s (end_at s p) (fin_position (end_at s p).tcp.send))
+  duty_maps (duties.Send (send_duties.Fin s)) = none refl (fin_none p.profile s (end_at s p) (goes s).identity (goes s).own (fin_position (end_at s p).tcp.send))
   duty_maps (duties.Send (send_duties.SynAck s)) = none refl (syn_none p.profile s (end_at s p))
   duty_maps (duties.Send (send_duties.Refuse s)) = none refl refl
   duty_maps (duties.Send (send_duties.ResetAnswer s)) = none refl refl
@@ -391,6 +377,7 @@ event_maps (Some (happenings.Fires s tick)) r p h = h
 -- what is known of a path as it goes on
 record Ready (p : PathState Carried) : Type 0 where
   records : RecordsMap p
+  goes : EndsGoByMappings p
   strips : StripsNothing p.link.lines
   alters : AltersNothing p.link.lines
 
@@ -415,7 +402,7 @@ module _ (d : Duty) (ds : List Duty) (r : Reply) (p : PathState Carried) where
   sent_maps other ready h (Some t) is =
       let hands : Hands values x t = subst (HandsOrTellsNone values x) is (each_segment_is_told values x) in
       let link : q.link ≡ handed values t.from (segment_sent x t) x = sym (settled_lasts LinkStays links_last q.agenda q) ∙ hands.taken r in
-      subst (λ (l : LinkState Carried). Every CopyMaps l.under_way) (sym link) (handed_maps t x ready.strips ready.alters (subst (λ o. AllMap o x) is (duty_maps x ready.records d)) h)
+      subst (λ (l : LinkState Carried). Every CopyMaps l.under_way) (sym link) (handed_maps t x ready.strips ready.alters (subst (λ o. AllMap o x) is (duty_maps x ready.records ready.goes d)) h)
 
 answered_maps : (d : Duty) (ds : List Duty) (r : Reply) (p : PathState Carried) → Ready (with_agenda (d ∷ ds) p) → PathMaps p → PathMaps (answered values d r (with_agenda (d ∷ ds) p))
 answered_maps (duties.Step step_duties.Events) ds r p ready h =
@@ -472,6 +459,7 @@ each_ready start turns mild = record {
     by (App a) goes link shown behind = tt
     by (Path p) goes link shown behind = record {
       records = λ s. record { each = λ i r there. record_maps p.profile s (end_at s p) (goes s).identity (goes s).own r ((shown.tells s).sender.records.each i r there) ((behind s).each i r there) };
+      goes = goes;
       strips = link.strips;
       alters = link.alters;
     }

@@ -31,7 +31,7 @@ pub data MarkStep (call : SendCall) (o q : Option ByteMark) : Type 0 where
   returns : (asker : ℕ) (m : ByteMark) → call ≡ Return asker → o ≡ Some m → q ≡ Some (returned asker m) → MarkStep call o q
 
 -- there is a mark at each place
-some_at : (place : ℕ) (ms : List ByteMark) → place < length ms → (m : ByteMark) × (slice_get ms place ≡ Some m)
+pub some_at : (place : ℕ) (ms : List ByteMark) → place < length ms → (m : ByteMark) × (slice_get ms place ≡ Some m)
 some_at place [] less = absurd (omega (arith, less))
 some_at zero (m ∷ ms) less = (m, refl)
 some_at (suc place) (m ∷ ms) less = some_at place ms (omega (arith, less))

@@ -30,7 +30,7 @@ use Rattle.whole_paths.specs.MissingBytes.{IsMissing as missing}
 use Rattle.whole_paths.specs.Refusals.{IsLeft}
 use Rattle.whole_paths.specs.Refusals.{IsLeft as left_by}
 use Rattle.whole_paths.specs.Unstopped.{NothingIsStopped}
-use Rattle.whole_paths.proofs.BookNews.{AreAsFar, holders_low, is_done, marks_as_far, what_is_given_back_counts}
+use Rattle.whole_paths.proofs.BookNews.{AreAsFar, holders_low, is_done, marks_as_far, spent_rises, what_is_given_back_counts}
 use Rattle.whole_paths.proofs.FirstMissing.{each_missing_byte_is_held}
 use Rattle.whole_paths.proofs.GivenBack.{count_rises, held_apart, marks_are_right, rightly}
 use Rattle.whole_paths.proofs.InTime.{nil_so}
@@ -71,7 +71,7 @@ module _ (start : Start) (since : List Turn) (order : List ℕ) (mild : IsMildSt
       where
         by : IsLeft start s place (steps_since (2 + number) begun w) begun w (end_at s p) → Result
         by (left_by.standby is) = missing.standby is
-        by (left_by.counts more) = missing.counts more
+        by (left_by.taken t) = missing.counts (spent_rises (length start.paths) t.other (written_by s begun).marks (written_by s w).marks far t.low place t.was t.now)
         by (left_by.shut is edge) = missing.shut is edge
 
     -- who held it as the round began gave it back

@@ -88,11 +88,11 @@ use Rattle.whole_paths.proofs.Unmapped.{Stage as stage_is}
 -- ---- what a copy maps
 
 -- the first mapping that it tells names each position of its bytes, and is learned last of what it says
-record Maps (c : Profile) (s : Side) (h : HeardSegment) (pos : ℕ) : Type 0 where
+pub record Maps (joined : Bool) (c : Profile) (s : Side) (h : HeardSegment) (pos : ℕ) : Type 0 where
   mapping : KeptMapping
   held : held_of c s h ≡ mapping ∷ []
   names : (n : ℕ) → pos ≤ n → n < pos + length h.payload → covers n (run_of mapping) ≡ true
-  learns : Learns s (items_of false s h) (heard_and s 0 (length (items_of false s h)) (payload_came s))
+  learns : Learns s (items_of joined s h) (heard_and s 0 (length (items_of joined s h)) (payload_came s))
 
 abbrev LearnsAll : Side → List Heard → Type 0
 LearnsAll s items = Learns s items (heard_and s 0 (length items) (payload_came s))
@@ -107,12 +107,12 @@ piece_learns s next window acks false is = absurd (true≢false (sym is))
 piece_learns s next window true true is = (refl, inr (refl, (refl, inr (refl, (refl, inl (refl, refl))))))
 piece_learns s next window false true is = (refl, inr (refl, (refl, inl (refl, refl))))
 
-piece_maps : (c : Profile) (s : Side) (h : HeardSegment) (y : PlainSegment) → h.payload ≡ y.payload → h.options ≡ map meant_option y.options → IsPiece y → Maps c s h y.position
-piece_maps c s h y payload options x = record {
+pub piece_maps : (joined : Bool) (c : Profile) (s : Side) (h : HeardSegment) (y : PlainSegment) → h.payload ≡ y.payload → h.options ≡ map meant_option y.options → IsPiece y → Maps joined c s h y.position
+piece_maps joined c s h y payload options x = record {
   mapping = kept_of c s x.place y.position (length y.payload) false (checksum_heard x.checksum);
   held = ap (λ (os : List HeardOption). flat_map (held_in c s) os) said ∙ held_one c s x.next x.place y.position (length y.payload) x.checksum x.behind_syn x.low;
   names = λ n from below. run_names n y.position (length y.payload) from (subst (λ (octets : List ℕ). n < y.position + length octets) payload below) (let short = x.short in omega (arith, short));
-  learns = subst (λ (os : List HeardOption). LearnsAll s (flat_map (items_in false s h.window) os)) (sym said)
+  learns = subst (λ (os : List HeardOption). LearnsAll s (flat_map (items_in joined s h.window) os)) (sym said)
       (piece_learns s x.next h.window (nat_lt x.next (2 ^ 62)) (is_mapping x.place y.position (length y.payload)) (fits c s x.next x.place y.position (length y.payload) x.checksum x.behind_syn x.low));
 }
   where
@@ -125,7 +125,7 @@ first_learns own other true true more is = (refl, inr (refl, (refl, inl (refl, r
 first_learns own other false whole more is = absurd (true≢false (sym more))
 first_learns own other true false more is = absurd (true≢false (sym is))
 
-first_maps : (c : Profile) (h : HeardSegment) (y : PlainSegment) → is_joined c ≡ false → h.payload ≡ y.payload → h.options ≡ map meant_option y.options → IsFirstPiece y → Maps c B h y.position
+first_maps : (c : Profile) (h : HeardSegment) (y : PlainSegment) → is_joined c ≡ false → h.payload ≡ y.payload → h.options ≡ map meant_option y.options → IsFirstPiece y → Maps false c B h y.position
 first_maps c h y joined payload options x = record {
   mapping = kept_of c B 0 1 len false (checksum_heard x.checksum);
   held = ap (λ (os : List HeardOption). flat_map (held_in c B) os) said
@@ -172,9 +172,9 @@ ack_living n now s = elim (ack_kind n s.send) as (λ kind. is_dead (after_ack_ki
   | Future ↦ refl
 ]
 
-taken_living : (told : List KeptMapping) (answer : Outgoing) (s : Side) (now pos n : ℕ) (h : HeardSegment) (e : PathEnd) → is_past e.tcp.state ≡ true → is_gone (copy_judged false told answer s now h (means.Taken pos n) e) ≡ false
-taken_living told answer s now pos n h e past =
-    let items : List Heard = items_of false s h in let hint = hint_of items in let m = means.Taken pos n in
+taken_living : (joined : Bool) (told : List KeptMapping) (answer : Outgoing) (s : Side) (now pos n : ℕ) (h : HeardSegment) (e : PathEnd) → is_past e.tcp.state ≡ true → is_gone (copy_judged joined told answer s now h (means.Taken pos n) e) ≡ false
+taken_living joined told answer s now pos n h e past =
+    let items : List Heard = items_of joined s h in let hint = hint_of items in let m = means.Taken pos n in
     let held = with_payload m h.payload e.tcp in let ready = after_established (after_hearing (after_payload pos hint (copy_of h) held)) in
     ap is_dead (owing_state (owes_by m items) (after_taken pos n hint now (copy_of h) held) ∙ heard_state n hint now (copy_of h) ready)
     ∙ ack_living n now ready ∙ handshake_living held.state ∙ ap is_dead (held_state m h.payload e.tcp) ∙ past_living e.tcp.state past
@@ -205,7 +205,7 @@ payload_keeps A = refl
 payload_keeps B = refl
 
 -- none counts at the other end
-other_unmapped : (s : Side) (count : ℕ) → has_unmapped (peer s) (copy_came s count) ≡ false
+pub other_unmapped : (s : Side) (count : ℕ) → has_unmapped (peer s) (copy_came s count) ≡ false
 other_unmapped A count = none_unmapped B A 0 count (payload_came A) refl
 other_unmapped B count = none_unmapped A B 0 count (payload_came B) refl
 
@@ -218,27 +218,27 @@ held_in_payload pos n edge len = by (nat_le pos edge && nat_lt edge (pos + len))
         let same = same_Some edge n is in let parts = and_parts (nat_le pos edge) (nat_lt edge (pos + len)) inside in
         let low = leb-true pos edge parts.0 in let below = ltb-true edge (pos + len) parts.1 in (omega (arith, low, same), omega (arith, below, same))
 
-module _ (c : Profile) (s : Side) (now : ℕ) (answer : Outgoing) (h : HeardSegment) (e : PathEnd) (pos n : ℕ) where
+module _ (joined : Bool) (c : Profile) (s : Side) (now : ℕ) (answer : Outgoing) (h : HeardSegment) (e : PathEnd) (pos n : ℕ) where
   abbrev taken : PathEnd
-  taken = copy_judged false (held_of c s h) answer s now h (means.Taken pos n) e
+  taken = copy_judged joined (held_of c s h) answer s now h (means.Taken pos n) e
 
-  taken_at : is_past e.tcp.state ≡ true → ((at : ℕ) → pos ≤ at → at < pos + length h.payload → Maps c s h pos) → At s (copy_came s (length (items_of false s h))) taken
+  pub taken_at : is_past e.tcp.state ≡ true → ((at : ℕ) → pos ≤ at → at < pos + length h.payload → Maps joined c s h pos) → At s (copy_came s (length (items_of joined s h))) taken
   taken_at past maps = record {
-    native = none_foreign s 0 (length (items_of false s h)) (payload_came s) refl;
-    acks = acks_heard s s 0 (length (items_of false s h)) (payload_came s) (payload_acks s);
+    native = none_foreign s 0 (length (items_of joined s h)) (payload_came s) refl;
+    acks = acks_heard s s 0 (length (items_of joined s h)) (payload_came s) (payload_acks s);
     held = λ at is. let inside = held_in_payload pos at _ (length h.payload) is in let x = maps at inside.0 inside.1 in stage_is.told (record {
       mapping = x.mapping;
       first = ap (λ told. first_of told) x.held;
       names = x.names at inside.0 inside.1;
-      living = taken_living (held_of c s h) answer s now pos n h e past;
+      living = taken_living joined (held_of c s h) answer s now pos n h e past;
       learns = (refl, (refl, (refl, (refl, x.learns))));
-      keeps = keeps_heard s s 0 (length (items_of false s h)) (payload_came s) (payload_keeps s);
+      keeps = keeps_heard s s 0 (length (items_of joined s h)) (payload_came s) (payload_keeps s);
     });
   }
 
 -- ---- a copy
 
-none_at : (t : Side) (es : List Duty) (e : PathEnd) → has_unmapped t es ≡ false → AtIf t es e
+pub none_at : (t : Side) (es : List Duty) (e : PathEnd) → has_unmapped t es ≡ false → AtIf t es e
 none_at t es e none some = absurd (true≢false (sym some ∙ none))
 
 -- what its sender says of it, where it is neither a SYN nor a reset
@@ -277,11 +277,11 @@ module _ (s : Side) (y : PlainSegment) (p : PathState Carried) (first : is_joine
   sender_a A is = cc
   sender_a B is = refl
 
-  maps_so : (pos at : ℕ) → y.position ≡ pos → y.rst ≡ false → y.syn ≡ false → pos ≤ at → at < pos + length y.payload → MapsAll (peer s) y → Maps p.profile s h pos
+  maps_so : (pos at : ℕ) → y.position ≡ pos → y.rst ≡ false → y.syn ≡ false → pos ≤ at → at < pos + length y.payload → MapsAll (peer s) y → Maps false p.profile s h pos
   maps_so pos at is rst syn from below (maps.none empty unmapped) = absurd (let none = ap (λ (octets : List ℕ). length octets) empty in omega (arith, from, below, none))
-  maps_so pos at is rst syn from below (maps.piece x) = subst (Maps p.profile s h) is (piece_maps p.profile s h y refl options x)
+  maps_so pos at is rst syn from below (maps.piece x) = subst (Maps false p.profile s h) is (piece_maps false p.profile s h y refl options x)
   maps_so pos at is rst syn from below (maps.first of_a x) =
-      subst (Maps p.profile s h) is (subst (λ t. Maps p.profile t h y.position) (sym (sender_a s of_a)) (first_maps p.profile h y first refl options x))
+      subst (Maps false p.profile s h) is (subst (λ t. Maps false p.profile t h y.position) (sym (sender_a s of_a)) (first_maps p.profile h y first refl options x))
   maps_so pos at is rst syn from below (maps.bare none) = absurd (bare_never none (some_so (length y.payload) at pos from below) (spoken rst syn))
 
   judged_at : (m : Meaning) → MeansIs (copy_of h) e.tcp m
@@ -289,7 +289,7 @@ module _ (s : Side) (y : PlainSegment) (p : PathState Carried) (first : is_joine
   judged_at (means.Taken pos n) is t = ⊎_elim
       (λ own. subst (λ u. AtIf u (copy_came s count) (end_at u q)) own
       (λ some. subst (λ f. At s (copy_came s count) f) (sym (own_end s f p.a p.b))
-      (taken_at p.profile s p.clock (reset_for p.profile s h) h e pos n is.0
+      (taken_at false p.profile s p.clock (reset_for p.profile s h) h e pos n is.0
       (λ at from below. maps_so pos at (same_Some y.position pos is.1.1.1.0) is.1.1.0 is.1.0 from below maps_all))))
       (λ away. subst (λ u. AtIf u (copy_came s count) (end_at u q)) away (none_at (peer s) (copy_came s count) (end_at (peer s) q) (other_unmapped s count)))
       (sides t s)
@@ -317,7 +317,7 @@ module _ (s : Side) (y : PlainSegment) (p : PathState Carried) (first : is_joine
 
 -- ---- an event
 
-line_at : (action : LineAction) (p : PathState Carried) → AllAt (after_line action p)
+pub line_at : (action : LineAction) (p : PathState Carried) → AllAt (after_line action p)
 line_at actions.Die p t = none_at t _ _ (by (is_dead p.a.tcp.state) (is_dead p.b.tcp.state))
   where
     by : (a b : Bool) → has_unmapped t ((if a then [] else duties.Ask (ask_duties.Leave A) ∷ []) ++ ((if b then [] else duties.Ask (ask_duties.Leave B) ∷ []) ++ rest_of_turn)) ≡ false
@@ -332,7 +332,7 @@ line_at (actions.Withdraw s id) p t = none_at t _ _ refl
 abbrev CopySpeaks : Flight Carried → Type 0
 CopySpeaks f = HasOption (peer f.to) (as_arrived f.carried)
 
-fired_unmapped : (t s : Side) (b : Bool) → has_unmapped t (template_fired b s) ≡ false
+pub fired_unmapped : (t s : Side) (b : Bool) → has_unmapped t (template_fired b s) ≡ false
 fired_unmapped t s true = refl
 fired_unmapped t s false = refl
 
@@ -359,7 +359,7 @@ event_at (Some (happenings.Arrives due)) r p first plain copies spoken t = by (a
         copy_at due.to (as_arrived f.carried) x first (plain due.to) (subst (λ s. MapsAll (peer s) (as_arrived f.carried)) to found.0) (subst (λ s. HasOption (peer s) (as_arrived f.carried)) to said.0) t
 event_at (Some (happenings.Fires s tick)) r p first plain copies spoken t = none_at t _ _ (fired_unmapped t s (is_sixth (end_at s p).tcp))
 
-first_same : (d e : Duty) (ds es : List Duty) → d ∷ ds ≡ e ∷ es → d ≡ e
+pub first_same : (d e : Duty) (ds es : List Duty) → d ∷ ds ≡ e ∷ es → d ≡ e
 first_same d e ds es same = cc
 
 -- each copy under way says so, as events come next
@@ -459,7 +459,7 @@ knows_so p t ds is plain holds keys = record {
 duty_at : (d : Duty) (ds : List Duty) (r : Reply) (p : PathState Carried) → let x = with_agenda (d ∷ ds) p in Known d x → ((s : Side) → (end_at s p).modes.identity ≡ false) → ((s : Side) → Live (end_at s p)) → Every CopyMaps p.link.under_way
     → Holds x → AllAt x → AllAt (answered values d r x)
 duty_at (duties.Step step_duties.Events) ds r p known plain live copies holds h =
-    let x : PathState Carried = with_agenda (duties.Step step_duties.Events ∷ ds) p in event_at (next_event x) r x known.first plain copies (copies_speak ds x refl holds)
+    let x : PathState Carried = with_agenda (duties.Step step_duties.Events ∷ ds) p in event_at (next_event x) r x (known.first refl) plain copies (copies_speak ds x refl holds)
 duty_at (duties.Step (step_duties.PlainAck s)) ds r p known plain live copies holds h = absurd (both_ways _ (no_plain_ack p.profile (end_at s p) (known.acked refl s)) known.stood)
 duty_at (duties.Step (step_duties.Unmapped s)) ds r p known plain live copies holds h = absurd (known.mapped s refl)
 duty_at (duties.Silent d) ds r p known plain live copies holds h = absurd (true≢false (sym known.stood))

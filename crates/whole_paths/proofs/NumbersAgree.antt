@@ -39,15 +39,15 @@ module _ (start : Start) (plan : PathPlan) (s : Side) (one : BeginsWithOnePath s
     e = end_at s h.path
 
     some : 0 < e.tcp.send.una
-    some = let begun = of_path start plan one turns h.path EndsAreBegun h.here ((each_is_begun values start turns).each 2 h.here.crew h.here.there) in
+    some = let begun = of_path start one.mild turns h.path EndsAreBegun h.here ((each_is_begun values start turns).each 2 h.here.crew h.here.there) in
         let least = (begun s).past (h.is_open.past s) (living_low e.tcp.state (h.is_open.living s)) in omega (arith, least)
 
     pub below : IsAllThere s (reached values start turns) ⊎ (e.sending.heard < e.tcp.send.una)
     below = ⊎_elim (λ all. inl all) (λ low. inr (let least = some in omega (arith, low, least))) (heard_lies_below start plan turns one h.path h.here h.is_open.living s)
 
     pub level : h.path.agenda ≡ [] → IsAllThere s (reached values start turns) ⊎ (e.tcp.send.una ≤ suc e.sending.heard)
-    level over = if_may start plan one (IsAllThere s (reached values start turns) ⊎ (e.tcp.send.una ≤ suc e.sending.heard)) turns h.path h.here h.is_open s (λ all. inl all)
-        (λ may. inr (positions_are_acked_as_bytes start plan turns one h.path h.here over h.is_open.living s (unfinished start plan one turns h.path h.here s may)).heard)
+    level over = if_may start one.mild (IsAllThere s (reached values start turns) ⊎ (e.tcp.send.una ≤ suc e.sending.heard)) turns h.path h.here h.is_open s (λ all. inl all)
+        (λ may. inr (positions_are_acked_as_bytes start plan turns one h.path h.here over h.is_open.living s (unfinished start one.mild turns h.path h.here s may)).heard)
 
   pub agree : ArePassedWhole start s → NumbersAgree start s
   agree whole = record { below = below; level = level; whole = whole }

@@ -170,7 +170,7 @@ same_written b c e knows agrees closed sent = by e.sending.known_end (knows.ende
     by None some ends = absurd (true≢false (sym some))
     by (Some n) some ends = ap (λ (bytes : List ℕ). length bytes) (closed ends.0)
 
-module _ (six later : SixBooks) (steps : List Note) (p q : PathState Carried) (turn : IsTurn six later p q) (hardly : HardlyGoesAwry steps (Path p) (Path q)) (open_p : IsOpen p) (open_q : IsOpen q)
+module _ (six later : SixBooks) (steps : List Note) (p q : PathState Carried) (turn : IsTurn six later p q) (hardly : HardlyGoesAwry IsOpen steps (Path p) (Path q)) (open_p : IsOpen p) (open_q : IsOpen q)
     (s : Side) (place : ℕ) (fin : Bool) (by : ℕ) where
   abbrev Goes : Type 0
   Goes = AskGoesOn s place fin by (length (send_of s later).written) p q
@@ -192,7 +192,7 @@ module _ (six later : SixBooks) (steps : List Note) (p q : PathState Carried) (t
 -- both ends of the path, as an actor, before the turn and after it
 record IsTurnOf (w : WorldState Carried) (later : SixBooks) (lines : List ScriptLine) (steps : List Note) (m n : Actor Carried) : Type 0 where
   go : InquiriesGoOn w.books steps m n
-  hardly : HardlyGoesAwry steps m n
+  hardly : HardlyGoesAwry IsOpen steps m n
   kept : EndsKeepWhatWaits m n
   far : IsActorAsFar m n
   link : OfPaths (LinkIsMild lines) m
@@ -285,7 +285,7 @@ member_waits w (Path p) knows agrees alone = λ opened s none out. waits_so (is_
 
 -- ---- in time
 
-module _ (p : PathState Carried) (n : ℕ) (late : ComesFrom n p) (answered_all : HasAnswered p) (six : SixBooks) (opened : IsOpen p) (done : p.agenda ≡ []) where
+module _ (p : PathState Carried) (n : ℕ) (late : ComesFrom n p) (answered_all : HasAnswered p) (six : SixBooks) (living : (s : Side) → is_dead (end_at s p).tcp.state ≡ false) (done : p.agenda ≡ []) where
   timer_late : (s : Side) (tick : ℕ) → (end_at s p).tcp.timing.timer ≡ Some tick → n ≤ tick
   timer_late A tick runs = subst (λ o. IfSome o (λ t. n ≤ t)) runs late.timer_a
   timer_late B tick runs = subst (λ o. IfSome o (λ t. n ≤ t)) runs late.timer_b
@@ -309,13 +309,13 @@ module _ (p : PathState Carried) (n : ℕ) (late : ComesFrom n p) (answered_all 
   is_due s place fin by less (asks arrival soon (ways.waits tick low runs none) so) still = let from = timer_late s tick runs.timer in omega (arith, from, low, soon, less)
   is_due s place fin by less (asks arrival soon (ways.resends low is none) so) still = none_sends s is
   is_due s place fin by less (asks arrival soon (ways.flies f low there h) so) still = let from = flight_late f there in omega (arith, from, low, soon, less)
-  is_due s place fin by less (answered high (owes low stage_high came due) so) still = both_ways (end_at (peer s) p).tcp.due.ack (answered_all (over done) (peer s) (opened.living (peer s))).ack due
+  is_due s place fin by less (answered high (owes low stage_high came due) so) still = both_ways (end_at (peer s) p).tcp.due.ack (answered_all (over done) (peer s) (living (peer s))).ack due
   is_due s place fin by less (answered high (flies f low there h) so) still = let from = flight_late f there in omega (arith, from, low, less)
   is_due s place fin by less (heard next enough h) still = not_heard s place next fin enough h still
 
 due_so : (six : SixBooks) (m : Actor Carried) → OfPaths (λ p. p.agenda ≡ [] → ComesFrom p.until p) m → OfPaths HasAnswered m → OfPaths (AskIsDue six) m
 due_so six (App a) late answered_all = tt
-due_so six (Path p) late answered_all = λ opened done s place fin by less h still. is_due p p.until (late done) answered_all six opened done s place fin by less h still
+due_so six (Path p) late answered_all = λ living done s place fin by less h still. is_due p p.until (late done) answered_all six living done s place fin by less h still
 
 pub open_asks_are_in_time : IsPromisedMildly values (λ start w. OpenAsksAreInTime w)
 open_asks_are_in_time start turns mild =

@@ -85,10 +85,10 @@ module _ (start : Start) (plan : PathPlan) (one : BeginsWithOnePath start plan) 
     alive = alive_before before.0 h.now.path (becomes_far before.0 h.now.path becomes) (record { living = h.now.is_open.living })
 
     first : IsFirstPath start before.0
-    first = of_path start plan one turns before.0 (IsFirstPath start) before.1 (each_first start turns one.mild.plain.size before.1.crew before.1.there)
+    first = of_path start one.mild turns before.0 (IsFirstPath start) before.1 (each_first start turns one.mild.plain.size before.1.crew before.1.there)
 
     link : LinkIsMild start.lines before.0
-    link = of_path start plan one turns before.0 (LinkIsMild start.lines) before.1 ((links_are_mild values start turns one.mild).each 2 before.1.crew before.1.there)
+    link = of_path start one.mild turns before.0 (LinkIsMild start.lines) before.1 ((links_are_mild values start turns one.mild).each 2 before.1.crew before.1.there)
 
     unclear : before.0.b.modes.clear ≡ false
     unclear = by before.0.b.modes.clear refl
@@ -111,7 +111,7 @@ module _ (start : Start) (plan : PathPlan) (one : BeginsWithOnePath start plan) 
         }))
           where
             past_b : 3 ≤ stage before.0.b.tcp.state
-            past_b = (of_path start plan one turns before.0 IsPastIfClear before.1 (clear_ends_are_past values start turns 2 before.1.crew before.1.there)) first.first B clear
+            past_b = (of_path start one.mild turns before.0 IsPastIfClear before.1 (clear_ends_are_past values start turns 2 before.1.crew before.1.there)) first.first B clear
 
             met : (3 ≤ stage before.0.a.tcp.state) × (is_some before.0.a.modes.peer_key ≡ true)
             met = a_has_the_key_first start turns one.mild before.0 before.1 alive clear

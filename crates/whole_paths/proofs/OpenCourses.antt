@@ -91,7 +91,7 @@ next_later p = record {
   fewer = subst (λ (l : LinkState Carried). few_links p.link l) (sym (begins_lasts LinkStays links_last (record p { clock = p.until; until = p.until + 100 }))) (λ s few. few);
 }
 
-abbrev ActorLater : Actor Carried → Actor Carried → Type 0
+abbrev pub ActorLater : Actor Carried → Actor Carried → Type 0
 ActorLater (Path p) (Path q) = Later p q
 ActorLater (App a) (App b) = Unit {0}
 ActorLater _ _ = ⊥
@@ -116,7 +116,7 @@ then_later (Path p) (App b) o x y = absurd x
 then_later (App a) (App b) (Path r) x y = absurd y
 then_later (Path p) (Path q) (App c) x y = absurd y
 
-each_later : (turns : List Turn) (w : WorldState Carried) (actor : ℕ) (c : ActorCrew Carried) → slice_get w.crew actor ≡ Some c
+pub each_later : (turns : List Turn) (w : WorldState Carried) (actor : ℕ) (c : ActorCrew Carried) → slice_get w.crew actor ≡ Some c
     → (d : ActorCrew Carried) × (slice_get (world_run values turns w).crew actor ≡ Some d) × ActorLater c.member d.member
 each_later turns w actor c there = turns_each values (λ c d. ActorLater c.member d.member) (λ c. stays_later c.member) (λ ask books c. member_takes_later (answer_to books ask) c.member)
     (λ stamp c over. member_next_later c.member) (λ c d e x y. then_later c.member d.member e.member x y) turns w actor c there

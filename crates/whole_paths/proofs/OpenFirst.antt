@@ -34,6 +34,7 @@ use Rattle.whole_paths.proofs.Mild.{links_are_mild}
 use Rattle.whole_paths.proofs.OpenCourses.{IsFirstPath, each_first}
 use Rattle.whole_paths.proofs.OpenTurns.{begun_now}
 use Rattle.whole_paths.proofs.RecordWaits.{path_is}
+use Rattle.whole_paths.proofs.WindowRoom.{one_path_is_roomy}
 
 -- ---- what can be told
 
@@ -150,11 +151,11 @@ module _ (start : Start) (plan : PathPlan) (most : ℕ) (one : BeginsWithOnePath
 
 pub few_as_it_opens_are_few : FewAsItOpensAreFew
 few_as_it_opens_are_few start plan most s one opens turns now = known_always start plan most one (harmed_so_far values start) (OwesAlong start s)
-    (λ turns turn debts begun owes. owes_next start plan most s one turns turn debts begun owes) opens turns (begun_now start turns one.mild now)
+    (λ turns turn debts begun owes. owes_next start plan most s (one_path_is_roomy start plan one) turns turn debts begun owes) opens turns (begun_now start turns one.mild now)
 
 -- along a direction by any count
 pub few_along : (start : Start) (plan : PathPlan) (most : ℕ) (s : Side) → BeginsWithOnePath start plan → (count : List Turn → ℕ) → CountsAsMuch start (harmed_so_far values start) count
     → ((turns : List Turn) → HasJustOpened start turns → OwesAtMostBy start plan most count (OwesAlong start s) turns) → FewAreOwedBy start plan most count (OwesAlong start s)
 few_along start plan most s one count harms opens turns now = known_always start plan most one count (OwesAlong start s)
-    (λ ts turn debts begun owes. owes_so start plan most (harmed_so_far values start) count (OwesAlong start s) debts ts (ts ++ turn ∷ []) (harms.rises ts turn begun) (owes_next start plan most s one ts turn debts begun owes))
+    (λ ts turn debts begun owes. owes_so start plan most (harmed_so_far values start) count (OwesAlong start s) debts ts (ts ++ turn ∷ []) (harms.rises ts turn begun) (owes_next start plan most s (one_path_is_roomy start plan one) ts turn debts begun owes))
     opens turns (begun_now start turns one.mild now)

@@ -45,13 +45,13 @@ living_low _ living = omega arith
 module _ (start : Start) (plan : PathPlan) (turns : List Turn) (one : BeginsWithOnePath start plan) (q : PathState Carried) (here : IsPathAt 0 (reached values start turns) q)
     (opened : IsOpenFrom B q) where
   acked : (s : Side) → 1 ≤ (end_at s q).tcp.send.una
-  acked s = (of_path start plan one turns q EndsAreBegun here ((each_is_begun values start turns).each 2 here.crew here.there) s).past (opened.past s) (living_low (end_at s q).tcp.state (opened.living s))
+  acked s = (of_path start one.mild turns q EndsAreBegun here ((each_is_begun values start turns).each 2 here.crew here.there) s).past (opened.past s) (living_low (end_at s q).tcp.state (opened.living s))
 
   came : HasCome q
-  came = of_path start plan one turns q HasCome here ((what_is_acknowledged_came start turns).each 2 here.crew here.there)
+  came = of_path start one.mild turns q HasCome here ((what_is_acknowledged_came start turns).each 2 here.crew here.there)
 
   first : IsFirstPath start q
-  first = of_path start plan one turns q (IsFirstPath start) here (each_first start turns one.mild.plain.size here.crew here.there)
+  first = of_path start one.mild turns q (IsFirstPath start) here (each_first start turns one.mild.plain.size here.crew here.there)
 
   -- where nothing came to the peer behind the side's SYN
   told : (s : Side) → (end_at (peer s) q).tcp.recv.edge ≤ 1 → IsToldBut s [] q
@@ -71,16 +71,16 @@ module _ (start : Start) (plan : PathPlan) (turns : List Turn) (one : BeginsWith
 
   module _ (quiet : Quiet q.b) where
     syns : Every IsSyn q.b.tcp.send.records
-    syns = syns_alone B q (of_path start plan one turns q Shown here (each_shown start turns one.mild.plain.size one.mild.fit 2 here.crew here.there))
-        (of_path start plan one turns q EndBehind here (each_behind start turns one.mild.plain.size 2 here.crew here.there))
-        (of_path start plan one turns q EndsAreReached here ((each_is_reached values start turns).each 2 here.crew here.there)) (first.kinds B) quiet
+    syns = syns_alone B q (of_path start one.mild turns q Shown here (each_shown start turns one.mild.plain.size one.mild.fit 2 here.crew here.there))
+        (of_path start one.mild turns q EndBehind here (each_behind start turns one.mild.plain.size 2 here.crew here.there))
+        (of_path start one.mild turns q EndsAreReached here ((each_is_reached values start turns).each 2 here.crew here.there)) (first.kinds B) quiet
 
     well : AreWellBut B [] q
     well r is_one = inl (well_by.other (λ data_is. (let is : r.kind ≡ kinds.Syn = subst IsSyn is_one.holds (syns.each is_one.at is_one.item is_one.there) in let apart : kinds.Syn ≡ kinds.Data = sym is ∙ data_is in cc)))
 
     -- nothing came to A behind B's SYN
     edge_low : q.a.tcp.recv.edge ≤ 1
-    edge_low = let sent = of_path start plan one turns q WasSent here ((what_came_was_sent start turns one.mild.plain.size).each 2 here.crew here.there) A in let few = quiet.0 in omega (arith, sent, few)
+    edge_low = let sent = of_path start one.mild turns q WasSent here ((what_came_was_sent start turns one.mild.plain.size).each 2 here.crew here.there) A in let few = quiet.0 in omega (arith, sent, few)
 
     pub owes_none : Owing B 0 q (reached values start turns)
     owes_none = owing.these [] [] (record { well = well; told = told B edge_low }) (omega arith)
@@ -89,8 +89,8 @@ module _ (start : Start) (plan : PathPlan) (turns : List Turn) (one : BeginsWith
 
   module _ (low : q.b.tcp.fin_at ≡ None → q.b.tcp.recv.edge ≤ 1) (lost : List ℕ) (well : AreWellBut A lost q) where
     pub owes_records : Owing A (length lost) q (reached values start turns)
-    owes_records = if_may_so start plan one (Owing A (length lost) q (reached values start turns)) turns q here A (opened.past A) (opened.living A) (λ all. owing.all_there all)
-        (λ may. owing.these lost [] (record { well = well; told = told A (low (first.fins A (unfinished start plan one turns q here A may))) }) (omega arith))
+    owes_records = if_may_so start one.mild (Owing A (length lost) q (reached values start turns)) turns q here A (opened.past A) (opened.living A) (λ all. owing.all_there all)
+        (λ may. owing.these lost [] (record { well = well; told = told A (low (first.fins A (unfinished start one.mild turns q here A may))) }) (omega arith))
 
 pub b_owes_none_first : BOwesNoneFirst
 b_owes_none_first start plan turns turn one p here unclear now = record {

@@ -370,7 +370,7 @@ module _ (start : Start) (mild : IsMildStart start) where
       never : (before : IsNow IsAlive (reached values start v)) (now : IsNow IsAlive (after_turn values Turn.Round (reached values start v)))
           → opened_or_harmed start v < opened_or_harmed start (v ++ Turn.Round ∷ []) → ⊥
       never before now more =
-          let same = no_round_counts start v step.over in
+          let same = no_round_counts start 0 v step.over in
           let was = steps_is (reached values start v) before.path before.here in let is = steps_is (reached values start (v ++ Turn.Round ∷ [])) now.path (there v Turn.Round before now) in
           let harms = harmed_append values 0 v (Turn.Round ∷ []) (opened_world start) in
           let up : news start (reached values start v) ≤ news start (reached values start (v ++ Turn.Round ∷ [])) = subst (λ (w : WorldState Carried). news start (reached values start v) ≤ news start w)

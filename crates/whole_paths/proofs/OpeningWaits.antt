@@ -159,7 +159,7 @@ module _ (start : Start) (most : ℕ) (mild : IsMildStart start) where
     none_late x h late = ⊎_elim (λ rises. inl rises)
         (λ rest. ⊎_elim (λ done. inr done)
         (λ waits. absurd (late_so waits.by waits.path waits.here
-        (let clock = clock_is start most mild IsAlive (λ s. ⊥) (λ v p here h s no. absurd no) v u step waits.path waits.here in let soon = waits.soon in omega (arith, late, clock, soon)) waits.waits)) rest)
+        (let clock = clock_is 0 start most mild IsAlive (λ s. ⊥) (λ v p here h s no. absurd no) v u step waits.path waits.here in let soon = waits.soon in omega (arith, late, clock, soon)) waits.waits)) rest)
         (opens_on x v u step h)
 
     module _ (h : OpensStill start v) where

@@ -104,7 +104,7 @@ use Rattle.whole_paths.proofs.SentSoon.{what_is_sent_comes_soon}
 use Rattle.whole_paths.proofs.ShutEnds.{shut_until_granted}
 use Rattle.whole_paths.proofs.Timing.{timers_run_out}
 use Rattle.whole_paths.proofs.Waiting.{no_timer_is_put_off}
-use Rattle.whole_paths.proofs.WindowRoom.{each_window_has_room}
+use Rattle.whole_paths.proofs.WindowRoom.{each_window_has_room, one_path_is_roomy}
 
 -- ---- what is known of an end
 
@@ -172,13 +172,13 @@ module _ (start : Start) (plan : PathPlan) (one : BeginsWithOnePath start plan) 
   frames = with_both start turns turn h FramesStay (frames_stay values w turn 2 crew there)
 
   clock_up : p.clock ≤ q.clock
-  clock_up = clock start plan one turns turn begun_turn s
+  clock_up = clock start (one_path_is_roomy start plan one) turns turn begun_turn s
 
   una_later : e.tcp.send.una ≤ (end_at s q).tcp.send.una
-  una_later = una_up start plan one turns turn begun_turn s s
+  una_later = una_up start (one_path_is_roomy start plan one) turns turn begun_turn s s
 
   edge_later : (end_at t p).tcp.recv.edge ≤ (end_at t q).tcp.recv.edge
-  edge_later = edge_up start plan one turns turn begun_turn s t
+  edge_later = edge_up start (one_path_is_roomy start plan one) turns turn begun_turn s t
 
   heard_later : e.sending.heard ≤ (end_at s q).sending.heard
   heard_later = (with_both start turns turn h EndsKeepWhatWaits (what_waits_is_kept values w (turn ∷ []) 2 crew there) s).heard
@@ -211,19 +211,19 @@ module _ (start : Start) (plan : PathPlan) (one : BeginsWithOnePath start plan) 
 
     -- so the end has no record still
     still_none : (IsShutAt s q → Goes) → Goes
-    still_none then_so = if_may start plan one Goes later q h.after.here h.after.is_open s (λ all. on.all_there all) (λ may. by (end_at s q).tcp.send.records refl may)
+    still_none then_so = if_may start one.mild Goes later q h.after.here h.after.is_open s (λ all. on.all_there all) (λ may. by (end_at s q).tcp.send.records refl may)
       where
         of_shut : (end_at s q).tcp.send.records ≡ [] → may_finish (end_at s q).tcp.state ≡ true → Goes
         of_shut none may = ⊎_elim
             (λ shut. then_so (record { none = none; shut = shut }))
             (λ more. absurd (omega (arith, more, same)))
-            (shut_until_granted start plan turns turn one.one one.mild p q h.before.here h.after.here s is.shut (unfinished start plan one later q h.after.here s may))
+            (shut_until_granted start plan turns turn one.one one.mild p q h.before.here h.after.here s is.shut (unfinished start one.mild later q h.after.here s may))
 
         by : (records : List Record) → (end_at s q).tcp.send.records ≡ records → may_finish (end_at s q).tcp.state ≡ true → Goes
         by [] none may = of_shut none may
         by (r ∷ others) records may =
             let data_left = of_after start turns turn h HasDataLeft (what_is_left_is_data start later h.mild.plain.size h.mild.fit h.after.here.crew h.after.here.there) s (h.after.is_open.past s) (h.after.is_open.living s)
-            (inl (unfinished start plan one later q h.after.here s may)) r others records in
+            (inl (unfinished start one.mild later q h.after.here s may)) r others records in
             let all = none_left e.tcp (lined s) is.none in let below = data_left.left in let within = data_left.within in let up = una_later in
             absurd (omega (arith, all, below, within, up, same))
 
@@ -513,7 +513,7 @@ module _ (start : Start) (plan : PathPlan) (one : BeginsWithOnePath start plan) 
   later_on x (stage.fins position by_then late bound alone c) = let low = late_copy c.copy c.there in let soon = c.soon in stage.fins position by_then late (omega (arith, low, soon, late)) alone c
 
   begins_so : IsShutAt s z → IsAllThere s (reached values start turns) ⊎ ProbeGoesBy s (ends + 61200) ends z
-  begins_so is = if_may start plan one (IsAllThere s (reached values start turns) ⊎ ProbeGoesBy s (ends + 61200) ends z) turns z h.here h.is_open s (λ all. inl all) (λ may. inr (by may own.tcp.timing.timer refl
+  begins_so is = if_may start one.mild (IsAllThere s (reached values start turns) ⊎ ProbeGoesBy s (ends + 61200) ends z) turns z h.here h.is_open s (λ all. inl all) (λ may. inr (by may own.tcp.timing.timer refl
       (of_path IsTimedWhereItWaits ((who_waits_has_a_timer values start turns).each 2 h.here.crew h.here.there) nothing_to_do s living (IsOutstanding.shut is.shut))))
     where
       living : is_closed_to_segments own.tcp.state ≡ false
@@ -522,7 +522,7 @@ module _ (start : Start) (plan : PathPlan) (one : BeginsWithOnePath start plan) 
       by : may_finish own.tcp.state ≡ true → (o : Option ℕ) → own.tcp.timing.timer ≡ o → IsSome o → ProbeGoesBy s (ends + 61200) ends z
       by may None runs some = absurd (true≢false (sym some))
       by may (Some tick) runs some = stage.waits is
-          (positions_are_acked_as_bytes start plan turns one z h.here nothing_to_do h.is_open.living s (unfinished start plan one turns z h.here s may)).heard
+          (positions_are_acked_as_bytes start plan turns one z h.here nothing_to_do h.is_open.living s (unfinished start one.mild turns z h.here s may)).heard
           tick
           (record { timer = runs; settled = of_path IsSettledAtTheEnd (((no_timer_is_put_off values).settled start turns).each 2 h.here.crew h.here.there) nothing_to_do s (h.is_open.living s); living = living })
           (let near = (is_near tick s runs).0 in let low = early start turns z h.here in omega (arith, near, low))

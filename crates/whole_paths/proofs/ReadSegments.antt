@@ -55,7 +55,7 @@ module _ (start : Start) (plan : PathPlan) (x : BeginsWithOnePath start plan) (s
   there_are turns = min (written_after start s turns) (written_by s (at turns)).edge
 
   profile : (turns : List Turn) (p : PathState Carried) → IsPathAt 0 (at turns) p → p.profile.mss ≡ plan.mss
-  profile turns p here = ap (λ (c : Profile). c.mss) (of_path start plan x turns p (λ z. z.profile ≡ (path_begins start 0 plan).profile) here (only_profile start plan turns x.one x.mild 2 here.crew here.there))
+  profile turns p here = ap (λ (c : Profile). c.mss) (of_path start x.mild turns p (λ z. z.profile ≡ (path_begins start 0 plan).profile) here (only_profile start plan turns x.one x.mild 2 here.crew here.there))
 
   pub open_at : (v u : List Turn) → Between start v u → (p : PathState Carried) → IsPathAt 0 (at u) p → IsOpen p
   open_at v u b p here = let o = path_there start v u b in subst IsOpen (path_is (at u) o.path p o.here here) o.is_open
@@ -72,13 +72,13 @@ module _ (start : Start) (plan : PathPlan) (x : BeginsWithOnePath start plan) (s
     is_known = known start plan turns x.one x.mild here.crew here.there p here.is s is_open (silent start turns p over here) may
 
     pub is_reached : EndsAreReached p
-    is_reached = of_path start plan x turns p EndsAreReached here ((each_is_reached values start turns).each 2 here.crew here.there)
+    is_reached = of_path start x.mild turns p EndsAreReached here ((each_is_reached values start turns).each 2 here.crew here.there)
 
     sized : Every (λ (r : Record). length r.piece ≤ occupied r.kind r.piece) (end_at s p).tcp.send.records
     sized = record { each = λ i r there. by r i there r.kind refl }
       where
         first : IsFirstPath start p
-        first = of_path start plan x turns p (IsFirstPath start) here (each_first start turns x.mild.plain.size here.crew here.there)
+        first = of_path start x.mild turns p (IsFirstPath start) here (each_first start turns x.mild.plain.size here.crew here.there)
 
         by : (r : Record) (i : ℕ) → slice_get (end_at s p).tcp.send.records i ≡ Some r → (k : RecordKind) → r.kind ≡ k → length r.piece ≤ occupied r.kind r.piece
         by r i there Data is = let same = ap (λ k. occupied k r.piece) is in omega (arith, same)
@@ -99,9 +99,9 @@ module _ (start : Start) (plan : PathPlan) (x : BeginsWithOnePath start plan) (s
     -- what is granted there ends past the goal
     granted : (turns : List Turn) (turn : Turn) (before : IsOpenAfter start turns) (after : IsOpenAfter start (turns ++ turn ∷ [])) → goal ≤ there_are turns
         → (end_at s before.path).tcp.send.nxt ≡ from → GoesNext from goal (at (turns ++ turn ∷ [])) after.path
-    granted turns turn before after enough is = if_may start plan x (GoesNext from goal (at (turns ++ turn ∷ [])) q) (turns ++ turn ∷ []) q after.here after.is_open s (λ all. GoesNext.all_there all) (λ may.
+    granted turns turn before after enough is = if_may start x.mild (GoesNext from goal (at (turns ++ turn ∷ [])) q) (turns ++ turn ∷ []) q after.here after.is_open s (λ all. GoesNext.all_there all) (λ may.
         ⊎_elim (λ same. GoesNext.ungranted (same ∙ is)) full
-        (each_grant_is_full start plan turns turn x.one x.mild before.path q before.here after.here s (unfinished start plan x (turns ++ turn ∷ []) q after.here s may)))
+        (each_grant_is_full start plan turns turn x.one x.mild before.path q before.here after.here s (unfinished start x.mild (turns ++ turn ∷ []) q after.here s may)))
       where
         q : PathState Carried
         q = after.path
@@ -117,13 +117,13 @@ module _ (start : Start) (plan : PathPlan) (x : BeginsWithOnePath start plan) (s
         → GoesNext from goal (at turns) before.path → GoesNext from goal (at (turns ++ turn ∷ [])) after.path
     next_on turns turn before after enough (GoesNext.ungranted is) = granted turns turn before after enough is
     next_on turns turn before after enough (GoesNext.stands has) =
-        let waits = kept start plan x turns turn before after s in
+        let waits = kept start x.mild turns turn before after s in
         ⊎_elim
         (λ gone. GoesNext.acked (let end = gone.1 in let past = has.holds.1 in omega (arith, end, past)))
         (λ on. GoesNext.stands (record { at = on.at; item = on.item; there = on.there; holds = (on.holds.pos ∙ has.holds.0, let end = same_end has.item on.item on.holds in let past = has.holds.1 in omega (arith, end, past)) }))
         (kept_one _ (end_at s before.path).tcp.send.records (end_at s after.path).tcp.send.records waits.records has.at has.item has.there)
-    next_on turns turn before after enough (GoesNext.acked past) = GoesNext.acked (let up = (kept start plan x turns turn before after s).una in omega (arith, past, up))
-    next_on turns turn before after enough (GoesNext.all_there all) = GoesNext.all_there (stays_there start plan x turns (turns ++ turn ∷ []) s (record { more = turn ∷ []; is = refl; stays_open = (before, after) }) all)
+    next_on turns turn before after enough (GoesNext.acked past) = GoesNext.acked (let up = (kept start x.mild turns turn before after s).una in omega (arith, past, up))
+    next_on turns turn before after enough (GoesNext.all_there all) = GoesNext.all_there (stays_there start x.mild turns (turns ++ turn ∷ []) s (record { more = turn ∷ []; is = refl; stays_open = (before, after) }) all)
 
     next_later : (turns more : List Turn) → StaysOpen start turns more → goal ≤ there_are turns → (p q : PathState Carried) → IsPathAt 0 (at turns) p → IsPathAt 0 (at (turns ++ more)) q
         → GoesNext from goal (at turns) p → GoesNext from goal (at (turns ++ more)) q
@@ -196,25 +196,25 @@ module _ (start : Start) (plan : PathPlan) (x : BeginsWithOnePath start plan) (s
     Goal = goal ≤ read_after start s u
 
     read_last : received (arrived_at (peer s) (at came_at)) ≤ read_after start s u
-    read_last = read start plan x came_at u fifth.1.1 s
+    read_last = read start x.mild came_at u fifth.1.1 s
 
     -- where all is there it is read
     whole : IsAllThere s (at came_at) → Goal
     whole all = let most = there_whole start came_at s all in let out = read_last in omega (arith, most, out)
 
     whole_from : (t : List Turn) → Between start t came_at → IsAllThere s (at t) → Goal
-    whole_from t more all = whole (stays_there start plan x t came_at s more all)
+    whole_from t more all = whole (stays_there start x.mild t came_at s more all)
 
     -- what came past the goal is read
     passed : goal < (end_at (peer s) came_path.path).tcp.recv.edge → Goal
-    passed more = if_may start plan x Goal came_at came_path.path came_path.here came_path.is_open s whole (λ may.
-        (let exact = (counts start plan x came_at came_path.path came_path.here s).exact (unfinished start plan x came_at came_path.path came_path.here s may) in
+    passed more = if_may start x.mild Goal came_at came_path.path came_path.here came_path.is_open s whole (λ may.
+        (let exact = (counts start plan x came_at came_path.path came_path.here s).exact (unfinished start x.mild came_at came_path.path came_path.here s may) in
         let out = read_last in omega (arith, exact, out, more)))
 
     -- all of it is written, and lies before the edge
     enough : goal ≤ there_are b
     enough =
-        let wrote_so = wrote start plan x a b writes s in
+        let wrote_so = wrote start x.mild a b writes s in
         let acked = heard.acked in
         let window = heard.window in
         let edge = ((far start a b (one_between start a b writes)).sides s).send.edge in
@@ -222,12 +222,12 @@ module _ (start : Start) (plan : PathPlan) (x : BeginsWithOnePath start plan) (s
 
     -- where it is sent, or acknowledged
     sent : goal < sent_up_to (end_at s q).tcp.send → Goal
-    sent more = ⊎_elim whole (λ low. passed (omega (arith, more, low))) (bring start plan x d came_at fifth.1.0 s q came_path.path well_d.here came_path.here well_d.records)
+    sent more = ⊎_elim whole (λ low. passed (omega (arith, more, low))) (bring start x.mild d came_at fifth.1.0 s q came_path.path well_d.here came_path.here well_d.records)
 
     acknowledged : goal < (end_at s q).tcp.send.una → Goal
     acknowledged more =
-        let up = una_up start plan x s q came_path.path (path_far start plan x d came_at q came_path.path to_came well_d.here came_path.here) in
-        let low = came start plan x came_at came_path.path came_path.here s (came_path.is_open.living s) in passed (omega (arith, more, up, low))
+        let up = una_up start x.mild s q came_path.path (path_far start x.mild d came_at q came_path.path to_came well_d.here came_path.here) in
+        let low = came start x.mild came_at came_path.path came_path.here s (came_path.is_open.living s) in passed (omega (arith, more, up, low))
 
     -- ---- after fifteen rounds
 
@@ -285,7 +285,7 @@ module _ (start : Start) (plan : PathPlan) (x : BeginsWithOnePath start plan) (s
       past : read_after start s v < (end_at s p).tcp.send.una
       past =
           let came_so = (counts start plan x v well_v.path well_v.here s).came in
-          let up = una_up start plan x s told_path.path p (path_far start plan x told_at b told_path.path p told_to_b told_path.here well_b.here) in omega (arith, told, came_so, up)
+          let up = una_up start x.mild s told_path.path p (path_far start x.mild told_at b told_path.path p told_to_b told_path.here well_b.here) in omega (arith, told, came_so, up)
 
       over_b : all_over (at b).crew ≡ true
       over_b = writes.over
@@ -311,14 +311,14 @@ module _ (start : Start) (plan : PathPlan) (x : BeginsWithOnePath start plan) (s
           (next_later from goal near b b_to_d.more b_to_d.stays_open enough p q well_b.here (subst (λ t. IsPathAt 0 (at t) q) b_to_d.is well_d.here) begins)
 
       is_sent : Goal
-      is_sent = ⊎_elim (whole_from c (then_between start c d came_at c_to_d to_came)) by_told (bring start plan x b c third s p well_c.path well_b.here well_c.here well_b.records)
+      is_sent = ⊎_elim (whole_from c (then_between start c d came_at c_to_d to_came)) by_told (bring start x.mild b c third s p well_c.path well_b.here well_c.here well_b.records)
         where
           heard_so : from ≤ (end_at (peer s) well_c.path).tcp.recv.edge → (end_at (peer s) well_c.path).tcp.recv.edge ≤ (end_at s q).tcp.send.una → Goal
-          heard_so low high = if_may start plan x Goal d q well_d.here opened_d s (whole_from d to_came) (λ may_still. goes from (omega (arith, low, high)) may_still then_goes)
+          heard_so low high = if_may start x.mild Goal d q well_d.here opened_d s (whole_from d to_came) (λ may_still. goes from (omega (arith, low, high)) may_still then_goes)
 
           by_told : from ≤ (end_at (peer s) well_c.path).tcp.recv.edge → Goal
           by_told low = ⊎_elim
-              (λ soon. ⊎_elim (whole_from d to_came) (heard_so low) (tell start plan x c d fourth s well_c.path q well_c.here well_d.here soon))
+              (λ soon. ⊎_elim (whole_from d to_came) (heard_so low) (tell start x.mild c d fourth s well_c.path q well_c.here well_d.here soon))
               (whole_from c (then_between start c d came_at c_to_d to_came))
               well_c.told
 
@@ -326,8 +326,8 @@ module _ (start : Start) (plan : PathPlan) (x : BeginsWithOnePath start plan) (s
     is_read = ⊎_elim
         (λ soon. ⊎_elim
         (whole_from told_at (then_between start told_at b came_at told_to_b (then_between start b d came_at b_to_d to_came)))
-        (λ told. if_may start plan x Goal b p well_b.here opened_b s (whole_from b (then_between start b d came_at b_to_d to_came)) (λ may. is_sent told may))
-        (tell start plan x v told_at first.1.0.1.0 s well_v.path told_path.path well_v.here told_path.here soon))
+        (λ told. if_may start x.mild Goal b p well_b.here opened_b s (whole_from b (then_between start b d came_at b_to_d to_came)) (λ may. is_sent told may))
+        (tell start x.mild v told_at first.1.0.1.0 s well_v.path told_path.path well_v.here told_path.here soon))
         (whole_from v (then_between start v told_at came_at to_told (then_between start told_at b came_at told_to_b (then_between start b d came_at b_to_d to_came))))
         well_v.told
 

@@ -1,5 +1,5 @@
 -- A wait for a record goes on by each turn between open ends, or something is counted.
-use Rattle.std.proofs.Common.{◌≡◌, refl, sym, subst, ap, ◌∙◌, ◌⊎◌, ⊎_elim, inl, inr, ℕ, ◌+◌, ◌<◌, ◌≤◌, arith, Bool, true, false, true≢false, if◌then◌else◌, le_refl, map, Some, None, Option, List, [], ◌∷◌, ◌++◌, suc, IfSome}
+use Rattle.std.proofs.Common.{◌≡◌, refl, sym, subst, ap, ◌∙◌, ◌⊎◌, ⊎_elim, inl, inr, ℕ, ◌+◌, ◌<◌, ◌≤◌, arith, Bool, true, false, true≢false, if◌then◌else◌, le_refl, map, Some, None, Option, List, [], ◌∷◌, ◌++◌, suc, zero, IfSome}
 use Rattle.std.specs.List.{slice_get}
 use Rattle.std.proofs.lemmas.Bool.{both_ways, cases_lt, ltb-true}
 use Rattle.std.proofs.lemmas.Option.{same_Some}
@@ -26,39 +26,41 @@ use Rattle.world_laws.proofs.Rounds.DoneByTheEnd.{rounds_end_on_time}
 use Rattle.world_laws.proofs.Rounds.Lifting.{all_over_each}
 use Rattle.world_laws.proofs.Weaving.WholeRounds.{run_append}
 use Rattle.whole_paths.specs.AsFar.{IsActorAsFar, IsPathAsFar, stage}
-use Rattle.whole_paths.specs.Courses.{BeginsARound, TakesAStep, counted, round_end}
+use Rattle.whole_paths.specs.Courses.{BeginsARoundAt, TakesAStepAt, counted_at, round_end}
 use Rattle.whole_paths.specs.DataLeft.{HasDataLeft, IsData}
-use Rattle.whole_paths.specs.Exchanges.{ExchangeGoesOn, ExchangesBegin, ExchangesEnd, ExchangesGoOn, IsBareWithin, IsExchanged}
+use Rattle.whole_paths.specs.Exchanges.{ExchangeGoesOn, ExchangesBegin, ExchangesEnd, ExchangesGoOn, IsBareWithin, IsExchanged, LetsThrough}
 use Rattle.whole_paths.specs.Exchanges.{ExchangeGoesOn as goes}
 use Rattle.whole_paths.specs.Exchanges.IsExchanged.{comes, in_hand, answered, acknowledged}
 use Rattle.whole_paths.specs.Finish.{IsPathAt}
 use Rattle.whole_paths.specs.Flights.{IsFirst}
 use Rattle.whole_paths.specs.Kept.{EndsKeepWhatWaits}
-use Rattle.whole_paths.specs.Mild.{IsMildStart}
+use Rattle.whole_paths.specs.Mild.{EndsGoByMappings, IsMildStart}
 use Rattle.whole_paths.specs.News.{ActorCounts, one_if}
 use Rattle.whole_paths.specs.News.{Counts as counts}
-use Rattle.whole_paths.specs.OpenCourses.{HoldUpsCount, IsNow}
+use Rattle.whole_paths.specs.OpenCourses.{HoldUpsCount, IsFaithfulAt, IsNowAt}
 use Rattle.whole_paths.specs.ReadModes.{ReadsMappings}
-use Rattle.whole_paths.specs.RecordWaits.{AwaitsARecord, HasARecord, IsRecordAwaited, RecordsAreAwaitedAlways, RecordsAreAwaited}
-use Rattle.whole_paths.specs.Straying.{HardlyStraysFrom, IsHardlyAstray, IsOpen, IsOpenFrom}
+use Rattle.whole_paths.specs.RecordWaits.{AwaitsARecordAt, HasARecordAt, IsRecordAwaited, RecordsAreAwaitedAlways, RecordsAreAwaitedAt}
+use Rattle.whole_paths.specs.Straying.{IsHardlyAstray, IsOpen, IsSound, IsSoundFrom}
 use Rattle.whole_paths.specs.Straying.{IsHardlyAstray as hardly}
 use Rattle.whole_paths.specs.Timers.{TimersAreNear}
 use Rattle.whole_paths.specs.Waits.{IsNews}
 use Rattle.whole_paths.specs.WholeMappings.{NoneIsPartial}
 use Rattle.whole_paths.proofs.Counted.{by_counts, what_holds_up_counts}
-use Rattle.whole_paths.proofs.DataLeft.{what_is_left_is_data}
+use Rattle.whole_paths.proofs.DataLeft.{each_path_has_data_left}
 use Rattle.whole_paths.proofs.Exchanges.{answer_later, each_record_is_acknowledged, hand_later, lets_through}
 use Rattle.whole_paths.proofs.Finishing.{MemberFinishes, turn_finishes}
 use Rattle.whole_paths.proofs.Flying.{first_stays, same_record}
 use Rattle.whole_paths.proofs.GoesOn.{goes_on_so}
 use Rattle.whole_paths.proofs.Keeping.{what_waits_is_kept}
+use Rattle.whole_paths.proofs.Mild.{mapping_is_kept}
 use Rattle.whole_paths.proofs.InTime.{nil_so}
-use Rattle.whole_paths.proofs.OpenCourses.{IsFirstPath, each_first}
+use Rattle.whole_paths.proofs.OpenCourses.{IsOfLanes, each_of_lanes}
 use Rattle.whole_paths.proofs.ReadModes.{ends_read_mappings}
 use Rattle.whole_paths.proofs.RoundBegins.{next_rests, no_round_counts}
-use Rattle.whole_paths.proofs.Straying.{open_from, senders_hardly_stray}
+use Rattle.whole_paths.proofs.OpenAsks.{open_sound}
+use Rattle.whole_paths.proofs.Straying.{sound_ends_hardly_stray, sound_from}
 use Rattle.whole_paths.proofs.Timing.{timers_run_out}
-use Rattle.whole_paths.proofs.WholeMappings.{first_has, mappings_are_whole}
+use Rattle.whole_paths.proofs.WholeMappings.{each_mapping_is_whole, first_has}
 use Rattle.whole_paths.specs.Came.{HasCome}
 use Rattle.whole_paths.specs.LastFin.{FinIsLast}
 use Rattle.whole_paths.specs.Overruns.{StaysWithin}
@@ -66,7 +68,7 @@ use Rattle.whole_paths.proofs.Arrivals.{sender_of}
 use Rattle.whole_paths.proofs.Came.{what_is_acknowledged_came}
 use Rattle.whole_paths.proofs.LastFin.{fins_are_last}
 use Rattle.whole_paths.proofs.News.{one_most}
-use Rattle.whole_paths.proofs.Overruns.{no_end_overruns}
+use Rattle.whole_paths.proofs.Overruns.{each_end_stays_within}
 use Rattle.whole_paths.proofs.Reached.{EndsAreReached, each_is_reached, none_left}
 
 -- ---- later
@@ -94,6 +96,11 @@ living_open phase.Listen past living = absurd (omega (arith, past))
 living_open phase.Dead past living = absurd (true≢false living)
 living_open _ past living = refl
 
+-- no line takes anything away on the path
+pub lets_at : (number : ℕ) (p : PathState Carried) → IsFaithfulAt number p → LetsThrough p
+lets_at zero p h = lets_through p h
+lets_at (suc number) p h = h
+
 -- ---- a turn
 
 module _ (start : Start) (mild : IsMildStart start) (turns : List Turn) (turn : Turn) where
@@ -103,14 +110,14 @@ module _ (start : Start) (mild : IsMildStart start) (turns : List Turn) (turn : 
   abbrev v : WorldState Carried
   v = after_turn values turn w
 
-  abbrev Rises : Type 0
-  Rises = counted values start turns < counted values start (turns ++ turn ∷ [])
-
   pub last : reached values start (turns ++ turn ∷ []) ≡ v
   last = run_append values turns (turn ∷ []) (opened_world start)
 
-  -- what the laws of one turn say of path 0, between two moments
-  module _ {Holds : PathState Carried → Type 0} (before : IsNow Holds w) (after : IsNow Holds v) where
+  -- what the laws of one turn say of a path, between two moments
+  module _ {number : ℕ} {Holds : PathState Carried → Type 0} (before : IsNowAt number Holds w) (after : IsNowAt number Holds v) where
+    abbrev Rises : Type 0
+    Rises = counted_at values start number turns < counted_at values start number (turns ++ turn ∷ [])
+
     abbrev p : PathState Carried
     p = before.path
 
@@ -122,7 +129,7 @@ module _ (start : Start) (mild : IsMildStart start) (turns : List Turn) (turn : 
 
     -- what holds of both actors
     pub with_both : (R : Actor Carried → Actor Carried → Type 0)
-        → ((d : ActorCrew Carried) × (slice_get v.crew 2 ≡ Some d) × R before.here.crew.member d.member) → R (Path p) (Path q)
+        → ((d : ActorCrew Carried) × (slice_get v.crew (2 + number) ≡ Some d) × R before.here.crew.member d.member) → R (Path p) (Path q)
     with_both R found =
         subst (λ m. R m (Path q)) before.here.is
         (subst (λ m. R before.here.crew.member m) (ap (λ (c : ActorCrew Carried). c.member) (same_Some found.0 after.here.crew (sym found.1 ∙ after.here.there)) ∙ after.here.is) found.2)
@@ -131,22 +138,22 @@ module _ (start : Start) (mild : IsMildStart start) (turns : List Turn) (turn : 
     here R h = subst (λ m. R m (Path q)) before.here.is (subst (λ m. R before.here.crew.member m) after.here.is h)
 
     pub counts_so : counts p q → Rises
-    counts_so is = by_counts start turns turn before.here.crew after.here.crew before.here.there after.here.there
+    counts_so is = by_counts start number turns turn before.here.crew after.here.crew before.here.there after.here.there
         (subst (λ m. ActorCounts m after.here.crew.member) (sym before.here.is) (subst (λ n. ActorCounts (Path p) n) (sym after.here.is) is))
 
     far : IsPathAsFar p q
-    far = with_both IsActorAsFar (let found = (goes_on_so values w (turn ∷ [])).crew 2 before.here.crew before.here.there in (found.0, found.1, found.2.member))
+    far = with_both IsActorAsFar (let found = (goes_on_so values w (turn ∷ [])).crew (2 + number) before.here.crew before.here.there in (found.0, found.1, found.2.member))
 
     finishing : MemberFinishes (Path p) (Path q)
-    finishing = with_both MemberFinishes (turn_finishes values w turn 2 before.here.crew before.here.there)
+    finishing = with_both MemberFinishes (turn_finishes values w turn (2 + number) before.here.crew before.here.there)
 
-    first_now : IsFirstPath start q
-    first_now = subst (HoldsOfKind (λ app. Unit {0}) (IsFirstPath start)) after.here.is
-        (each_first start (turns ++ turn ∷ []) mild.plain.size after.here.crew (subst (λ (x : WorldState Carried). slice_get x.crew 2 ≡ Some after.here.crew) (sym last) after.here.there))
+    of_lanes : IsOfLanes start q
+    of_lanes = subst (HoldsOfKind (λ app. Unit {0}) (IsOfLanes start)) after.here.is
+        (each_of_lanes start (turns ++ turn ∷ []) mild.plain.size (2 + number) after.here.crew (subst (λ (x : WorldState Carried). slice_get x.crew (2 + number) ≡ Some after.here.crew) (sym last) after.here.there))
 
     last_now : FinIsLast q
     last_now = subst (HoldsOfKind (λ app. Unit {0}) FinIsLast) after.here.is
-        ((fins_are_last start (turns ++ turn ∷ []) mild.plain.size).each 2 after.here.crew (subst (λ (x : WorldState Carried). slice_get x.crew 2 ≡ Some after.here.crew) (sym last) after.here.there))
+        ((fins_are_last start (turns ++ turn ∷ []) mild.plain.size).each (2 + number) after.here.crew (subst (λ (x : WorldState Carried). slice_get x.crew (2 + number) ≡ Some after.here.crew) (sym last) after.here.there))
 
     pub edge_up : (s : Side) → (end_at s p).tcp.recv.edge ≤ (end_at s q).tcp.recv.edge
     edge_up = elim [ A ↦ far.a.subflow.received | B ↦ far.b.subflow.received ]
@@ -157,8 +164,8 @@ module _ (start : Start) (mild : IsMildStart start) (turns : List Turn) (turn : 
     pub nxt_up : (s : Side) → (end_at s p).tcp.send.nxt ≤ (end_at s q).tcp.send.nxt
     nxt_up = elim [ A ↦ far.a.subflow.pushed | B ↦ far.b.subflow.pushed ]
 
-    -- where it is open from the side that sends
-    module _ (x : ℕ) (h : IsRecordAwaited x p) (from_p : IsOpenFrom h.side p) (from_q : IsOpenFrom h.side q) where
+    -- where it is sound from the side that sends
+    module _ (x : ℕ) (h : IsRecordAwaited x p) (from_p : IsSoundFrom h.side p) (from_q : IsSoundFrom h.side q) where
       abbrev s : Side
       s = h.side
 
@@ -184,14 +191,14 @@ module _ (start : Start) (mild : IsMildStart start) (turns : List Turn) (turn : 
 
       -- the peer isn't past a FIN
       not_behind : Ahead q → is_fin_passed (end_at (peer s) q).tcp ≡ true → ⊥
-      not_behind (inl unfinished) behind = unpassed (end_at (peer s) q).tcp.fin_at (end_at (peer s) q).tcp.recv.edge (first_now.fins s unfinished) behind
+      not_behind (inl unfinished) behind = unpassed (end_at (peer s) q).tcp.fin_at (end_at (peer s) q).tcp.recv.edge (of_lanes.fins s unfinished) behind
       not_behind (inr few) behind =
           let past = passed_all (end_at (peer s) q).tcp.fin_at (end_at (peer s) q).tcp.recv.edge (end_at s q).tcp.send.nxt (last_now.heard s) behind in omega (arith, past, few, within)
 
       -- it stays the first one, or that counts
       if_first : (IsFirst r (end_at s q) → Next) → Next
       if_first still = ⊎_elim still (λ is. inl (counts_so (counts.at_end s is)))
-          (first_stays r (end_at s p) (end_at s q) (with_both EndsKeepWhatWaits (what_waits_is_kept values w (turn ∷ []) 2 before.here.crew before.here.there) s) h.first)
+          (first_stays r (end_at s p) (end_at s q) (with_both EndsKeepWhatWaits (what_waits_is_kept values w (turn ∷ []) (2 + number) before.here.crew before.here.there) s) h.first)
 
       -- its end isn't acknowledged, or that counts
       if_left : ((end_at s q).tcp.send.una < end_of r → Next) → Next
@@ -209,12 +216,19 @@ module _ (start : Start) (mild : IsMildStart start) (turns : List Turn) (turn : 
 
       -- each mapping at RCV.NXT is whole with the record
       whole : NoneIsPartial p
-      whole = subst (HoldsOfKind (λ app. Unit {0}) NoneIsPartial) before.here.is (mappings_are_whole start turns mild before.here.crew before.here.there)
+      whole = subst (HoldsOfKind (λ app. Unit {0}) NoneIsPartial) before.here.is (each_mapping_is_whole start turns mild (2 + number) before.here.crew before.here.there)
 
       -- and checks are told of
       is_read : ReadsMappings q
       is_read = subst (HoldsOfKind (λ app. Unit {0}) ReadsMappings) after.here.is
-          (ends_read_mappings start (turns ++ turn ∷ []) mild 2 after.here.crew (subst (λ (x : WorldState Carried). slice_get x.crew 2 ≡ Some after.here.crew) (sym last) after.here.there))
+          (ends_read_mappings start (turns ++ turn ∷ []) mild (2 + number) after.here.crew (subst (λ (x : WorldState Carried). slice_get x.crew (2 + number) ≡ Some after.here.crew) (sym last) after.here.there))
+
+      mapped_p : EndsGoByMappings p
+      mapped_p = subst (HoldsOfKind (λ app. Unit {0}) EndsGoByMappings) before.here.is ((mapping_is_kept start turns mild).each (2 + number) before.here.crew before.here.there)
+
+      mapped_q : EndsGoByMappings q
+      mapped_q = subst (HoldsOfKind (λ app. Unit {0}) EndsGoByMappings) after.here.is
+          ((mapping_is_kept start (turns ++ turn ∷ []) mild).each (2 + number) after.here.crew (subst (λ (x : WorldState Carried). slice_get x.crew (2 + number) ≡ Some after.here.crew) (sym last) after.here.there))
 
       strays : IsHardlyAstray s r p q → Next
       strays (hardly.behind_fin behind) = if_ahead (λ ahead. absurd (not_behind ahead behind))
@@ -225,48 +239,50 @@ module _ (start : Start) (mild : IsMildStart start) (turns : List Turn) (turn : 
       by_exchange : ExchangeGoesOn s r x p q → Next
       by_exchange (goes.on exchange) = goes_by exchange
       by_exchange (goes.held_up held) = inl (here (λ m n. HoldUps m n)
-          (what_holds_up_counts start turns turn before.here.crew after.here.crew before.here.there after.here.there) from_p.living from_q.living before.few s held)
+          (what_holds_up_counts start number turns turn before.here.crew after.here.crew before.here.there after.here.there) from_p.living from_q.living before.few s held)
         where
           HoldUps : Actor Carried → Actor Carried → Type 0
           HoldUps m n = HoldUpsCount Rises m n
-      by_exchange (goes.astray astray) = strays (here HardlyStraysFrom
-          (senders_hardly_stray start turns turn mild 2 before.here.crew after.here.crew before.here.there after.here.there) s from_p from_q r astray)
+      by_exchange (goes.astray astray) = strays (sound_ends_hardly_stray p q s from_p from_q mapped_p mapped_q r astray)
 
       pub goes_on : Next
-      goes_on = by_exchange ((with_both ExchangesGoOn (each_record_is_acknowledged.goes_on start turns mild.plain.size mild.fit turn 2 before.here.crew before.here.there))
-          (lets_through before.path before.faithful) s r x h.is_data before.few h.exchange)
+      goes_on = by_exchange ((with_both ExchangesGoOn (each_record_is_acknowledged.goes_on start turns mild.plain.size mild.fit turn (2 + number) before.here.crew before.here.there))
+          (lets_at number before.path before.faithful) s r x h.is_data before.few h.exchange)
 
 -- ---- waits
 
 pub same_path : (m : Actor Carried) (p q : PathState Carried) → m ≡ Path p → m ≡ Path q → p ≡ q
 same_path m p q a b = cc
 
-pub path_is : (w : WorldState Carried) (p q : PathState Carried) → IsPathAt 0 w p → IsPathAt 0 w q → p ≡ q
+pub path_is : {number : ℕ} (w : WorldState Carried) (p q : PathState Carried) → IsPathAt number w p → IsPathAt number w q → p ≡ q
 path_is w p q here there = same_path there.crew.member p q (ap (λ (c : ActorCrew Carried). c.member) (same_Some there.crew here.crew (sym there.there ∙ here.there)) ∙ here.is) there.is
 
--- what holds of path 0 at each moment, by which it is open from these sides
-module _ (start : Start) (most : ℕ) (mild : IsMildStart start) (Holds : PathState Carried → Type 0) (Of : Side → Type 0)
-    (from : (v : List Turn) (p : PathState Carried) → IsPathAt 0 (reached values start v) p → Holds p → (s : Side) → Of s → IsOpenFrom s p) where
+-- what holds of the path of a number at each moment, by which it is sound from these sides
+module _ (number : ℕ) (start : Start) (most : ℕ) (mild : IsMildStart start) (Holds : PathState Carried → Type 0) (Of : Side → Type 0)
+    (from : (v : List Turn) (p : PathState Carried) → IsPathAt number (reached values start v) p → Holds p → (s : Side) → Of s → IsSoundFrom s p) where
   abbrev Now : List Turn → Type 0
-  Now turns = IsNow Holds (reached values start turns)
+  Now turns = IsNowAt number Holds (reached values start turns)
+
+  abbrev Rising : List Turn → List Turn → Type 0
+  Rising v u = counted_at values start number v < counted_at values start number u
 
   -- a record of such a side
   pub record Awaits (x : ℕ) (turns : List Turn) : Type 0 where
     pub path : PathState Carried
-    pub here : IsPathAt 0 (reached values start turns) path
+    pub here : IsPathAt number (reached values start turns) path
     pub waits : IsRecordAwaited x path
     pub of : Of waits.side
 
   -- at the same path
-  awaited_at : (x : ℕ) (u : WorldState Carried) (a b : PathState Carried) → IsPathAt 0 u a → IsPathAt 0 u b → (h : IsRecordAwaited x a) → Of h.side → (z : IsRecordAwaited x b) × Of z.side
+  awaited_at : (x : ℕ) (u : WorldState Carried) (a b : PathState Carried) → IsPathAt number u a → IsPathAt number u b → (h : IsRecordAwaited x a) → Of h.side → (z : IsRecordAwaited x b) × Of z.side
   awaited_at x u a b at there h of = subst (λ c. (z : IsRecordAwaited x c) × Of z.side) (path_is u a b at there) (h, of)
 
   turn_on : (x : ℕ) (v : List Turn) (turn : Turn) → Now v → Now (v ++ turn ∷ []) → Awaits x v
-      → (counted values start v < counted values start (v ++ turn ∷ [])) ⊎ Awaits x (v ++ turn ∷ [])
+      → Rising v (v ++ turn ∷ []) ⊎ Awaits x (v ++ turn ∷ [])
   turn_on x v turn before after h =
       let same = run_append values v (turn ∷ []) (opened_world start) in
-      let then_open : IsNow Holds (after_turn values turn (reached values start v)) = subst (λ (y : WorldState Carried). IsNow Holds y) same after in
-      let there : IsPathAt 0 (reached values start (v ++ turn ∷ [])) then_open.path = subst (λ (y : WorldState Carried). IsPathAt 0 y then_open.path) (sym same) then_open.here in
+      let then_open : IsNowAt number Holds (after_turn values turn (reached values start v)) = subst (λ (y : WorldState Carried). IsNowAt number Holds y) same after in
+      let there : IsPathAt number (reached values start (v ++ turn ∷ [])) then_open.path = subst (λ (y : WorldState Carried). IsPathAt number y then_open.path) (sym same) then_open.here in
       ⊎_elim (λ rises. inl rises)
       (λ waits. inr (record { path = then_open.path; here = there; waits = waits.0; of = subst Of (sym waits.1) waiting.1 }))
       (goes_on start mild v turn before then_open x waiting.0 (from v before.path before.here before.is_open waiting.0.side waiting.1)
@@ -275,76 +291,76 @@ module _ (start : Start) (most : ℕ) (mild : IsMildStart start) (Holds : PathSt
       waiting : (z : IsRecordAwaited x before.path) × Of z.side
       waiting = awaited_at x (reached values start v) h.path before.path h.here before.here h.waits h.of
 
-  pub steps_on : (x : ℕ) (v u : List Turn) → TakesAStep values start Now most v u → Awaits x v → (counted values start v < counted values start u) ⊎ Awaits x u
-  steps_on x v u step h = subst (λ t. (counted values start v < counted values start t) ⊎ Awaits x t) (sym step.is)
+  pub steps_on : (x : ℕ) (v u : List Turn) → TakesAStepAt values start number Now most v u → Awaits x v → Rising v u ⊎ Awaits x u
+  steps_on x v u step h = subst (λ t. Rising v t ⊎ Awaits x t) (sym step.is)
       (turn_on x v (Turn.Step step.actor) step.before (subst Now step.is step.after) h)
 
-  pub opens_on : (x : ℕ) (v u : List Turn) → BeginsARound values start Now most v u → Awaits x v → (counted values start v < counted values start u) ⊎ Awaits x u
-  opens_on x v u step h = subst (λ t. (counted values start v < counted values start t) ⊎ Awaits x t) (sym step.is)
+  pub opens_on : (x : ℕ) (v u : List Turn) → BeginsARoundAt values start number Now most v u → Awaits x v → Rising v u ⊎ Awaits x u
+  opens_on x v u step h = subst (λ t. Rising v t ⊎ Awaits x t) (sym step.is)
       (turn_on x v Turn.Round step.before (subst Now step.is step.after) h)
 
   -- ---- as a round begins
 
-  module _ (v u : List Turn) (step : BeginsARound values start Now most v u) where
+  module _ (v u : List Turn) (step : BeginsARoundAt values start number Now most v u) where
     abbrev ended : WorldState Carried
     ended = reached values start v
 
     goes_over : after_turn values Turn.Round ended ≡ record ended { crew = map (begins (greatest 0 ended.crew)) ended.crew }
     goes_over = ap (λ (b : Bool). if b then record ended { crew = map (begins (greatest 0 ended.crew)) ended.crew } else ended) step.over
 
-    -- the clock of path 0 is at the end of the round before
-    pub clock_is : (p : PathState Carried) → IsPathAt 0 (reached values start u) p → p.clock ≡ round_end values start v
+    -- the clock of the path is at the end of the round before
+    pub clock_is : (p : PathState Carried) → IsPathAt number (reached values start u) p → p.clock ≡ round_end values start v
     clock_is p here =
-        let found = in_map (begins (greatest 0 ended.crew)) ended.crew 2 here.crew (subst (λ (y : WorldState Carried). slice_get y.crew 2 ≡ Some here.crew) (there_is ∙ goes_over) here.there) in
+        let found = in_map (begins (greatest 0 ended.crew)) ended.crew (2 + number) here.crew (subst (λ (y : WorldState Carried). slice_get y.crew (2 + number) ≡ Some here.crew) (there_is ∙ goes_over) here.there) in
         by found.0.member found.0 found.1 refl (ap (λ (c : ActorCrew Carried). c.member) found.2 ∙ here.is)
       where
         there_is : reached values start u ≡ after_turn values Turn.Round ended
         there_is = ap (reached values start) step.is ∙ run_append values v (Turn.Round ∷ []) (opened_world start)
 
-        by : (m : Actor Carried) (c : ActorCrew Carried) → slice_get ended.crew 2 ≡ Some c → c.member ≡ m → member_next c.member ≡ Path p → p.clock ≡ round_end values start v
+        by : (m : Actor Carried) (c : ActorCrew Carried) → slice_get ended.crew (2 + number) ≡ Some c → c.member ≡ m → member_next c.member ≡ Path p → p.clock ≡ round_end values start v
         by (Path before) c at is next =
             let same : next_round before ≡ p = same_path (member_next c.member) (next_round before) p (ap member_next is) next in
-            ap (λ (x : PathState Carried). x.clock) (sym same) ∙ (next_rests before).clock ∙ subst (EndsAt (round_end values start v)) is ((rounds_end_on_time values start v).each 2 c at)
+            ap (λ (x : PathState Carried). x.clock) (sym same) ∙ (next_rests before).clock ∙ subst (EndsAt (round_end values start v)) is ((rounds_end_on_time values start v).each (2 + number) c at)
         by (App a) c at is next = absurd (let made = subst (λ (m : Actor Carried). member_next m ≡ Path p) is next in cc)
 
-    pub none_late : (x : ℕ) → Awaits x v → x < round_end values start v → counted values start v < counted values start u
+    pub none_late : (x : ℕ) → Awaits x v → x < round_end values start v → Rising v u
     none_late x h late = ⊎_elim (λ rises. rises) (λ waits. absurd (past waits)) (opens_on x v u step h)
       where
         past : Awaits x u → ⊥
         past waits =
-            let ends : ExchangesEnd waits.path = subst (HoldsOfKind (λ app. Unit {0}) ExchangesEnd) waits.here.is ((each_record_is_acknowledged.in_time start u).end 2 waits.here.crew waits.here.there) in
+            let ends : ExchangesEnd waits.path = subst (HoldsOfKind (λ app. Unit {0}) ExchangesEnd) waits.here.is ((each_record_is_acknowledged.in_time start u).end (2 + number) waits.here.crew waits.here.there) in
             let clock = clock_is waits.path waits.here in
             let reached_end = ends waits.waits.side waits.waits.awaited x waits.waits.exchange (omega (arith, late, clock)) in
             let left = waits.waits.left in omega (arith, reached_end, left)
 
-    -- where an end of path 0 sent no FIN
-    module _ (path : PathState Carried) (here : IsPathAt 0 ended path) (side : Side) (unsent : (end_at side path).tcp.send.finished ≡ false) (of : Of side) where
+    -- where an end of the path sent no FIN
+    module _ (path : PathState Carried) (here : IsPathAt number ended path) (side : Side) (unsent : (end_at side path).tcp.send.finished ≡ false) (of : Of side) where
       near : TimersAreNear path
-      near = subst (HoldsOfKind (λ app. Unit {0}) TimersAreNear) here.is ((timers_run_out values start v).each 2 here.crew here.there)
+      near = subst (HoldsOfKind (λ app. Unit {0}) TimersAreNear) here.is ((timers_run_out values start v).each (2 + number) here.crew here.there)
 
       until : path.until ≡ round_end values start v
-      until = subst (EndsAt (round_end values start v)) here.is ((rounds_end_on_time values start v).each 2 here.crew here.there)
+      until = subst (EndsAt (round_end values start v)) here.is ((rounds_end_on_time values start v).each (2 + number) here.crew here.there)
 
       silent : path.agenda ≡ []
-      silent = nil_so path.agenda (subst (λ m. is_over m ≡ true) here.is (all_over_each ended.crew 2 here.crew step.over here.there))
+      silent = nil_so path.agenda (subst (λ m. is_over m ≡ true) here.is (all_over_each ended.crew (2 + number) here.crew step.over here.there))
 
       begun : ExchangesBegin path
-      begun = subst (HoldsOfKind (λ app. Unit {0}) ExchangesBegin) here.is ((each_record_is_acknowledged.in_time start v).begin 2 here.crew here.there)
+      begun = subst (HoldsOfKind (λ app. Unit {0}) ExchangesBegin) here.is ((each_record_is_acknowledged.in_time start v).begin (2 + number) here.crew here.there)
 
-      opened : IsOpenFrom side path
+      opened : IsSoundFrom side path
       opened = from v path here (subst Holds (path_is ended step.before.path path step.before.here here) step.before.is_open) side of
 
       is_left : HasDataLeft path
-      is_left = subst (HoldsOfKind (λ app. Unit {0}) HasDataLeft) here.is (what_is_left_is_data start v mild.plain.size mild.fit here.crew here.there)
+      is_left = subst (HoldsOfKind (λ app. Unit {0}) HasDataLeft) here.is (each_path_has_data_left start v mild.plain.size mild.fit (2 + number) here.crew here.there)
 
       few : StaysWithin path
-      few = subst (HoldsOfKind (λ app. Unit {0}) StaysWithin) here.is (no_end_overruns start v mild here.crew here.there)
+      few = subst (HoldsOfKind (λ app. Unit {0}) StaysWithin) here.is (each_end_stays_within start v mild (2 + number) here.crew here.there)
 
       came : HasCome path
-      came = subst (HoldsOfKind (λ app. Unit {0}) HasCome) here.is ((what_is_acknowledged_came start v).each 2 here.crew here.there)
+      came = subst (HoldsOfKind (λ app. Unit {0}) HasCome) here.is ((what_is_acknowledged_came start v).each (2 + number) here.crew here.there)
 
       ends : EndsAreReached path
-      ends = subst (HoldsOfKind (λ app. Unit {0}) EndsAreReached) here.is ((each_is_reached values start v).each 2 here.crew here.there)
+      ends = subst (HoldsOfKind (λ app. Unit {0}) EndsAreReached) here.is ((each_is_reached values start v).each (2 + number) here.crew here.there)
 
       -- with the first record of a side
       side_begins : (t : Side) (r : Record) (others : List Record) → (end_at t path).tcp.send.records ≡ r ∷ others → IsData r (end_at t path)
@@ -352,7 +368,7 @@ module _ (start : Start) (most : ℕ) (mild : IsMildStart start) (Holds : PathSt
           → (end_at (peer t) path).tcp.send.nxt ≤ (end_at t path).tcp.recv.edge + 1048576 → Of t
           → Awaits (round_end values start v + 60800) u
       side_begins t r others is data_is ahead room of_t = ⊎_elim
-          (λ rises. absurd (let same = ap (counted values start) step.is ∙ no_round_counts start v step.over in omega (arith, rises, same)))
+          (λ rises. absurd (let same = ap (counted_at values start number) step.is ∙ no_round_counts start number v step.over in omega (arith, rises, same)))
           (λ waits. waits)
           (opens_on (round_end values start v + 60800) v u step (record { path = path; here = here; waits = awaited; of = of_t }))
         where
@@ -395,45 +411,46 @@ module _ (start : Start) (most : ℕ) (mild : IsMildStart start) (Holds : PathSt
       room_or of_other = ⊎_elim (λ past. inl (other_begins past of_other (end_at other path).tcp.send.records refl)) (λ room. inr room) (cases_lt ((end_at side path).tcp.recv.edge + 1048576) (end_at other path).tcp.send.nxt)
 
     -- where the end's own window has room for what the peer sent
-    pub begins_with_room : (h : HasARecord start v) → Of h.side → (end_at (peer h.side) h.path).tcp.send.nxt ≤ (end_at h.side h.path).tcp.recv.edge + 1048576 → Awaits (round_end values start v + 60800) u
+    pub begins_with_room : (h : HasARecordAt number start v) → Of h.side → (end_at (peer h.side) h.path).tcp.send.nxt ≤ (end_at h.side h.path).tcp.recv.edge + 1048576 → Awaits (round_end values start v + 60800) u
     begins_with_room h of room =
-        let open_h : IsOpenFrom h.side h.path = opened h.path h.here h.side h.unfinished of in
+        let open_h : IsSoundFrom h.side h.path = opened h.path h.here h.side h.unfinished of in
         side_begins h.path h.here h.side h.unfinished of h.side h.first h.others h.records
         (is_left h.path h.here h.side h.unfinished of h.side (open_h.past h.side) (open_h.living h.side) (inl h.unfinished) h.first h.others h.records) (inl h.unfinished) room of
 
-    pub wait_begins : (h : HasARecord start v) → Of h.side → Of (peer h.side) → Awaits (round_end values start v + 60800) u
+    pub wait_begins : (h : HasARecordAt number start v) → Of h.side → Of (peer h.side) → Awaits (round_end values start v + 60800) u
     wait_begins h of of_other = ⊎_elim
         (λ waits. waits)
         (λ room. begins_with_room h of room)
         (room_or h.path h.here h.side h.unfinished of of_other)
 
--- ---- a path that is open
+-- ---- a path that is sound
 
-module _ (start : Start) (most : ℕ) (mild : IsMildStart start) where
+module _ (number : ℕ) (start : Start) (most : ℕ) (mild : IsMildStart start) (Holds : PathState Carried → Type 0)
+    (sound : (v : List Turn) (p : PathState Carried) → IsPathAt number (reached values start v) p → Holds p → IsSound p) where
   abbrev Each : Side → Type 0
   Each s = Unit {0}
 
-  from_both : (v : List Turn) (p : PathState Carried) → IsPathAt 0 (reached values start v) p → IsOpen p → (s : Side) → Each s → IsOpenFrom s p
-  from_both v p here open_p s of = open_from start v mild p here open_p s
+  from_both : (v : List Turn) (p : PathState Carried) → IsPathAt number (reached values start v) p → Holds p → (s : Side) → Each s → IsSoundFrom s p
+  from_both v p here holds s of = sound_from p (sound v p here holds) s
 
   abbrev AwaitsOne : ℕ → List Turn → Type 0
-  AwaitsOne x turns = Awaits start most mild IsOpen Each from_both x turns
+  AwaitsOne x turns = Awaits number start most mild Holds Each from_both x turns
 
-  plainly : (x : ℕ) (turns : List Turn) → AwaitsOne x turns → AwaitsARecord start x turns
+  plainly : (x : ℕ) (turns : List Turn) → AwaitsOne x turns → AwaitsARecordAt number start x turns
   plainly x turns h = record { path = h.path; here = h.here; waits = h.waits }
 
-  as_one : (x : ℕ) (turns : List Turn) → AwaitsARecord start x turns → AwaitsOne x turns
+  as_one : (x : ℕ) (turns : List Turn) → AwaitsARecordAt number start x turns → AwaitsOne x turns
   as_one x turns h = record { path = h.path; here = h.here; waits = h.waits; of = tt }
 
-  pub open_records : RecordsAreAwaited start most
-  open_records = record {
-    begins = λ v u step h. plainly (round_end values start v + 60800) u (wait_begins start most mild IsOpen Each from_both v u step h tt tt);
+  pub records_are_awaited : RecordsAreAwaitedAt number Holds start most
+  records_are_awaited = record {
+    begins = λ v u step h. plainly (round_end values start v + 60800) u (wait_begins number start most mild Holds Each from_both v u step h tt tt);
     room = λ v u step h. ⊎_elim (λ waits. inl (plainly (round_end values start v + 60800) u waits)) (λ room. inr room)
-        (room_or start most mild IsOpen Each from_both v u step h.path h.here h.side h.unfinished tt tt);
-    on = λ x v u step h. ⊎_elim (λ rises. inl rises) (λ waits. inr (plainly x u waits)) (steps_on start most mild IsOpen Each from_both x v u step (as_one x v h));
-    next = λ x v u step h. ⊎_elim (λ rises. inl rises) (λ waits. inr (plainly x u waits)) (opens_on start most mild IsOpen Each from_both x v u step (as_one x v h));
-    due = λ x v u step h late. none_late start most mild IsOpen Each from_both v u step x (as_one x v h) late;
+        (room_or number start most mild Holds Each from_both v u step h.path h.here h.side h.unfinished tt tt);
+    on = λ x v u step h. ⊎_elim (λ rises. inl rises) (λ waits. inr (plainly x u waits)) (steps_on number start most mild Holds Each from_both x v u step (as_one x v h));
+    next = λ x v u step h. ⊎_elim (λ rises. inl rises) (λ waits. inr (plainly x u waits)) (opens_on number start most mild Holds Each from_both x v u step (as_one x v h));
+    due = λ x v u step h late. none_late number start most mild Holds Each from_both v u step x (as_one x v h) late;
   }
 
 pub records_are_awaited_always : RecordsAreAwaitedAlways
-records_are_awaited_always start most mild = open_records start most mild
+records_are_awaited_always start most mild = records_are_awaited 0 start most mild IsOpen (open_sound start mild)

@@ -12,6 +12,7 @@ use Rattle.send_book.specs.declared.call.SendReply.TheVariants as send_replies
 use Rattle.send_book.specs.declared.call.Span.{Span}
 use Rattle.send_book.specs.declared.call.Why.{Why}
 use Rattle.send_book.specs.Steps.{decision, end_of, reply_by}
+use Rattle.stream_lanes.specs.Marks.{spent}
 use Rattle.stream_lanes.proofs.Lists.{set_other, set_same}
 use Rattle.actor_desk.specs.Books.{books_in}
 use Rattle.actor_desk.specs.Desk.{SixBooks, after_ask, reply_of, send_of}
@@ -40,11 +41,11 @@ use Rattle.world_laws.proofs.Asks.SendBooks.{last_more}
 use Rattle.world_laws.proofs.Rounds.AskingForNothing.{grants_are_done}
 use Rattle.world_laws.proofs.Weaving.EdgesAndStamps.{edge_grows}
 use Rattle.world_laws.proofs.Weaving.Journals.{books_after}
-use Rattle.whole_paths.specs.BookNews.{book_news, byte_news, is_free}
+use Rattle.whole_paths.specs.BookNews.{is_free}
 use Rattle.whole_paths.specs.Finish.{IsPathAt}
-use Rattle.whole_paths.specs.Refusals.{IsLeft, WhoAsksIsRefused}
+use Rattle.whole_paths.specs.Refusals.{IsLeft, IsTaken, WhoAsksIsRefused}
 use Rattle.whole_paths.specs.Refusals.{IsLeft as left_by}
-use Rattle.whole_paths.proofs.BookNews.{AreAsFar, as_far_same, as_far_then, ask_as_far, crew_long, free_counts, news_up, number_low}
+use Rattle.whole_paths.proofs.BookNews.{AreAsFar, as_far_same, as_far_then, ask_as_far, crew_long, free_spent, number_low}
 use Rattle.whole_paths.proofs.GivenBack.{AreRightly, ask_rightly, marks_are_right}
 use Rattle.whole_paths.proofs.Holding.{IsNamed, Known, always_known, known_asked}
 use Rattle.whole_paths.proofs.GrantReasons.{IsWhole, ask_open, ask_whole, why_refused}
@@ -84,7 +85,7 @@ module _ {C : Type 0} (k : Codec C) (P : WorldState C → Type 0)
       by None there = h
       by (Some c) there = asking c there (member_asks k c.member) refl
 
-  steps_so : (order : List ℕ) (w : WorldState C) → P w → P (after_steps k order w)
+  pub steps_so : (order : List ℕ) (w : WorldState C) → P w → P (after_steps k order w)
   steps_so [] w h = h
   steps_so (actor ∷ order) w h = steps_so order (world_step k actor w) (step_so actor w h)
 
@@ -117,15 +118,17 @@ module _ {C : Type 0} (k : Codec C) (start : Start) (since : List Turn) (s : Sid
     low_at : (n : ℕ) (p : PathState C) → IsPathAt n w p → n < length start.paths
     low_at n p here = let low = slice_get_within w.crew (2 + n) here.crew here.there in let long = h.long in omega (arith, low, long)
 
-    -- something became of it, or it is free still
-    counts_or : number < length start.paths → is_free number (slice_get (written_by s begun).marks place) ≡ true
-        → (book_news start s begun < book_news start s w) ⊎ (is_free number (slice_get (written_by s w).marks place) ≡ true)
-    counts_or low free = by (is_free number (slice_get (written_by s w).marks place)) refl
+    -- it is taken, or free still
+    taken_or : number < length start.paths → is_free number (slice_get (written_by s begun).marks place) ≡ true
+        → IsTaken start s place begun w ⊎ (is_free number (slice_get (written_by s w).marks place) ≡ true)
+    taken_or low free = by (is_free number (slice_get (written_by s w).marks place)) refl
       where
-        by : (b : Bool) → is_free number (slice_get (written_by s w).marks place) ≡ b → (book_news start s begun < book_news start s w) ⊎ (is_free number (slice_get (written_by s w).marks place) ≡ true)
+        by : (b : Bool) → is_free number (slice_get (written_by s w).marks place) ≡ b → IsTaken start s place begun w ⊎ (is_free number (slice_get (written_by s w).marks place) ≡ true)
         by true is = inr is
-        by false is = inl (free_counts (length start.paths) number place (written_by s begun).marks (written_by s w).marks h.far low free is (h.right s place)
-            (λ holder held. let found = h.known.holders.each s holder place held in low_at holder found.0 found.1))
+        by false is =
+            let t = free_spent (length start.paths) number place (written_by s begun).marks (written_by s w).marks h.far low free is (h.right s place)
+            (λ holder held. let found = h.known.holders.each s holder place held in low_at holder found.0 found.1) in
+            inl (record { other = t.other; low = t.low; was = t.was; now = t.now })
 
     module _ (actor : ℕ) (c : ActorCrew C) (x : Ask) (there : slice_get w.crew actor ≡ Some c) (asking : member_asks k c.member ≡ Some x) where
       abbrev six : SixBooks
@@ -148,8 +151,13 @@ module _ {C : Type 0} (k : Codec C) (start : Start) (since : List Turn) (s : Sid
         edge = subst (λ (y : SixBooks). (written_by s begun).edge ≤ (send_of s y).edge) (sym now) (let up = edge_grows s x six in let old = h.edge in omega (arith, up, old));
       }
 
-      more_news : book_news start s w ≤ book_news start s v
-      more_news = subst (λ (y : SixBooks). byte_news (length start.paths) (send_of s six).marks ≤ byte_news (length start.paths) (send_of s y).marks) (sym now) (news_up (length start.paths) _ _ (ask_as_far s x six))
+      taken_still : IsTaken start s place begun w → IsTaken start s place begun v
+      taken_still t = record {
+        other = t.other;
+        low = t.low;
+        was = t.was;
+        now = subst (λ (y : SixBooks). spent t.other (slice_get (send_of s y).marks place) ≡ true) (sym now) ((ask_as_far s x six).spent_so t.other place t.now);
+      }
 
       open_before : (written_by s v).aborted ≡ false → (written_by s v).owner ≡ None → ((written_by s w).aborted ≡ false) × ((written_by s w).owner ≡ None)
       open_before goes owner = ask_open s x six (subst (λ (y : SixBooks). (send_of s y).aborted ≡ false) now goes) (subst (λ (y : SixBooks). (send_of s y).owner ≡ None) now owner)
@@ -157,7 +165,7 @@ module _ {C : Type 0} (k : Codec C) (start : Start) (since : List Turn) (s : Sid
       -- what was left is left still, by a step that doesn't ask for bytes of the stream
       left_on : (steps later : List Note) (e f : PathEnd) → last_on_standby s false later ≡ last_on_standby s false steps → f.sending.shut ≡ e.sending.shut → IsLeft start s place steps begun w e → IsLeft start s place later begun v f
       left_on steps later e f standing same (left_by.standby is) = left_by.standby (standing ∙ is)
-      left_on steps later e f standing same (left_by.counts is) = left_by.counts (let up = more_news in omega (arith, is, up))
+      left_on steps later e f standing same (left_by.taken is) = left_by.taken (taken_still is)
       left_on steps later e f standing same (left_by.shut is edge) = left_by.shut (same ∙ is) edge
 
   module _ (w : WorldState C) (g : Going w) (actor : ℕ) (c : ActorCrew C) (x : Ask) (there : slice_get w.crew actor ≡ Some c) (asking : member_asks k c.member ≡ Some x) where
@@ -220,9 +228,9 @@ module _ {C : Type 0} (k : Codec C) (start : Start) (since : List Turn) (s : Sid
           left_on w g.sound actor c x there asking g.more (g.more ++ note ∷ []) (end_at s g.path) (end_at s next) (standing false at)
           (shut_stays k s duty.0 duty.1 reply g.path duty.2 (ap (asks_grant s) duty.3 ∙ at)) (g.why free was.0 was.1 (sym (refusing false at) ∙ refused))
       why_then free goes owner refused true at = ⊎_elim
-          (λ counts. left_by.counts (let up = more_news w g.sound actor c x there asking in omega (arith, counts, up)))
+          (λ taken. left_by.taken (taken_still w g.sound actor c x there asking taken))
           (λ still. reason still)
-          (counts_or w g.sound (low_at w g.sound number g.path g.here) free)
+          (taken_or w g.sound (low_at w g.sound number g.path g.here) free)
         where
           a : AsksNow k s x reply g.path next
           a = asked_now at
@@ -294,7 +302,7 @@ module _ {C : Type 0} (k : Codec C) where
     low : number < length start.paths
     low = number_low k start (since ++ turns) number p (subst (λ (u : WorldState C). IsPathAt number u p) (sym (run_append k since turns (opened_world start))) here)
 
-    first_there : (p : PathState C) × IsPathAt number (reached k start since) p
+    pub first_there : (p : PathState C) × IsPathAt number (reached k start since) p
     first_there =
         let long = crew_long k start since in let few = low in
         let found = some_crew (2 + number) (reached k start since).crew (omega (arith, long, few)) in by found.0 found.1 found.0.member refl ((always_known k start since).named (2 + number) found.0 found.1)

@@ -29,7 +29,7 @@ use Rattle.whole_paths.specs.Finish.{harms_between, harms_of, is_harmed}
 use Rattle.whole_paths.specs.Harms.{harms_left}
 use Rattle.whole_paths.specs.News.{end_news, news, one_if, path_news}
 use Rattle.whole_paths.specs.RecordWaits.{NoRoundCounts}
-use Rattle.whole_paths.proofs.Counted.{harmed_snoc}
+use Rattle.whole_paths.proofs.Counted.{harmed_more}
 
 -- what a round's beginning leaves of a path
 pub record Rests (p q : PathState Carried) : Type 0 where
@@ -90,13 +90,13 @@ no_harms_at stamp (c ∷ crew) (suc i) = no_harms_at stamp crew i
 -- ---- the law
 
 pub no_round_counts : NoRoundCounts
-no_round_counts start turns over =
+no_round_counts start number turns over =
     let w : WorldState Carried = reached values start turns in
     let v : WorldState Carried = record w { crew = map (begins (greatest 0 w.crew)) w.crew } in
     let goes : after_turn values Turn.Round w ≡ v = ap (λ (b : Bool). if b then v else w) over in
     let news_is : news start (reached values start (turns ++ Turn.Round ∷ [])) ≡ news start v = ap (λ (x : WorldState Carried). news start x) (run_append values turns (Turn.Round ∷ []) (opened_world start) ∙ goes) in
     let crew = crew_news start (greatest 0 w.crew) w.crew in
-    let harmed_is = harmed_snoc turns Turn.Round (opened_world start) in
-    let none : harms_of (slice_get w.crew 2) (slice_get (after_turn values Turn.Round w).crew 2) ≡ 0 =
-    subst (λ (x : WorldState Carried). harms_of (slice_get w.crew 2) (slice_get x.crew 2) ≡ 0) (sym goes) (no_harms_at (greatest 0 w.crew) w.crew 2) in
+    let harmed_is = harmed_more number turns Turn.Round (opened_world start) in
+    let none : harms_of (slice_get w.crew (2 + number)) (slice_get (after_turn values Turn.Round w).crew (2 + number)) ≡ 0 =
+    subst (λ (x : WorldState Carried). harms_of (slice_get w.crew (2 + number)) (slice_get x.crew (2 + number)) ≡ 0) (sym goes) (no_harms_at (greatest 0 w.crew) w.crew (2 + number)) in
     omega (arith, news_is, crew, harmed_is, none)

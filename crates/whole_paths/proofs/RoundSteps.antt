@@ -14,7 +14,7 @@ use Rattle.path_core.specs.State.{PathState}
 use Rattle.path_core.specs.Values.{Carried, values}
 use Rattle.world_laws.specs.Actors.{ActorCrew, is_over}
 use Rattle.world_laws.specs.Members.{HoldsOfKind}
-use Rattle.world_laws.specs.Openings.{PathPlan, Start, opened_world}
+use Rattle.world_laws.specs.Openings.{Start, opened_world}
 use Rattle.world_laws.specs.Outcomes.{notes_of, output_of, tells_stop, was_told}
 use Rattle.world_laws.specs.Promises.{arrived_at, written_by}
 use Rattle.world_laws.specs.RoundDone.{reached}
@@ -30,7 +30,7 @@ use Rattle.whole_paths.specs.Delivery.{IsAllThere}
 use Rattle.whole_paths.specs.Finish.{IsPathAt}
 use Rattle.whole_paths.specs.GoingOn.{steps_of}
 use Rattle.whole_paths.specs.InTime.{ComesFrom}
-use Rattle.whole_paths.specs.OnePathScripts.{BeginsWithOnePath}
+use Rattle.whole_paths.specs.Mild.{IsMildStart}
 use Rattle.whole_paths.specs.OpenCourses.{IsOpenAfter}
 use Rattle.whole_paths.specs.SegmentRounds.{EachRoundReads, EachRoundWrites, IsRound, Rounds, StaysOpen, read_after, written_after}
 use Rattle.whole_paths.specs.Straying.{IsOpen}
@@ -42,7 +42,7 @@ use Rattle.whole_paths.proofs.GoesOn.{goes_on_so}
 use Rattle.whole_paths.proofs.InTime.{nil_so}
 use Rattle.whole_paths.proofs.RecordWaits.{path_is}
 use Rattle.whole_paths.proofs.Timing.{timers_run_out}
-use Rattle.whole_paths.proofs.Unstopped.{mild_paths_are_never_stopped}
+use Rattle.whole_paths.proofs.Unstopped.{sides_are_never_stopped}
 use Rattle.whole_paths.proofs.Writers.{writers_go_on}
 use Rattle.world_laws.proofs.Rounds.DoneByTheEnd.{rounds_end_on_time}
 use Rattle.world_laws.specs.RoundDone.{EndsAt}
@@ -170,14 +170,14 @@ module _ (start : Start) where
     over_then : all_over (after_steps values r.order begun).crew ≡ true
     over_then = subst (λ (w : WorldState Carried). all_over w.crew ≡ true) ended r.over
 
-  module _ (plan : PathPlan) (x : BeginsWithOnePath start plan) (v u : List Turn) (r : IsRound start v u) (s : Side) where
+  module _ (mild : IsMildStart start) (v u : List Turn) (r : IsRound start v u) (s : Side) where
     file : List ℕ
     file = pick s start.file_a start.file_b
 
     pub goes_on_writing : GoesOnWriting (pick s start.file_a start.file_b) start.buffer (acked_len (written_by s (at v)).marks) (written_by s (at u))
     goes_on_writing = subst (λ (w : WorldState Carried). GoesOnWriting (pick s start.file_a start.file_b) start.buffer (acked_len (written_by s (at v)).marks) (written_by s w)) (sym (ended v u r))
         (subst (λ n. GoesOnWriting (pick s start.file_a start.file_b) start.buffer n (written_by s (after_steps values r.order (begun v u r)))) same
-        (writers_go_on start (begun v u r) r.order x.mild.fit (begins_so v u r) s (not_going (pick s 0 1) (after_steps values r.order (begun v u r)) (over_then v u r))))
+        (writers_go_on start (begun v u r) r.order mild.fit (begins_so v u r) s (not_going (pick s 0 1) (after_steps values r.order (begun v u r)) (over_then v u r))))
       where
         same : acked_len (written_by s (begun v u r)).marks ≡ acked_len (written_by s (at v)).marks
         same = same_books v u r (λ w. acked_len (written_by s w).marks ≡ acked_len (written_by s (at v)).marks) (λ w is. is) refl
@@ -189,13 +189,13 @@ module _ (start : Start) where
             → min (length (pick s start.file_a start.file_b)) (acked_len (written_by s (at v)).marks + start.buffer) ≤ written_after start s u
         by (GoesOnWriting.whole is closed) = (let all = ap (λ (xs : List ℕ). length xs) is in omega (arith, all))
         by (GoesOnWriting.more low) = omega (arith, low)
-        by (GoesOnWriting.stopped is) = absurd (both_ways _ ((mild_paths_are_never_stopped start plan u x.one x.mild).send s) is)
+        by (GoesOnWriting.stopped is) = absurd (both_ways _ ((sides_are_never_stopped start u mild).send s) is)
 
     pub read : received (arrived_at (peer s) (at v)) ≤ read_after start s u
     read = ⊎_elim
-        (λ all. (let output = (bounds_at start u x.mild s).output in
+        (λ all. (let output = (bounds_at start u mild s).output in
         let out : length (output_of (peer s) (at u)) ≡ length (output_of (peer s) (after_steps values r.order (begun v u r))) = ap (λ (w : WorldState Carried). length (output_of (peer s) w)) (ended v u r) in omega (arith, all, output, out, same)))
-        (λ told. absurd (both_ways _ (subst (λ (w : WorldState Carried). was_told tells_stop (notes_of (peer s) w.crew) ≡ false) (ended v u r) ((mild_paths_are_never_stopped start plan u x.one x.mild).told (peer s))) told))
+        (λ told. absurd (both_ways _ (subst (λ (w : WorldState Carried). was_told tells_stop (notes_of (peer s) w.crew) ≡ false) (ended v u r) ((sides_are_never_stopped start u mild).told (peer s))) told))
         (readers_caught_up values start (begun v u r) r.order (begins_so v u r) (peer s) (not_going (pick (peer s) 0 1) (after_steps values r.order (begun v u r)) (over_then v u r)))
       where
         same : received (arrived_at (peer s) (begun v u r)) ≡ received (arrived_at (peer s) (at v))
@@ -230,10 +230,10 @@ module _ (start : Start) where
       copies_late (round_end values start turns) p.link.under_way later.copies i f there
 
 pub each_round_writes : EachRoundWrites
-each_round_writes start plan v u x r s = wrote start plan x v u r s
+each_round_writes start v u mild r s = wrote start mild v u r s
 
 pub each_round_reads : EachRoundReads
-each_round_reads start plan v u x r s = read start plan x v u r s
+each_round_reads start v u mild r s = read start mild v u r s
 
 -- what is there is a whole file
 pub there_whole : (start : Start) (turns : List Turn) (s : Side) → IsAllThere s (reached values start turns) → length (pick s start.file_a start.file_b) ≤ received (arrived_at (peer s) (reached values start turns))

@@ -43,7 +43,7 @@ use Rattle.whole_paths.specs.Kept.{AreKept, EndsKeepWhatWaits, IsSameRecord, Kee
 use Rattle.whole_paths.specs.Mapped.{EndsAreLive, IsMapped, IsToLearn}
 use Rattle.whole_paths.specs.Mending.{IsAllThereOf, IsThereBy, IsToldBy, IsToldSoon, IsWell}
 use Rattle.whole_paths.specs.Mending.{IsThereBy as there_by, IsToldBy as told_by, IsToldSoon as told_soon, IsWell as well_by}
-use Rattle.whole_paths.specs.Mild.{EndsGoByMappings}
+use Rattle.whole_paths.specs.Mild.{EndsGoByMappings, IsMildStart}
 use Rattle.whole_paths.specs.OnePathScripts.{BeginsWithOnePath}
 use Rattle.whole_paths.specs.OpenCourses.{IsOpenAfter}
 use Rattle.whole_paths.specs.Passed.{HasPassed}
@@ -56,7 +56,7 @@ use Rattle.whole_paths.proofs.Acking.{piece_some}
 use Rattle.whole_paths.proofs.Came.{what_is_acknowledged_came}
 use Rattle.whole_paths.proofs.DataLeft.{IsBegun, each_is_begun}
 use Rattle.whole_paths.proofs.Delivery.{what_is_there_stays}
-use Rattle.whole_paths.proofs.FinishedThere.{what_is_finished_is_there}
+use Rattle.whole_paths.proofs.FinishedThere.{each_finished_is_there}
 use Rattle.whole_paths.proofs.Flying.{same_record, same_said, same_segment}
 use Rattle.whole_paths.proofs.GoingOn.{open_behind}
 use Rattle.whole_paths.proofs.Keeping.{what_waits_is_kept}
@@ -182,7 +182,7 @@ none_passed fin_at edge none behind = true≢false (sym behind ∙ ap (λ o. is_
 
 -- ---- path 0 of a mild connection
 
-module _ (start : Start) (plan : PathPlan) (x : BeginsWithOnePath start plan) where
+module _ (start : Start) (mild : IsMildStart start) where
   abbrev at : List Turn → WorldState Carried
   at turns = reached values start turns
 
@@ -196,7 +196,7 @@ module _ (start : Start) (plan : PathPlan) (x : BeginsWithOnePath start plan) wh
     where
       by : (b : Bool) → may_finish (end_at s p).tcp.state ≡ b → G
       by true may = goes may
-      by false behind = over (of_path turns p (FinishedIsThere (at turns)) here (what_is_finished_is_there start plan turns x.one x.mild 2 here.crew here.there) s
+      by false behind = over (of_path turns p (FinishedIsThere (at turns)) here (each_finished_is_there start turns mild 2 here.crew here.there) s
           (HasFinished.sent_fin (open_behind (end_at s p).tcp.state past living behind) living))
 
   -- where both ends are open
@@ -204,10 +204,10 @@ module _ (start : Start) (plan : PathPlan) (x : BeginsWithOnePath start plan) wh
   if_may G turns p here opened s over goes = if_may_so G turns p here s (opened.past s) (opened.living s) over goes
 
   pub unfinished : (turns : List Turn) (p : PathState Carried) → IsPathAt 0 (at turns) p → (s : Side) → may_finish (end_at s p).tcp.state ≡ true → (end_at s p).tcp.send.finished ≡ false
-  unfinished turns p here s may = (of_path turns p (IsFirstPath start) here (each_first start turns x.mild.plain.size here.crew here.there)).may s may
+  unfinished turns p here s may = (of_path turns p (IsFirstPath start) here (each_first start turns mild.plain.size here.crew here.there)).may s may
 
   pub stays_there : (v u : List Turn) (s : Side) → Between start v u → IsAllThere s (at v) → IsAllThere s (at u)
-  stays_there v u s b h = subst (λ t. IsAllThere s (at t)) (sym b.is) (what_is_there_stays start v b.more x.mild s h)
+  stays_there v u s b h = subst (λ t. IsAllThere s (at t)) (sym b.is) (what_is_there_stays start v b.more mild s h)
 
   pub path_far : (v u : List Turn) (p q : PathState Carried) → Between start v u → IsPathAt 0 (at v) p → IsPathAt 0 (at u) q → IsPathAsFar p q
   path_far v u p q b here there =
@@ -222,9 +222,6 @@ module _ (start : Start) (plan : PathPlan) (x : BeginsWithOnePath start plan) wh
 
   pub came : (turns : List Turn) (p : PathState Carried) → IsPathAt 0 (at turns) p → (s : Side) → is_dead (end_at s p).tcp.state ≡ false → (end_at s p).tcp.send.una ≤ (end_at (peer s) p).tcp.recv.edge
   came turns p here s living = (of_path turns p HasCome here ((what_is_acknowledged_came start turns).each 2 here.crew here.there)).una s living
-
-  pub counts : (turns : List Turn) (p : PathState Carried) → IsPathAt 0 (at turns) p → (s : Side) → CountsBytes (at turns) p s
-  counts turns p here = of_path turns p (λ q. (s : Side) → CountsBytes (at turns) q s) here ((positions_count_bytes start turns plan x.one x.mild).each 2 here.crew here.there)
 
   -- what an end waits for it waits for still as a turn is over, or it is acknowledged
   pub kept : (turns : List Turn) (turn : Turn) (before : IsOpenAfter start turns) (after : IsOpenAfter start (turns ++ turn ∷ [])) (s : Side) → KeepsWhatWaits (end_at s before.path) (end_at s after.path)
@@ -256,7 +253,7 @@ module _ (start : Start) (plan : PathPlan) (x : BeginsWithOnePath start plan) wh
             let has = h.0 in
             let item = has.item in
             let of_data : item.kind ≡ Data = has.holds.kind ∙ kind in
-            let there = there_so s r item by q has.holds ((each_record_stays_well start turns turn (begun start turns turn (record { mild = x.mild; before = before; after = after })) s).comes item by (record { at = has.at; item = item; there = has.there; holds = refl }) of_data (there_so s item r by p (turned r item has.holds) h.1)) in
+            let there = there_so s r item by q has.holds ((each_record_stays_well start turns turn (begun start turns turn (record { mild = mild; before = before; after = after })) s).comes item by (record { at = has.at; item = item; there = has.there; holds = refl }) of_data (there_so s item r by p (turned r item has.holds) h.1)) in
             ⊎_elim
             (λ gone. inr (let low = gone.1 in let end = same_end r item has.holds in omega (arith, low, end)))
             (λ on. inl (record { at = on.at; item = on.item; there = on.there; holds = same_then r item on.item has.holds on.holds }, there))
@@ -300,7 +297,7 @@ module _ (start : Start) (plan : PathPlan) (x : BeginsWithOnePath start plan) wh
       item = found.item
 
       first : IsFirstPath start p
-      first = of_path v p (IsFirstPath start) here (each_first start v x.mild.plain.size here.crew here.there)
+      first = of_path v p (IsFirstPath start) here (each_first start v mild.plain.size here.crew here.there)
 
       of_data : item.kind ≡ Data
       of_data = by item.kind refl
@@ -349,13 +346,13 @@ module _ (start : Start) (plan : PathPlan) (x : BeginsWithOnePath start plan) wh
           let own = all e start_at within in
           let octets : (pos : ℕ) → taker.tcp.recv.edge ≤ pos → pos < end_of item → IsSome (octet_at pos taker.tcp.recv) =
           λ pos above below. (let o = (all pos (omega (arith, above, start_at, edge)) below).0 in ap is_some (kept_octet pos o.0 above o.1)) in
-          let go_by = of_path u q EndsGoByMappings there ((mapping_is_kept start u x.mild).each 2 there.crew there.there) r in
-          let first_q = of_path u q (IsFirstPath start) there (each_first start u x.mild.plain.size there.crew there.there) in
+          let go_by = of_path u q EndsGoByMappings there ((mapping_is_kept start u mild).each 2 there.crew there.there) r in
+          let first_q = of_path u q (IsFirstPath start) there (each_first start u mild.plain.size there.crew there.there) in
           let live = of_path u q EndsAreLive there (((what_is_told_is_known values).live start u).each 2 there.crew there.there) r in
           let passed = (of_path u q HasPassed there ((what_is_in_order_is_passed values start u).each 2 there.crew there.there) r (opened_last.living r)).over still in
           ⊎_elim
           (λ failing. fails go_by.right failing)
-          (λ partial. of_path u q NoneIsPartial there (mappings_are_whole start u x.mild there.crew there.there) s item has of_data partial)
+          (λ partial. of_path u q NoneIsPartial there (mappings_are_whole start u mild there.crew there.there) s item has of_data partial)
           (piece_some r own.0.0 (end_of item) q (omega (arith, within, edge)) octets live
           (subst (λ n. octet_at n taker.tcp.recv ≡ Some own.0.0) edge (kept_octet e own.0.0 (omega (arith, edge)) own.0.1))
           (subst (λ n. IsSome (mapping_at taker.receiving.mappings n)) edge (known_at e (omega (arith, edge)) own.1))
@@ -397,7 +394,7 @@ module _ (start : Start) (plan : PathPlan) (x : BeginsWithOnePath start plan) wh
     edge = (end_at (peer s) p).tcp.recv.edge
 
     follows : IsToldBy s edge (p.clock + 400) p → edge ≤ (end_at s q).tcp.send.una
-    follows h = by (carried start (IsToldBy s edge (p.clock + 400)) (λ turns turn before after. (each_answer_comes_soon start turns turn (begun start turns turn (record { mild = x.mild; before = before; after = after })) s).comes edge (p.clock + 400))
+    follows h = by (carried start (IsToldBy s edge (p.clock + 400)) (λ turns turn before after. (each_answer_comes_soon start turns turn (begun start turns turn (record { mild = mild; before = before; after = after })) s).comes edge (p.clock + 400))
         v told_between.more told_between.stays_open p q here (subst (λ t. IsPathAt 0 (at t) q) told_between.is there) h)
       where
         by : IsToldBy s edge (p.clock + 400) q → edge ≤ (end_at s q).tcp.send.una
@@ -412,7 +409,7 @@ module _ (start : Start) (plan : PathPlan) (x : BeginsWithOnePath start plan) wh
     quiet = (of_path v p HasAnswered here ((copies_are_answered values start v).each 2 here.crew here.there) (done_by.over (silent start v p (over_before start 3 v u rounds) here)) (peer s) (told_open.living (peer s))).ack
 
     unpassed : may_finish (end_at s p).tcp.state ≡ true → is_fin_passed (end_at (peer s) p).tcp ≡ true → ⊥
-    unpassed may behind = none_passed (end_at (peer s) p).tcp.fin_at (end_at (peer s) p).tcp.recv.edge ((of_path v p (IsFirstPath start) here (each_first start v x.mild.plain.size here.crew here.there)).fins s (unfinished v p here s may)) behind
+    unpassed may behind = none_passed (end_at (peer s) p).tcp.fin_at (end_at (peer s) p).tcp.recv.edge ((of_path v p (IsFirstPath start) here (each_first start v mild.plain.size here.crew here.there)).fins s (unfinished v p here s may)) behind
 
     pub tell : IsAllThere s (at u) ⊎ (edge ≤ (end_at s q).tcp.send.una)
     tell = if_may (IsAllThere s (at u) ⊎ (edge ≤ (end_at s q).tcp.send.una)) v p here told_open s (λ all. inl (stays_there v u s told_between all)) (λ may. by may is_told)
@@ -422,8 +419,13 @@ module _ (start : Start) (plan : PathPlan) (x : BeginsWithOnePath start plan) wh
         by may (told_soon.owed due) = absurd (both_ways _ quiet due)
         by may (told_soon.told h) = inr (follows h)
 
+-- over one path
+module _ (start : Start) (plan : PathPlan) (x : BeginsWithOnePath start plan) where
+  pub counts : (turns : List Turn) (p : PathState Carried) → IsPathAt 0 (reached values start turns) p → (s : Side) → CountsBytes (reached values start turns) p s
+  counts turns p here = of_path start x.mild turns p (λ q. (s : Side) → CountsBytes (reached values start turns) q s) here ((positions_count_bytes start turns plan x.one x.mild).each 2 here.crew here.there)
+
 pub four_rounds_bring : FourRoundsBring
-four_rounds_bring start plan v u x rounds s p q here there mended = bring start plan x v u rounds s p q here there mended
+four_rounds_bring start v u mild rounds s p q here there mended = bring start mild v u rounds s p q here there mended
 
 pub four_rounds_tell : FourRoundsTell
-four_rounds_tell start plan v u x rounds s p q here there soon = tell start plan x v u rounds s p q here there soon
+four_rounds_tell start v u mild rounds s p q here there soon = tell start mild v u rounds s p q here there soon

@@ -64,7 +64,7 @@ module _ (start : Start) (plan : PathPlan) (most : ℕ) (one : start.paths ≡ p
 
     waits : (counted values start since < counted values start u) ⊎ AwaitsAWindow IsHalted start (round_end values start v + 60800) u
     waits = ⊎_elim
-        (λ rises. inl (let same = ap (counted values start) step.is in let still = no_round_counts start v step.over in omega (arith, rises, same, still)))
+        (λ rises. inl (let same = ap (counted values start) step.is in let still = no_round_counts start 0 v step.over in omega (arith, rises, same, still)))
         (λ room. inr (windows.begins v u step tt (record {
           path = p;
           here = h.sender.here;

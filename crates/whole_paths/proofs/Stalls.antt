@@ -73,7 +73,7 @@ module _ (start : Start) (plan : PathPlan) (x : BeginsWithOnePath start plan) (s
   opened_first = let o = open_first start v to_a.more to_a.stays_open in subst IsOpen (path_is (at v) o.path p o.here here) o.is_open
 
   stays : (t : List Turn) → Between start t u → IsAllThere s (at t) → Goal
-  stays t more all = GoesOnOrStalls.there (stays_there start plan x t u s more all)
+  stays t more all = GoesOnOrStalls.there (stays_there start x.mild t u s more all)
 
   module _ (heard : (end_at (peer s) p).tcp.recv.edge ≤ (end_at s told_path.path).tcp.send.una) (acked : received (arrived_at (peer s) (at v)) ≤ acked_len (written_by s (at a)).marks)
       (may_first : may_finish (end_at s p).tcp.state ≡ true) (may : may_finish (end_at s q).tcp.state ≡ true)
@@ -85,7 +85,7 @@ module _ (start : Start) (plan : PathPlan) (x : BeginsWithOnePath start plan) (s
     lined = is_reached start plan x s u q there opened third.over may
 
     una : (end_at (peer s) p).tcp.recv.edge ≤ (end_at s q).tcp.send.una
-    una = let up = una_up start plan x s told_path.path q (path_far start plan x a u told_path.path q a_to_u told_path.here there) in omega (arith, heard, up)
+    una = let up = una_up start x.mild s told_path.path q (path_far start x.mild a u told_path.path q a_to_u told_path.here there) in omega (arith, heard, up)
 
     no_records : (end_at s q).tcp.send.records ≡ []
     no_records = by (end_at s q).tcp.send.records refl
@@ -111,8 +111,8 @@ module _ (start : Start) (plan : PathPlan) (x : BeginsWithOnePath start plan) (s
     -- all that is written is acknowledged: so it is the whole file
     whole : length (written_by s (begun start b u third)).written < sent_up_to (end_at s q).tcp.send → Goal
     whole more =
-        let wrote_so = wrote start plan x a b second s in
-        let exact = (counts start plan x v p here s).exact (unfinished start plan x v p here s may_first) in
+        let wrote_so = wrote start x.mild a b second s in
+        let exact = (counts start plan x v p here s).exact (unfinished start x.mild v p here s may_first) in
         let same = same_written in
         let buffer = x.buffer in
         let low = acked_low start plan a x s in
@@ -124,12 +124,12 @@ module _ (start : Start) (plan : PathPlan) (x : BeginsWithOnePath start plan) (s
     stalls (IsPushed.shut is more) = GoesOnOrStalls.shut no_records is
 
   goes_or_stalls : Goal
-  goes_or_stalls = if_may start plan x Goal v p here opened_first s (stays v (then_between start v a u to_a a_to_u)) (λ may_first. ⊎_elim (stays a a_to_u)
-      (λ heard. ⊎_elim (stays a a_to_u) (λ acked. if_may start plan x Goal u q there opened s (λ all. GoesOnOrStalls.there all) (λ may. ⊎_elim (λ more. GoesOnOrStalls.comes more)
+  goes_or_stalls = if_may start x.mild Goal v p here opened_first s (stays v (then_between start v a u to_a a_to_u)) (λ may_first. ⊎_elim (stays a a_to_u)
+      (λ heard. ⊎_elim (stays a a_to_u) (λ acked. if_may start x.mild Goal u q there opened s (λ all. GoesOnOrStalls.there all) (λ may. ⊎_elim (λ more. GoesOnOrStalls.comes more)
       (λ none. ⊎_elim (λ more. GoesOnOrStalls.flies more) (λ all. stalls heard acked may_first may none all (pushed heard acked may_first may none all)) (cases_lt (end_at (peer s) q).tcp.recv.edge (sent_up_to (end_at s q).tcp.send)))
       (cases_lt (end_at (peer s) p).tcp.recv.edge (end_at (peer s) q).tcp.recv.edge)))
       (four_rounds_acknowledge start plan v a x first s p here told))
-      (tell start plan x v a first s p told_path.path here told_path.here told))
+      (tell start x.mild v a first s p told_path.path here told_path.here told))
 
 pub who_stalls_is_shut : WhoStallsIsShut
 who_stalls_is_shut start plan x s v a b u first second third p q here there told = goes_or_stalls start plan x s v a b u first second third p q here there told

@@ -68,9 +68,9 @@ module _ {C : Type 0} (k : Codec C) (w : WorldState C) (more : List Turn) where
   later = world_run k more w
 
   -- isn't whole
-  pub dead_not_whole : AnEndDied 0 w → IsWhole 0 later → ⊥
-  dead_not_whole died whole =
-      let found = (goes_on_so k w more).crew 2 died.here.crew died.here.there in
+  pub dead_not_whole : {number : ℕ} → AnEndDied number w → IsWhole number later → ⊥
+  dead_not_whole {number} died whole =
+      let found = (goes_on_so k w more).crew (2 + number) died.here.crew died.here.there in
       let same : found.0 ≡ whole.here.crew = same_Some found.0 whole.here.crew (sym found.1 ∙ whole.here.there) in
       let far : IsActorAsFar (Path died.path) (Path whole.path) = subst (λ m. IsActorAsFar m (Path whole.path)) died.here.is
       (subst (λ m. IsActorAsFar died.here.crew.member m) (ap (λ (c : ActorCrew C). c.member) same ∙ whole.here.is) found.2.member) in

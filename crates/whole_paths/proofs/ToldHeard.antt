@@ -39,7 +39,7 @@ module _ (start : Start) (plan : PathPlan) (Well : List Turn → Type 0) (x : Be
   acked : IsAllThere s (at u) ⊎ (received (arrived_at (peer s) (at v)) ≤ acked_len (written_by s (at u)).marks)
   acked = ⊎_elim
       (λ told. ⊎_elim (λ all. inl all) (λ low. inr (let up = received_up in omega (arith, low, up))) (four_rounds_acknowledge start plan m u x (rounds_of start Well 4 m u part.rest) s soon.path soon.here told))
-      (λ all. inl (stays_there start plan x m u s (between start 3 m u (rounds_of start Well 4 m u part.rest)) all))
+      (λ all. inl (stays_there start x.mild m u s (between start 3 m u (rounds_of start Well 4 m u part.rest)) all))
       soon.told
 
   is_heard : IsAllThere s (at u) ⊎ IsHeard start plan s v u

@@ -77,7 +77,7 @@ use Rattle.whole_paths.proofs.ToldEdges.{told_low, what_is_told_goes_on}
 use Rattle.whole_paths.proofs.ToldRounds.{each_round_asks}
 use Rattle.whole_paths.proofs.ToldStays.{who_is_told_stays_told}
 use Rattle.whole_paths.proofs.TurnsBegin.{each_is_at_turn, each_turn_begins, none_is_its_peer}
-use Rattle.whole_paths.proofs.WindowRoom.{each_window_has_room}
+use Rattle.whole_paths.proofs.WindowRoom.{each_window_has_room, one_path_is_roomy}
 use Rattle.whole_paths.proofs.WindowsAssured.{windows_are_assured}
 
 -- ---- what is assured to a place is so to each place before it
@@ -174,11 +174,11 @@ module _ (start : Start) (plan : PathPlan) (one : BeginsWithOnePath start plan) 
   size turns = sizes_stay values start turns far
 
   exact : (turns : List Turn) (p : PathState Carried) → IsPathAt 0 (at turns) p → IsOpen p → IsAllThere s (at turns) ⊎ ((end_at far p).tcp.recv.edge ≡ suc (received (book turns)))
-  exact turns p here is_open = if_may start plan one (IsAllThere s (at turns) ⊎ ((end_at far p).tcp.recv.edge ≡ suc (received (book turns)))) turns p here is_open s (λ all. inl all)
-      (λ may. inr ((counts start plan one turns p here s).exact (unfinished start plan one turns p here s may)))
+  exact turns p here is_open = if_may start one.mild (IsAllThere s (at turns) ⊎ ((end_at far p).tcp.recv.edge ≡ suc (received (book turns)))) turns p here is_open s (λ all. inl all)
+      (λ may. inr ((counts start plan one turns p here s).exact (unfinished start one.mild turns p here s may)))
 
   profile : (turns : List Turn) (p : PathState Carried) → IsPathAt 0 (at turns) p → p.profile ≡ (path_begins start 0 plan).profile
-  profile turns p here = of_path start plan one turns p (λ z. z.profile ≡ (path_begins start 0 plan).profile) here (only_profile start plan turns one.one one.mild 2 here.crew here.there)
+  profile turns p here = of_path start one.mild turns p (λ z. z.profile ≡ (path_begins start 0 plan).profile) here (only_profile start plan turns one.one one.mild 2 here.crew here.there)
 
   -- the end knows that a buffer is taken, or asks before it sends
   abbrev OffersFirst : SixBooks → PathState Carried → Type 0
@@ -210,7 +210,7 @@ module _ (start : Start) (plan : PathPlan) (one : BeginsWithOnePath start plan) 
 
   module _ (turns : List Turn) (p : PathState Carried) (here : IsPathAt 0 (at turns) p) (is_open : IsOpen p) where
     knows : KnowsWhatCame (six turns) p
-    knows = of_path start plan one turns p (KnowsWhatCame (six turns)) here ((each_data_ack_is_up_to_date values start turns plan one.one).each 2 here.crew here.there)
+    knows = of_path start one.mild turns p (KnowsWhatCame (six turns)) here ((each_data_ack_is_up_to_date values start turns plan one.one).each 2 here.crew here.there)
 
     sends_window : (x : ToSend) → first_sends p.agenda p ≡ Some x → x.from ≡ far → (segment_sent p x).rst ≡ false → SendsWindow turns p
     sends_window x sends own rst = record {
@@ -293,7 +293,7 @@ module _ (start : Start) (plan : PathPlan) (one : BeginsWithOnePath start plan) 
     there_q = subst (λ (w : WorldState Carried). IsPathAt 0 w q) (last start one.mild turns turn) here_q
 
     told_stays : ToldStays s p q
-    told_stays = who_is_told_stays_told start plan turns turn one h s
+    told_stays = who_is_told_stays_told start turns turn (one_path_is_roomy start plan one) h s
 
     turns_begin : TurnBeginsOn (six later) far p q
     turns_begin = at_turn start turns turn p q here_p here_q TurnsBeginOn (each_turn_begins values) far
@@ -308,7 +308,7 @@ module _ (start : Start) (plan : PathPlan) (one : BeginsWithOnePath start plan) 
     updates_so = (what_is_told_goes_on start turns turn p q here_p there_q far).1
 
     assured_on : (g : ℕ) → IsAssured (six later) s g (p.clock + 400) q → Assured g later q
-    assured_on g is = assured_later (six later) s g (p.clock + 400) (q.clock + 400) q (let up = clock start plan one turns turn h s in omega (arith, up)) is
+    assured_on g is = assured_later (six later) s g (p.clock + 400) (q.clock + 400) q (let up = clock start (one_path_is_roomy start plan one) turns turn h s in omega (arith, up)) is
 
     goes_on : (g : ℕ) → Assured g turns p → Assured g later q
     goes_on g is = assured_on g ((windows_are_assured start plan turns turn one h s (open_turn.before.is_open.clear far)).comes g (p.clock + 400) is)
@@ -319,8 +319,8 @@ module _ (start : Start) (plan : PathPlan) (one : BeginsWithOnePath start plan) 
     -- RCV.NXT of the end stays, or it owes an answer, or all is there
     rises : (f.tcp.recv.edge ≡ e.tcp.recv.edge → Told later q) → Told later q
     rises on = ⊎_elim
-        (λ more. ⊎_elim (λ due. owes due) (λ past. all_came (past_is_there start plan one later q here_q s open_turn.after.is_open past)) (told_stays.more more))
-        (λ few. on (let up = edge_up start plan one turns turn h s far in omega (arith, few, up)))
+        (λ more. ⊎_elim (λ due. owes due) (λ past. all_came (past_is_there start one.mild later q here_q s open_turn.after.is_open past)) (told_stays.more more))
+        (λ few. on (let up = edge_up start (one_path_is_roomy start plan one) turns turn h s far in omega (arith, few, up)))
         (cases_lt e.tcp.recv.edge f.tcp.recv.edge)
 
     read_on : (bound : ℕ) → f.tcp.recv.edge ≡ e.tcp.recv.edge → IsRead turns bound p → (IsRead later bound q → Told later q) → Told later q
@@ -387,7 +387,7 @@ module _ (start : Start) (plan : PathPlan) (one : BeginsWithOnePath start plan) 
         by (owing.has_died gone) = absurd (both_ways (is_dead f.tcp.state) living_q gone)
         by (owing.is_sent d others first on side x sends own) = answer_goes due d others first on side x sends own
         by (owing.is_done is) = absurd (both_ways e.tcp.due.ack
-            ((of_path start plan one turns p HasAnswered here_p ((copies_are_answered values start turns).each 2 here_p.crew here_p.there)) is far (open_turn.before.is_open.living far)).ack due)
+            ((of_path start one.mild turns p HasAnswered here_p ((copies_are_answered values start turns).each 2 here_p.crew here_p.there)) is far (open_turn.before.is_open.living far)).ack due)
         by (owing.rests same) = owes (subst (λ (y : PathState Carried). (end_at far y).tcp.due.ack ≡ true) (sym same) due)
 
     updates_next : (others : List Duty) → p.agenda ≡ duties.Send (send_duties.Update far) ∷ others → Told later q
@@ -487,11 +487,11 @@ module _ (start : Start) (plan : PathPlan) (one : BeginsWithOnePath start plan) 
 
     told_at : Told w p → Goal
     told_at (owes due) = absurd (both_ways (end_at far p).tcp.due.ack
-        ((of_path start plan one w p HasAnswered here ((copies_are_answered values start w).each 2 here.crew here.there)) (IsDone.over over) far (is_open.living far)).ack due)
+        ((of_path start one.mild w p HasAnswered here ((copies_are_answered values start w).each 2 here.crew here.there)) (IsDone.over over) far (is_open.living far)).ack due)
     told_at (updates others is) = absurd (let none : [] ≡ duties.Send (send_duties.Update far) ∷ others = sym over ∙ is in cc)
     told_at (tells g x) = less g (let asks = each_round_asks start plan s v w one round p here in let low = x.offer_low in let segment = one.size in let room = one.buffer in omega (arith, asks, low, segment, room)) x.assured
     told_at (enough g is low) = less g
-        (let reads = each_round_reads start plan v w one round s in let came = (counts start plan one w p here s).came in let past : (book w).read ≤ received (book w) = omega arith in
+        (let reads = each_round_reads start v w one.mild round s in let came = (counts start plan one w p here s).came in let past : (book w).read ≤ received (book w) = omega arith in
         let before : read_after start s v ≤ received (arrived_at far (at v)) = omega arith in omega (arith, reads, came, past, before, low)) is
     told_at (all_came all) = inl all
 

@@ -7,29 +7,28 @@ use Rattle.sides.specs.Side.{peer}
 use Rattle.subflow_tcp.specs.State.{is_fin_passed}
 use Rattle.path_core.specs.State.{PathState, end_at}
 use Rattle.path_core.specs.Values.{Carried, values}
-use Rattle.world_laws.specs.Openings.{PathPlan, Start}
+use Rattle.world_laws.specs.Openings.{Start}
 use Rattle.world_laws.specs.RoundDone.{reached}
 use Rattle.world_laws.specs.Worlds.{Turn, WorldState, after_turn}
 use Rattle.whole_paths.specs.Finish.{is_harmed}
 use Rattle.whole_paths.specs.Mending.{AnswersStay, IsToldBy, IsToldSoon}
 use Rattle.whole_paths.specs.Mending.{IsToldBy as told_by}
 use Rattle.whole_paths.specs.Mending.{IsToldSoon as told_soon}
-use Rattle.whole_paths.specs.OnePathScripts.{BeginsWithOnePath}
 use Rattle.whole_paths.specs.OpenCourses.{IsNow}
 use Rattle.whole_paths.specs.ToldStays.{ToldStays, WhoIsToldStaysTold}
+use Rattle.whole_paths.specs.WindowRoom.{IsRoomy}
 use Rattle.whole_paths.proofs.FinPlaces.{FinsStay, FinsStayMember, fins_stay, still_past}
 use Rattle.whole_paths.proofs.MoreOwed.{what_rises_is_owed}
 use Rattle.whole_paths.proofs.RecordWaits.{edge_up, last}
 use Rattle.whole_paths.proofs.RecordsWell.{by_turn, each_record_stays_well}
 use Rattle.whole_paths.proofs.ToldSoon.{each_answer_comes_soon}
-use Rattle.whole_paths.proofs.WindowRoom.{each_window_has_room}
 use Rattle.whole_paths.specs.Straying.{IsOpenFrom}
 
 pub told_later : (s : Side) (position first later : ℕ) (p : PathState Carried) → first ≤ later → IsToldBy s position first p → IsToldBy s position later p
 told_later s position first later p low (told_by.heard h) = told_by.heard h
 told_later s position first later p low (told_by.comes copy there answers soon) = told_by.comes copy there answers (omega (arith, soon, low))
 
-module _ (start : Start) (plan : PathPlan) (x : BeginsWithOnePath start plan) (turns : List Turn) (turn : Turn) (before : IsNow (IsOpenFrom B) (reached values start turns)) (s : Side) where
+module _ (start : Start) (x : IsRoomy start) (turns : List Turn) (turn : Turn) (before : IsNow (IsOpenFrom B) (reached values start turns)) (s : Side) where
   abbrev w : WorldState Carried
   w = reached values start turns
 
@@ -63,7 +62,7 @@ module _ (start : Start) (plan : PathPlan) (x : BeginsWithOnePath start plan) (t
         (cases_lt (end_at t p).tcp.recv.edge (end_at t q).tcp.recv.edge)
 
     owed : (end_at t p).tcp.due.ack ≡ true → Owed
-    owed due = ⊎_elim (λ still. inl still) (λ goes. ⊎_elim (λ harmed. inr (inr (inl harmed))) (λ h. told_up h) goes) (answers.owed (each_window_has_room start plan turns x p before.here before.is_open s) due)
+    owed due = ⊎_elim (λ still. inl still) (λ goes. ⊎_elim (λ harmed. inr (inr (inl harmed))) (λ h. told_up h) goes) (answers.owed (x.room turns p before.here before.is_open.living s) due)
 
     owed_soon : Owed → (is_harmed t p q ≡ true) ⊎ IsToldSoon s q
     owed_soon (inl due) = inr (told_soon.owed due)
@@ -80,6 +79,6 @@ module _ (start : Start) (plan : PathPlan) (x : BeginsWithOnePath start plan) (t
     stays = record { comes = answers.comes; owed = owed; more = more; soon = soon }
 
 pub who_is_told_stays_told : WhoIsToldStaysTold
-who_is_told_stays_told start plan turns turn x h s =
+who_is_told_stays_told start turns turn x h s =
     subst (λ (u : WorldState Carried). (a : IsNow (IsOpenFrom B) u) → AnswersStay s h.before.path a.path → h.before.path.clock ≤ a.path.clock → ToldStays s h.before.path a.path) (sym (last start h.mild turns turn))
-    (λ a answers clock. stays start plan x turns turn h.before s a answers clock) h.after (each_answer_comes_soon start turns turn h s) (each_record_stays_well start turns turn h s).clock
+    (λ a answers clock. stays start x turns turn h.before s a answers clock) h.after (each_answer_comes_soon start turns turn h s) (each_record_stays_well start turns turn h s).clock

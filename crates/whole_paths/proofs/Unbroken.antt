@@ -72,7 +72,7 @@ use Rattle.whole_paths.proofs.Agendas.{answered_follows}
 abbrev pub Calm : List Duty → Type 0
 Calm ds = list_any is_harsh ds ≡ false
 
-behind_calm : (d : Duty) (ds : List Duty) → Calm (d ∷ ds) → Calm ds
+pub behind_calm : (d : Duty) (ds : List Duty) → Calm (d ∷ ds) → Calm ds
 behind_calm d ds h = (or_parts (is_harsh d) (list_any is_harsh ds) h).1
 
 -- ---- replies
@@ -96,7 +96,7 @@ set_so (Some e) at is = absurd (true≢false is)
 
 -- ---- events
 
-heard_calm : (s : Side) (from count : ℕ) (ds : List Duty) → Calm ds → Calm (heard_and s from count ds)
+pub heard_calm : (s : Side) (from count : ℕ) (ds : List Duty) → Calm ds → Calm (heard_and s from count ds)
 heard_calm s from zero ds h = h
 heard_calm s from (suc count) ds h = heard_calm s (from + 1) count ds h
 
@@ -112,7 +112,7 @@ copy_calm : (s : Side) (o : Option HeardSegment) (p : PathState Carried) → is_
 copy_calm s None p first = refl
 copy_calm s (Some x) p first = template_calm (is_joined p.profile) first s (options_heard (end_at s p) x) (end_at s p)
 
-line_calm : (action : LineAction) (p : PathState Carried) → Calm (after_line action p).agenda
+pub line_calm : (action : LineAction) (p : PathState Carried) → Calm (after_line action p).agenda
 line_calm actions.Die p = by (is_dead p.a.tcp.state) (is_dead p.b.tcp.state)
   where
     by : (a b : Bool) → Calm ((if a then [] else duties.Ask (ask_duties.Leave A) ∷ []) ++ ((if b then [] else duties.Ask (ask_duties.Leave B) ∷ []) ++ rest_of_turn))
@@ -124,7 +124,7 @@ line_calm (actions.Prio s backup) p = refl
 line_calm (actions.Announce s id) p = refl
 line_calm (actions.Withdraw s id) p = refl
 
-begun_calm : (r : Reply) (dead living : List Duty) (p : PathState Carried) → Calm dead → Calm living → Calm (join_begun r dead living p).agenda
+pub begun_calm : (r : Reply) (dead living : List Duty) (p : PathState Carried) → Calm dead → Calm living → Calm (join_begun r dead living p).agenda
 begun_calm r dead living p one other = elim (is_never r) as (λ b. Calm (if b then goes_on A (never_joined r p.a) dead p else goes_on A (opened_by (keys_begun r) p.a) living p).agenda) [ true ↦ one | false ↦ other ]
 
 event_calm : (o : Option Event) (r : Reply) (p : PathState Carried) → is_joined p.profile ≡ false → Calm (happens_if values o r p).agenda
@@ -151,7 +151,8 @@ follow_calm s gone d ds es treats may h (follows.over both) = refl
 -- ---- what is known as a duty comes first
 
 pub record Known (d : Duty) (p : PathState Carried) : Type 0 where
-  pub first : is_joined p.profile ≡ false
+  -- an event comes to path 0
+  pub first : d ≡ duties.Step step_duties.Events → is_joined p.profile ≡ false
   pub stood : stands d p ≡ true
   pub asks : IsCalm (ask_for values d p)
   pub agrees : (s : Side) → is_clash (end_at s p) ≡ false
@@ -226,9 +227,9 @@ pub no_plain_ack : (c : Profile) (e : PathEnd) → e.treated.plain_ack ≡ false
 no_plain_ack c e none = ap (λ (b : Bool). ((b && not (sends_plainly e.modes)) && ((is_joined c && not e.modes.covered) || (is_sure e.modes.mode && nat_le 2 e.modes.plain_acks)))
     || ((b && not (sends_plainly e.modes)) && is_starting e.modes.mode)) none
 
-duty_calm : (six : SixBooks) (d : Duty) (ds : List Duty) (p : PathState Carried) → Known d (with_agenda (d ∷ ds) p) → let x = with_agenda (d ∷ ds) p in let r = reply_of six (ask_for values d x) in
+pub duty_calm : (six : SixBooks) (d : Duty) (ds : List Duty) (p : PathState Carried) → Known d (with_agenda (d ∷ ds) p) → let x = with_agenda (d ∷ ds) p in let r = reply_of six (ask_for values d x) in
     tells_refusal r ≡ false → Calm (d ∷ ds) → Calm (answered values d r x).agenda
-duty_calm six (duties.Step step_duties.Events) ds p known fine h = let x = with_agenda (duties.Step step_duties.Events ∷ ds) p in event_calm (next_event x) _ x known.first
+duty_calm six (duties.Step step_duties.Events) ds p known fine h = let x = with_agenda (duties.Step step_duties.Events ∷ ds) p in event_calm (next_event x) _ x (known.first refl)
 duty_calm six (duties.Ask (ask_duties.PlainHandshake s)) ds p known fine h = absurd known.asks
 duty_calm six (duties.Ask (ask_duties.PlainData s)) ds p known fine h = absurd known.asks
 duty_calm six (duties.Ask (ask_duties.PeerKey s)) ds p known fine h = key_calm six (duties.Ask (ask_duties.PeerKey s)) ds p s (key_heard (end_at s p).treated.items) known.asks _ h
@@ -254,7 +255,7 @@ duty_calm six d ds p known fine h =
 
 -- ---- a turn
 
-settled_calm : (ds : List Duty) (p : PathState Carried) → Calm ds → Calm (settled ds p).agenda
+pub settled_calm : (ds : List Duty) (p : PathState Carried) → Calm ds → Calm (settled ds p).agenda
 settled_calm [] p h = refl
 settled_calm (d ∷ ds) p h = elim (stands d p) as (λ b. Calm (if b then with_agenda (d ∷ ds) p else settled ds (passed d p)).agenda) [ true ↦ h | false ↦ settled_calm ds (passed d p) (behind_calm d ds h) ]
 

@@ -287,10 +287,10 @@ module _ (start : Start) (plan : PathPlan) (x : BeginsWithOnePath start plan) wh
     has_all : (s : Side) → IsAllThere s (at a) → HasAllUnits s v ⊎ (units_of s v < units_of s u)
     has_all s there =
         let last : List Turn = a_part.rest.0 in
-        let before = stays_there start plan x a last s (between start 12 a last (rounds_of start Well 13 a last a_part.rest.1.0)) there in
-        let after = stays_there start plan x a u s (between start 13 a u (rounds_of start Well 14 a u a_part.rest)) there in
+        let before = stays_there start x.mild a last s (between start 12 a last (rounds_of start Well 13 a last a_part.rest.1.0)) there in
+        let after = stays_there start x.mild a u s (between start 13 a u (rounds_of start Well 14 a u a_part.rest)) there in
         let whole = there_whole start last s before in
-        let read = each_round_reads start plan last u x a_part.rest.1.1.0 s in
+        let read = each_round_reads start last u x.mild a_part.rest.1.1.0 s in
         let full = all_units u s (omega (arith, whole, read)) after.closed (ap (λ o. is_some o) after.known) in
         ⊎_elim (λ less. inr (omega (arith, full, less))) (λ all. inl all) (cases_lt (units_of s v) (segments plan.mss (length (pick s start.file_a start.file_b)) + 2))
 

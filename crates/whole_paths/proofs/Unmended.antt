@@ -33,6 +33,7 @@ use Rattle.whole_paths.proofs.Losing.{harms_alone_lose_records}
 use Rattle.whole_paths.proofs.RecordWaits.{path_is}
 use Rattle.whole_paths.proofs.RecordsWell.{each_record_stays_well}
 use Rattle.whole_paths.proofs.ToldStays.{told_later, who_is_told_stays_told}
+use Rattle.whole_paths.proofs.WindowRoom.{one_path_is_roomy}
 
 -- ---- what the peer is told
 
@@ -125,7 +126,7 @@ module _ (s : Side) (p q : PathState Carried) (clock : p.clock ≤ q.clock) (los
 
 pub harms_alone_are_owed : HarmsAloneAreOwed
 harms_alone_are_owed start plan turns turn one h s =
-    owes_no_more s p q (each_record_stays_well start turns turn (begun start turns turn h) s).clock (harms_alone_lose_records start turns turn (begun start turns turn h) s) (who_is_told_stays_told start plan turns turn one (begun start turns turn h) (peer s)) edges fins
+    owes_no_more s p q (each_record_stays_well start turns turn (begun start turns turn h) s).clock (harms_alone_lose_records start turns turn (begun start turns turn h) s) (who_is_told_stays_told start turns turn (one_path_is_roomy start plan one) (begun start turns turn h) (peer s)) edges fins
   where
     p : PathState Carried
     p = h.before.path

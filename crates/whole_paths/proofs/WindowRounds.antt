@@ -5,12 +5,12 @@ use Rattle.sides.specs.Side.{peer}
 use Rattle.actor_desk.specs.Books.{books_in}
 use Rattle.path_core.specs.State.{PathState, end_at}
 use Rattle.path_core.specs.Values.{Carried, values}
-use Rattle.world_laws.specs.Openings.{PathPlan, Start}
+use Rattle.world_laws.specs.Openings.{Start}
 use Rattle.world_laws.specs.Promises.{written_by}
 use Rattle.world_laws.specs.RoundDone.{reached}
 use Rattle.world_laws.specs.Worlds.{Turn, WorldState}
 use Rattle.whole_paths.specs.Finish.{IsPathAt}
-use Rattle.whole_paths.specs.OnePathScripts.{BeginsWithOnePath}
+use Rattle.whole_paths.specs.Mild.{IsMildStart}
 use Rattle.whole_paths.specs.OpenCourses.{IsOpenAfter}
 use Rattle.whole_paths.specs.SegmentRounds.{Rounds, StaysOpen}
 use Rattle.whole_paths.specs.WindowsComing.{FourRoundsOpen, WindowIsTold}
@@ -36,7 +36,7 @@ module _ (start : Start) where
       (carried_with P goes (turns ++ turn ∷ []) more h.1 next.path q next.here (subst (λ t. IsPathAt 0 (at t) q) (sym (append_assoc turns (turn ∷ []) more)) there)
       (goes turns turn h.0 next (subst (P turns) (path_is (at turns) p h.0.path here h.0.here) so)))
 
-module _ (start : Start) (plan : PathPlan) (x : BeginsWithOnePath start plan) (v u : List Turn) (rounds : Rounds start 4 v u) (s : Side) (p q : PathState Carried)
+module _ (start : Start) (mild : IsMildStart start) (v u : List Turn) (rounds : Rounds start 4 v u) (s : Side) (p q : PathState Carried)
     (here : IsPathAt 0 (reached values start v) p) (there : IsPathAt 0 (reached values start u) q) (position edge : ℕ) where
   on_the_way : Between start v u
   on_the_way = between start 3 v u rounds
@@ -46,7 +46,7 @@ module _ (start : Start) (plan : PathPlan) (x : BeginsWithOnePath start plan) (v
 
   told_then : Told v p → Told u q
   told_then h = subst (λ t. Told t q) (sym on_the_way.is)
-      (carried_with start Told (λ turns turn before after. (windows_come_soon start turns turn (begun start turns turn (record { mild = x.mild; before = before; after = after })) s).comes position edge (p.clock + 400))
+      (carried_with start Told (λ turns turn before after. (windows_come_soon start turns turn (begun start turns turn (record { mild = mild; before = before; after = after })) s).comes position edge (p.clock + 400))
       v on_the_way.more on_the_way.stays_open p q here (subst (λ t. IsPathAt 0 (reached values start t) q) on_the_way.is there) h)
 
   opens : Told u q → (edge ≤ (written_by s (reached values start u)).edge) ⊎ (position < (end_at (peer s) q).tcp.send.nxt)
@@ -61,4 +61,4 @@ module _ (start : Start) (plan : PathPlan) (x : BeginsWithOnePath start plan) (v
       let all = rounds_later start 4 v u rounds in absurd (omega (arith, tick, clock, first_tick, same, all))
 
 pub four_rounds_open : FourRoundsOpen
-four_rounds_open start plan v u x rounds s p q here there position edge h = opens start plan x v u rounds s p q here there position edge (told_then start plan x v u rounds s p q here there position edge h)
+four_rounds_open start v u mild rounds s p q here there position edge h = opens start mild v u rounds s p q here there position edge (told_then start mild v u rounds s p q here there position edge h)

@@ -48,6 +48,7 @@ use Rattle.whole_paths.proofs.SegmentRounds.{four_rounds_bring, of_path, path_fa
 use Rattle.whole_paths.proofs.Sent.{what_came_was_sent}
 use Rattle.whole_paths.proofs.Stalls.{who_stalls_is_shut}
 use Rattle.whole_paths.proofs.UnitRounds.{goes_on, rounds_of, well_before}
+use Rattle.whole_paths.proofs.WindowRoom.{one_path_is_roomy}
 
 -- an ask comes by its tick after the round's end
 probe_low : (s : Side) (by until : ℕ) (p : PathState Carried) → ProbeGoesBy s by until p → until + 400 ≤ by
@@ -107,7 +108,7 @@ module _ (start : Start) (plan : PathPlan) (most : ℕ) (s : Side) (count : List
 
     by_harm : is_harmed s p q ≡ true → count turns < count later
     by_harm harmed =
-        let more = harms.rises turns turn (begun start turns turn open_turn) in let is = harms_so start plan one turns turn (begun start turns turn open_turn) s in let once = ap one_if harmed in omega (arith, more, is, once)
+        let more = harms.rises turns turn (begun start turns turn open_turn) in let is = harms_so start (one_path_is_roomy start plan one) turns turn (begun start turns turn open_turn) s in let once = ap one_if harmed in omega (arith, more, is, once)
 
     at_p : (edge : ℕ) → Edge edge turns → (end_at t p).tcp.recv.edge ≡ edge
     at_p edge r = subst (λ (z : PathState Carried). (end_at t z).tcp.recv.edge ≡ edge) (path_is (reached values start turns) r.path p r.here before.here) r.is
@@ -115,7 +116,7 @@ module _ (start : Start) (plan : PathPlan) (most : ℕ) (s : Side) (count : List
     -- as RCV.NXT of the peer rises it owes an acknowledgement
     edge_on : (edge : ℕ) → Edge edge turns → Holds later ⊎ Edge edge later
     edge_on edge r = ⊎_elim
-        (λ more. inl (⊎_elim (λ due. meets.owed later after due) (λ past. meets.there later after (past_is_there start plan one later q after.here s after.is_open past)) ((stays start plan one turns turn (begun start turns turn open_turn) s).more more)))
+        (λ more. inl (⊎_elim (λ due. meets.owed later after due) (λ past. meets.there later after (past_is_there start one.mild later q after.here s after.is_open past)) ((stays start (one_path_is_roomy start plan one) turns turn (begun start turns turn open_turn) s).more more)))
         (λ few. inr (record { path = q; here = after.here; is = (let up = edge_up in let is = at_p edge r in omega (arith, few, up, is)) }))
         (cases_lt (end_at t p).tcp.recv.edge (end_at t q).tcp.recv.edge)
 
@@ -223,9 +224,9 @@ module _ (start : Start) (plan : PathPlan) (most : ℕ) (s : Side) (count : List
 
       was_none : IsSentPast start s edge v → (end_at s here_now).tcp.send.records ≡ [] → ⊥
       was_none past none =
-          let all = none_left (end_at s here_now).tcp (of_path start plan one turns here_now EndsAreReached before.here ((each_is_reached values start turns).each 2 before.here.crew before.here.there) s) none in
-          let came = (of_path start plan one turns here_now HasCome before.here ((what_is_acknowledged_came start turns).each 2 before.here.crew before.here.there)).una s (before.is_open.living s) in
-          let far_path = path_far start plan one v turns past.path here_now (between start 5 v turns (rounds_of start Well 6 v turns rounds)) past.here before.here in
+          let all = none_left (end_at s here_now).tcp (of_path start one.mild turns here_now EndsAreReached before.here ((each_is_reached values start turns).each 2 before.here.crew before.here.there) s) none in
+          let came = (of_path start one.mild turns here_now HasCome before.here ((what_is_acknowledged_came start turns).each 2 before.here.crew before.here.there)).una s (before.is_open.living s) in
+          let far_path = path_far start one.mild v turns past.path here_now (between start 5 v turns (rounds_of start Well 6 v turns rounds)) past.here before.here in
           let up = nxt_far s past.path here_now far_path in let more = past.more in let is = reached_now in omega (arith, all, came, up, more, is)
 
       of_stall : GoesOnOrStalls start s well_v.path here_now turns → Then x
@@ -242,7 +243,7 @@ module _ (start : Start) (plan : PathPlan) (most : ℕ) (s : Side) (count : List
       six_on : Then x
       six_on = ⊎_elim
           (λ soon. of_stall (who_stalls_is_shut start plan one s v a b turns (rounds_of start Well 4 v a rounds.1.0.1.0) rounds.1.0.1.1.0 rounds.1.1.0 well_v.path here_now well_v.here before.here soon))
-          (λ all. there_then x (stays_there start plan one v turns s (between start 5 v turns (rounds_of start Well 6 v turns rounds)) all))
+          (λ all. there_then x (stays_there start one.mild v turns s (between start 5 v turns (rounds_of start Well 6 v turns rounds)) all))
           well_v.told
 
     since_on : (edge x n : ℕ) (v : List Turn) → WaitsSince start Well n v turns → n ≤ 5 → Edge edge v → Edge edge turns → IsSentPast start s edge v ⊎ (until v + 63400 ≤ x) → until v + 1100 ≤ x → Then x
@@ -265,7 +266,7 @@ module _ (start : Start) (plan : PathPlan) (most : ℕ) (s : Side) (count : List
         by is = ⊎_elim
             (λ all. there_then x all)
             (λ came. absurd (let at = at_p turns Turn.Round before after edge r in omega (arith, came, more, at)))
-            (four_rounds_bring start plan v turns one (rounds_of start Well 4 v turns rounds) s z here_now here before.here
+            (four_rounds_bring start v turns one.mild (rounds_of start Well 4 v turns rounds) s z here_now here before.here
             (subst (λ (y : PathState Carried). Every (IsWell s y) (end_at s y).tcp.send.records) (path_is (reached values start v) well_v.path z well_v.here here) well_v.records))
           where
             rounds : WellRounds start Well 4 v turns

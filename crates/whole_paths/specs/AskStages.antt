@@ -1,4 +1,4 @@
--- The exchange of an ask between the open ends of an only path: where it asks for the Data ACK of a DATA_FIN, the peer heard that before it
+-- The exchange of an ask between the open ends of a path: where it asks for the Data ACK of a DATA_FIN, the peer heard that before it
 -- answers (RFC 8684, section 3.3.3).
 use Rattle.std.specs.Prelude.{ℕ, ◌+◌, ◌-◌, ◌^◌, ◌≡◌, ◌<◌, ◌≤◌, ◌⊎◌, Bool, true, Some, List, [], slice_get}
 use Rattle.sides.specs.declared.side.Side.{Side}
@@ -53,26 +53,31 @@ pub data AnswerIsAwaitedOn (later : SixBooks) (s : Side) (place : ℕ) (fin : Bo
   held_up : IsHeldUp s p q → AnswerIsAwaitedOn later s place fin by p q
   awry : IsHardlyAwry s p q → AnswerIsAwaitedOn later s place fin by p q
 
--- As the path becomes this actor, and is still open, with fewer than 2^64 - 1 segments sent from each side. The peer's end knows as it sends that
--- the place is wanted, once the DATA_FIN was heard.
-abbrev pub AnswerIsAwaitedBy : SixBooks → SixBooks → Actor Carried → Actor Carried → Type 0
-AnswerIsAwaitedBy six later (Path p) (Path q) =
-    IsOpen p → IsOpen q → ((t : Side) → segments_sent t p.link < 2 ^ 64 - 1)
-    → (s : Side) (place : ℕ) (fin : Bool) (by : ℕ) → ((fin ≡ true → IsFinHeard (peer s) p) → KnowsWhereItSends (peer s) place p)
-    → IsAnswerAwaited six s place fin by p → AnswerIsAwaitedOn later s place fin by p q
-AnswerIsAwaitedBy six later _ _ = Unit {0}
+-- of paths of which this holds
+module _ (Holds : PathState Carried → Type 0) where
+  -- As the path becomes this actor, and it still holds, with fewer than 2^64 - 1 segments sent from each side. The peer's end knows as it sends that
+  -- the place is wanted, once the DATA_FIN was heard.
+  abbrev pub AnswerIsAwaitedBy : SixBooks → SixBooks → Actor Carried → Actor Carried → Type 0
+  AnswerIsAwaitedBy six later (Path p) (Path q) =
+      Holds p → Holds q → ((t : Side) → segments_sent t p.link < 2 ^ 64 - 1)
+      → (s : Side) (place : ℕ) (fin : Bool) (by : ℕ) → ((fin ≡ true → IsFinHeard (peer s) p) → KnowsWhereItSends (peer s) place p)
+      → IsAnswerAwaited six s place fin by p → AnswerIsAwaitedOn later s place fin by p q
+  AnswerIsAwaitedBy six later _ _ = Unit {0}
 
--- where the turn of an open path is over such a wait begins, for a minute and 400 ticks there and back
-abbrev pub AnswerIsAwaitedFrom : SixBooks → PathState Carried → Type 0
-AnswerIsAwaitedFrom six p = IsOpen p → p.agenda ≡ [] → (s : Side) → (end_at s p).tcp.send.records ≡ [] → (place : ℕ) (fin : Bool) → IsUnansweredAt six s place fin p
-    → place ≤ received (reassembly_of (peer s) six) + one_if fin
-    → IsAnswerAwaited six s place fin (p.clock + 60000 + 400 + 400) p
+  -- where the turn of the path is over such a wait begins, for a minute and 400 ticks there and back
+  abbrev pub AnswerIsAwaitedFrom : SixBooks → PathState Carried → Type 0
+  AnswerIsAwaitedFrom six p = Holds p → p.agenda ≡ [] → (s : Side) → (end_at s p).tcp.send.records ≡ [] → (place : ℕ) (fin : Bool) → IsUnansweredAt six s place fin p
+      → place ≤ received (reassembly_of (peer s) six) + one_if fin
+      → IsAnswerAwaited six s place fin (p.clock + 60000 + 400 + 400) p
 
--- at any moment of a mild connection, and by any turn
-pub record OpenAsksAreAnswered : Type 0 where
-  pub begin : (start : Start) (turns : List Turn) → IsMildStart start → let w = world_run values turns (opened_world start) in
-      (actor : ℕ) (c : ActorCrew Carried) → slice_get w.crew actor ≡ Some c → HoldsOfKind (λ app. Unit {0}) (AnswerIsAwaitedFrom (books_in w.books)) c.member
-  pub goes_on : (start : Start) (turns : List Turn) (turn : Turn) → IsMildStart start
-      → let w = world_run values turns (opened_world start) in let v = after_turn values turn w in
-      (actor : ℕ) (c d : ActorCrew Carried) → slice_get w.crew actor ≡ Some c → slice_get v.crew actor ≡ Some d
-      → AnswerIsAwaitedBy (books_in w.books) (books_in v.books) c.member d.member
+  -- at any moment of a mild connection, and by any turn
+  pub record AsksAreAnswered : Type 0 where
+    pub begin : (start : Start) (turns : List Turn) → IsMildStart start → let w = world_run values turns (opened_world start) in
+        (actor : ℕ) (c : ActorCrew Carried) → slice_get w.crew actor ≡ Some c → HoldsOfKind (λ app. Unit {0}) (AnswerIsAwaitedFrom (books_in w.books)) c.member
+    pub goes_on : (start : Start) (turns : List Turn) (turn : Turn) → IsMildStart start
+        → let w = world_run values turns (opened_world start) in let v = after_turn values turn w in
+        (actor : ℕ) (c d : ActorCrew Carried) → slice_get w.crew actor ≡ Some c → slice_get v.crew actor ≡ Some d
+        → AnswerIsAwaitedBy (books_in w.books) (books_in v.books) c.member d.member
+
+abbrev pub OpenAsksAreAnswered : Type 0
+OpenAsksAreAnswered = AsksAreAnswered IsOpen

@@ -9,35 +9,50 @@ use Rattle.whole_paths.specs.News.{most_news, news}
 use Rattle.whole_paths.specs.Rounds.{System, ticks_for}
 
 module _ {C : Type 0} (k : Codec C) (start : Start) where
-  -- how many segments of path 0 were harmed by these turns
-  abbrev pub harmed_so_far : List Turn → ℕ
-  harmed_so_far turns = harmed k 0 turns (opened_world start)
+  -- how many segments of the path of this number were harmed by these turns
+  abbrev pub harmed_at : ℕ → List Turn → ℕ
+  harmed_at number turns = harmed k number turns (opened_world start)
 
   -- what was counted: how far the connection is, and these segments
+  abbrev pub counted_at : ℕ → List Turn → ℕ
+  counted_at number turns = news start (reached k start turns) + harmed_at number turns
+
+  -- of path 0
+  abbrev pub harmed_so_far : List Turn → ℕ
+  harmed_so_far turns = harmed_at 0 turns
+
   abbrev pub counted : List Turn → ℕ
-  counted turns = news start (reached k start turns) + harmed_so_far turns
+  counted turns = counted_at 0 turns
 
   -- the tick at which the round ends that goes on
   abbrev pub round_end : List Turn → ℕ
   round_end turns = 100 * ((round_of k start turns).number + 1)
 
   -- Holds is what is known of each moment of it
-  module _ (Holds : List Turn → Type 0) (most : ℕ) where
-    -- after these turns an actor makes a step, and no more than so many segments were harmed
-    pub record TakesAStep (turns later : List Turn) : Type 0 where
+  module _ (number : ℕ) (Holds : List Turn → Type 0) (most : ℕ) where
+    -- after these turns an actor makes a step, and no more than so many segments of the path were harmed
+    pub record TakesAStepAt (turns later : List Turn) : Type 0 where
       pub actor : ℕ
       pub is : later ≡ turns ++ Turn.Step actor ∷ []
-      pub few : harmed_so_far later ≤ most
+      pub few : harmed_at number later ≤ most
       pub before : Holds turns
       pub after : Holds later
 
     -- each turn is over, and the next round begins
-    pub record BeginsARound (turns later : List Turn) : Type 0 where
+    pub record BeginsARoundAt (turns later : List Turn) : Type 0 where
       pub over : all_over (reached k start turns).crew ≡ true
       pub is : later ≡ turns ++ Turn.Round ∷ []
-      pub few : harmed_so_far later ≤ most
+      pub few : harmed_at number later ≤ most
       pub before : Holds turns
       pub after : Holds later
+
+  -- where segments of path 0 are counted
+  module _ (Holds : List Turn → Type 0) (most : ℕ) where
+    abbrev pub TakesAStep : List Turn → List Turn → Type 0
+    TakesAStep = TakesAStepAt 0 Holds most
+
+    abbrev pub BeginsARound : List Turn → List Turn → Type 0
+    BeginsARound = BeginsARoundAt 0 Holds most
 
     -- its states are the turns so far
     abbrev pub course_of : (List Turn → Type 0) → (ℕ → ℕ → List Turn → Type 0) → System

@@ -17,6 +17,7 @@ use Rattle.whole_paths.specs.Finish.{IsPathAt, is_harmed}
 use Rattle.whole_paths.specs.Mending.{IsToldBy, IsToldSoon, IsWell, IsBegunTurn}
 use Rattle.whole_paths.specs.OnePathScripts.{BeginsWithOnePath}
 use Rattle.whole_paths.specs.Unmended.{AreWellBut}
+use Rattle.whole_paths.specs.WindowRoom.{IsRoomy}
 
 -- ---- what an end is told
 
@@ -37,9 +38,9 @@ abbrev pub ToldButStays : Side → PathState Carried → PathState Carried → T
 ToldButStays s p q = is_fin_passed (end_at (peer s) p).tcp ≡ false → (unheard : List ℕ) → IsToldBut s unheard p
     → IsToldBut s (if is_harmed (peer s) p q then (end_at (peer s) p).tcp.recv.edge ∷ unheard else unheard) q
 
--- by each turn of a mild connection over one path between open ends
+-- by each turn of a mild connection, where windows have room, between open ends
 abbrev pub WhoIsToldButStaysSo : Type 0
-WhoIsToldButStaysSo = (start : Start) (plan : PathPlan) (turns : List Turn) (turn : Turn) → BeginsWithOnePath start plan
+WhoIsToldButStaysSo = (start : Start) (turns : List Turn) (turn : Turn) → IsRoomy start
     → (h : IsBegunTurn start turns turn) (s : Side) → ToldButStays s h.before.path h.after.path
 
 -- ---- debts
@@ -62,7 +63,7 @@ pub record OwesAlong (start : Start) (s : Side) (debts : ℕ) (turns : List Turn
 
 -- by each step, and as a round begins, a harm makes one more at most
 abbrev pub DirectionsGoOn : Type 0
-DirectionsGoOn = (start : Start) (plan : PathPlan) (most : ℕ) (s : Side) (debts : ℕ) (turns later : List Turn) → BeginsWithOnePath start plan
+DirectionsGoOn = (start : Start) (plan : PathPlan) (most : ℕ) (s : Side) (debts : ℕ) (turns later : List Turn) → IsRoomy start
     → Stepping start plan most (OwesAlong start s) turns later ⊎ Beginning start plan most (OwesAlong start s) turns later
     → OwesAlong start s debts turns → OwesOn start plan most (OwesAlong start s) debts turns later
 

@@ -10,7 +10,7 @@ use Rattle.path_agenda.specs.declared.duty.Duty.TheVariants as duties
 use Rattle.path_agenda.specs.declared.duty.SendDuty.TheVariants as send_duties
 use Rattle.path_core.specs.State.{PathState, end_at}
 use Rattle.path_core.specs.Values.{Carried, as_arrived, values}
-use Rattle.world_laws.specs.Openings.{PathPlan, Start}
+use Rattle.world_laws.specs.Openings.{Start}
 use Rattle.world_laws.specs.RoundDone.{reached}
 use Rattle.world_laws.specs.Worlds.{Turn}
 use Rattle.whole_paths.specs.BareSegments.{IsBareTo}
@@ -19,7 +19,8 @@ use Rattle.whole_paths.specs.Copies.{IsUnderWay}
 use Rattle.whole_paths.specs.EndRounds.{EndIsKnown}
 use Rattle.whole_paths.specs.Finish.{IsPathAt, is_harmed}
 use Rattle.whole_paths.specs.Mending.{IsBegunTurn, LeavesRoomFor}
-use Rattle.whole_paths.specs.OnePathScripts.{BeginsWithOnePath}
+use Rattle.whole_paths.specs.Mild.{IsMildStart}
+use Rattle.whole_paths.specs.WindowRoom.{IsRoomy}
 use Rattle.whole_paths.specs.SegmentRounds.{Rounds}
 
 -- an acknowledgement that maps the side's DATA_FIN is under way to the peer, at this position, and comes by this tick
@@ -59,14 +60,14 @@ pub data FinIsSoon (s : Side) (p : PathState Carried) : Type 0 where
   unsent : (end_at s p).sending.fin_sent ≡ false → FinIsSoon s p
   told : (position : ℕ) → FinIsTold s position (p.clock + 400) p → FinIsSoon s p
 
--- So it stays by each turn without a harm, over one path.
+-- So it stays by each turn without a harm, where windows have room.
 abbrev pub DataFinsStaySoon : Type 0
-DataFinsStaySoon = (start : Start) (plan : PathPlan) (turns : List Turn) (turn : Turn) → BeginsWithOnePath start plan
+DataFinsStaySoon = (start : Start) (turns : List Turn) (turn : Turn) → IsRoomy start
     → (h : IsBegunTurn start turns turn) (s : Side) → FinIsSoon s h.before.path → (is_harmed s h.before.path h.after.path ≡ true) ⊎ FinIsSoon s h.after.path
 
 -- In four rounds the peer's side knows where a stream ends whose DATA_FIN was told so; or more is sent behind it.
 abbrev pub FourRoundsEnd : Type 0
-FourRoundsEnd = (start : Start) (plan : PathPlan) (v u : List Turn) → BeginsWithOnePath start plan → Rounds start 4 v u → (s : Side)
+FourRoundsEnd = (start : Start) (v u : List Turn) → IsMildStart start → Rounds start 4 v u → (s : Side)
     → (p q : PathState Carried) → IsPathAt 0 (reached values start v) p → IsPathAt 0 (reached values start u) q
     → (position : ℕ) → FinIsTold s position (p.clock + 400) p
     → EndIsKnown start s u ⊎ (position < (end_at s q).tcp.send.nxt)

@@ -56,6 +56,7 @@ pub mod Harms
 pub mod Hearing
 pub mod InHand
 pub mod InTime
+pub mod JoinedEnds
 pub mod Kept
 pub mod KnownEnds
 pub mod KnownModes
@@ -207,3 +208,10 @@ pub mod ManyGoingOn
 pub mod ManyCourses
 pub mod ManyPaths
 pub mod ManyEnds
+pub mod JoinedPaths
+pub mod LivingPaths
+pub mod StandbyPaths
+pub mod StandbyRounds
+pub mod GrantedPieces
+pub mod GrantedPositions
+pub mod NearRounds

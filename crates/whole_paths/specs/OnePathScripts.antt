@@ -78,13 +78,17 @@ AllIsThereWithin enough = (start : Start) (plan : PathPlan) (before more : List 
     → IsWhole 0 (reached values start (before ++ more)) → harmed values 0 (before ++ more) (opened_world start) ≤ most
     → enough start most < 100 * rounds_in more → AllIsThere (reached values start (before ++ more))
 
--- after some of these turns an end of path 0 was dead, and not all of both streams was with the peers
-pub record AnEndDiedEarly {C : Type 0} (k : Codec C) (start : Start) (turns : List Turn) : Type 0 where
+-- after some of these turns an end of the path of this number was dead, and not all of both streams was with the peers
+pub record AnEndDiedEarlyAt (number : ℕ) {C : Type 0} (k : Codec C) (start : Start) (turns : List Turn) : Type 0 where
   pub first : List Turn
   pub rest : List Turn
   pub is : turns ≡ first ++ rest
-  pub died : AnEndDied 0 (reached k start first)
+  pub died : AnEndDied number (reached k start first)
   pub missing : AllIsThere (reached k start first) → ⊥
+
+-- of path 0
+abbrev pub AnEndDiedEarly : {C : Type 0} → Codec C → Start → List Turn → Type 0
+AnEndDiedEarly k start turns = AnEndDiedEarlyAt 0 k start turns
 
 -- three rounds later both files are delivered; or an end died early
 abbrev pub EndsWithin : Allowance → Type 0

@@ -4,6 +4,7 @@ use Rattle.sides.specs.declared.side.Side.{Side}
 use Rattle.sides.specs.Side.{peer}
 use Rattle.link_model.specs.Steps.{segments_sent}
 use Rattle.stream_lanes.specs.Words.{Has}
+use Rattle.subflow_tcp.specs.States.{is_dead}
 use Rattle.actor_desk.specs.Books.{books_in}
 use Rattle.actor_desk.specs.Desk.{SixBooks, send_of}
 use Rattle.actor_desk.specs.declared.ask.Note.{Note}
@@ -42,16 +43,21 @@ pub data IsHardlyAwry (s : Side) (p q : PathState Carried) : Type 0 where
   -- the peer sent more than the end's window has room for
   past_window : (end_at s p).tcp.recv.edge + 1048576 < (end_at (peer s) p).tcp.send.nxt → IsHardlyAwry s p q
 
--- as the path becomes this actor by these steps, and is still open
-abbrev pub HardlyGoesAwry : List Note → Actor Carried → Actor Carried → Type 0
-HardlyGoesAwry steps (Path p) (Path q) = IsOpen p → IsOpen q → (s : Side) → IsAwry s steps p q → IsHardlyAwry s p q
-HardlyGoesAwry steps _ _ = Unit {0}
+-- of paths of which this holds
+module _ (Holds : PathState Carried → Type 0) where
+  -- as the path becomes this actor by these steps, and it still holds
+  abbrev pub HardlyGoesAwry : List Note → Actor Carried → Actor Carried → Type 0
+  HardlyGoesAwry steps (Path p) (Path q) = Holds p → Holds q → (s : Side) → IsAwry s steps p q → IsHardlyAwry s p q
+  HardlyGoesAwry steps _ _ = Unit {0}
 
--- by any turn of a mild connection
+  -- by any turn of a mild connection
+  abbrev pub EndsHardlyGoAwry : Type 0
+  EndsHardlyGoAwry = (start : Start) (turns : List Turn) (turn : Turn) → IsMildStart start → let w = world_run values turns (opened_world start) in
+      (actor : ℕ) (c d : ActorCrew Carried) → slice_get w.crew actor ≡ Some c → slice_get (after_turn values turn w).crew actor ≡ Some d
+      → HardlyGoesAwry d.list c.member d.member
+
 abbrev pub OpenEndsHardlyGoAwry : Type 0
-OpenEndsHardlyGoAwry = (start : Start) (turns : List Turn) (turn : Turn) → IsMildStart start → let w = world_run values turns (opened_world start) in
-    (actor : ℕ) (c d : ActorCrew Carried) → slice_get w.crew actor ≡ Some c → slice_get (after_turn values turn w).crew actor ≡ Some d
-    → HardlyGoesAwry d.list c.member d.member
+OpenEndsHardlyGoAwry = EndsHardlyGoAwry IsOpen
 
 -- ---- what becomes of it
 
@@ -97,9 +103,9 @@ module _ (six : SixBooks) where
   AskBegins p = IsOpen p → p.agenda ≡ [] → (s : Side) → (end_at s p).tcp.send.records ≡ [] → (place : ℕ) (fin : Bool) → IsUnansweredAt s place fin p
       → IsInquired s place fin (p.clock + 60000 + 400 + 400) p
 
-  -- in a round that ends past its tick it was answered
+  -- in a round that ends past its tick it was answered, where neither end is dead
   abbrev pub AskIsDue : PathState Carried → Type 0
-  AskIsDue p = IsOpen p → p.agenda ≡ [] → (s : Side) (place : ℕ) (fin : Bool) (by : ℕ) → by < p.until → IsInquired s place fin by p
+  AskIsDue p = ((s : Side) → is_dead (end_at s p).tcp.state ≡ false) → p.agenda ≡ [] → (s : Side) (place : ℕ) (fin : Bool) (by : ℕ) → by < p.until → IsInquired s place fin by p
       → IsUnansweredAt s place fin p → ⊥
 
 -- on each path

@@ -1,6 +1,6 @@
 -- The course of a mild connection between two moments at which path 0 is whole: its ends are open at each moment, and what holds up an exchange
 -- is counted.
-use Rattle.std.specs.Prelude.{ℕ, suc, ◌+◌, ◌-◌, ◌*◌, ◌^◌, ◌≡◌, ◌<◌, ◌≤◌, false, Some, List, [], ◌∷◌, ◌++◌, slice_get}
+use Rattle.std.specs.Prelude.{ℕ, zero, suc, ◌+◌, ◌-◌, ◌*◌, ◌^◌, ◌≡◌, ◌<◌, ◌≤◌, false, Some, List, [], ◌∷◌, ◌++◌, slice_get}
 use Rattle.sides.specs.declared.side.Side.{Side}
 use Rattle.link_model.specs.Steps.{segments_sent}
 use Rattle.subflow_tcp.specs.States.{is_dead}
@@ -11,8 +11,8 @@ use Rattle.world_laws.specs.Actors.{Actor, ActorCrew}
 use Rattle.world_laws.specs.Openings.{Start}
 use Rattle.world_laws.specs.RoundDone.{reached}
 use Rattle.world_laws.specs.Worlds.{WorldState, Turn, AreLawful, after_turn}
-use Rattle.whole_paths.specs.Courses.{Exchanges, counted, harmed_so_far}
-use Rattle.whole_paths.specs.Exchanges.{IsFaithful, IsHeldUp}
+use Rattle.whole_paths.specs.Courses.{Exchanges, counted_at, harmed_so_far}
+use Rattle.whole_paths.specs.Exchanges.{IsFaithful, IsHeldUp, LetsThrough}
 use Rattle.whole_paths.specs.Finish.{IsPathAt, IsWhole, rounds_in}
 use Rattle.whole_paths.specs.Mild.{IsMildStart}
 use Rattle.whole_paths.specs.News.{most_news}
@@ -21,14 +21,23 @@ use Rattle.whole_paths.specs.Straying.{IsOpen}
 
 -- ---- a moment
 
--- This holds of path 0. No line takes options away or alters payload, and the link took
+-- No line takes options away on the path, or alters payload; path 0 opens the connection, and of another one both ends are past the handshake.
+abbrev pub IsFaithfulAt : ℕ → PathState Carried → Type 0
+IsFaithfulAt zero p = IsFaithful p
+IsFaithfulAt (suc number) p = LetsThrough p
+
+-- This holds of the path of this number. No line takes options away or alters payload, and the link took
 -- fewer than 2^64 - 1 segments from each side.
-pub record IsNow (Holds : PathState Carried → Type 0) (w : WorldState Carried) : Type 0 where
+pub record IsNowAt (number : ℕ) (Holds : PathState Carried → Type 0) (w : WorldState Carried) : Type 0 where
   pub path : PathState Carried
-  pub here : IsPathAt 0 w path
+  pub here : IsPathAt number w path
   pub is_open : Holds path
-  pub faithful : IsFaithful path
+  pub faithful : IsFaithfulAt number path
   pub few : (s : Side) → segments_sent s path.link < 2 ^ 64 - 1
+
+-- of path 0
+abbrev pub IsNow : (PathState Carried → Type 0) → WorldState Carried → Type 0
+IsNow = IsNowAt 0
 
 -- both ends of it are open
 abbrev pub IsOpenNow : WorldState Carried → Type 0
@@ -46,11 +55,11 @@ HoldUpsCount Counted (Path p) (Path q) = ((s : Side) → is_dead (end_at s p).tc
     → ((s : Side) → segments_sent s p.link < 2 ^ 64 - 1) → (s : Side) → IsHeldUp s p q → Counted
 HoldUpsCount Counted _ _ = Unit {0}
 
--- by any turn
+-- by any turn, of the path of any number
 abbrev pub WhatHoldsUpCounts : Type 0
-WhatHoldsUpCounts = (start : Start) (turns : List Turn) (turn : Turn) → let w = reached values start turns in (c d : ActorCrew Carried)
-    → slice_get w.crew 2 ≡ Some c → slice_get (after_turn values turn w).crew 2 ≡ Some d
-    → HoldUpsCount (counted values start turns < counted values start (turns ++ turn ∷ [])) c.member d.member
+WhatHoldsUpCounts = (start : Start) (number : ℕ) (turns : List Turn) (turn : Turn) → let w = reached values start turns in (c d : ActorCrew Carried)
+    → slice_get w.crew (2 + number) ≡ Some c → slice_get (after_turn values turn w).crew (2 + number) ≡ Some d
+    → HoldUpsCount (counted_at values start number turns < counted_at values start number (turns ++ turn ∷ [])) c.member d.member
 
 -- ---- the course
 

@@ -18,6 +18,7 @@ use Rattle.whole_paths.specs.Directions.{DirectionIsWell}
 use Rattle.whole_paths.specs.Finish.{IsPathAt}
 use Rattle.whole_paths.specs.GoingOn.{steps_of}
 use Rattle.whole_paths.specs.Mending.{IsToldSoon, IsWell}
+use Rattle.whole_paths.specs.Mild.{IsMildStart}
 use Rattle.whole_paths.specs.OnePathScripts.{BeginsWithOnePath}
 use Rattle.whole_paths.specs.OpenCourses.{IsOpenAfter}
 use Rattle.whole_paths.specs.SentInOrder.{sent_up_to}
@@ -64,25 +65,25 @@ module _ (start : Start) where
 
 -- In a round the application writes its file, or as much as a side buffers past what was acknowledged as it began.
 abbrev pub EachRoundWrites : Type 0
-EachRoundWrites = (start : Start) (plan : PathPlan) (v u : List Turn) → BeginsWithOnePath start plan → IsRound start v u → (s : Side)
+EachRoundWrites = (start : Start) (v u : List Turn) → IsMildStart start → IsRound start v u → (s : Side)
     → min (length (pick s start.file_a start.file_b)) (acked_len (written_by s (reached values start v)).marks + start.buffer)
     ≤ written_after start s u
 
 -- And the peer's reader reads all that had come in order as it began.
 abbrev pub EachRoundReads : Type 0
-EachRoundReads = (start : Start) (plan : PathPlan) (v u : List Turn) → BeginsWithOnePath start plan → IsRound start v u → (s : Side)
+EachRoundReads = (start : Start) (v u : List Turn) → IsMildStart start → IsRound start v u → (s : Side)
     → received (arrived_at (peer s) (reached values start v)) ≤ read_after start s u
 
 -- In four rounds all comes that is sent, where each record of the side is well; or all of the stream is there.
 abbrev pub FourRoundsBring : Type 0
-FourRoundsBring = (start : Start) (plan : PathPlan) (v u : List Turn) → BeginsWithOnePath start plan → Rounds start 4 v u → (s : Side)
+FourRoundsBring = (start : Start) (v u : List Turn) → IsMildStart start → Rounds start 4 v u → (s : Side)
     → (p q : PathState Carried) → IsPathAt 0 (reached values start v) p → IsPathAt 0 (reached values start u) q
     → Every (IsWell s p) (end_at s p).tcp.send.records
     → IsAllThere s (reached values start u) ⊎ (sent_up_to (end_at s p).tcp.send ≤ (end_at (peer s) q).tcp.recv.edge)
 
 -- And the end hears how far the peer was, where it was to be told soon.
 abbrev pub FourRoundsTell : Type 0
-FourRoundsTell = (start : Start) (plan : PathPlan) (v u : List Turn) → BeginsWithOnePath start plan → Rounds start 4 v u → (s : Side)
+FourRoundsTell = (start : Start) (v u : List Turn) → IsMildStart start → Rounds start 4 v u → (s : Side)
     → (p q : PathState Carried) → IsPathAt 0 (reached values start v) p → IsPathAt 0 (reached values start u) q → IsToldSoon s p
     → IsAllThere s (reached values start u) ⊎ ((end_at (peer s) p).tcp.recv.edge ≤ (end_at s q).tcp.send.una)
 

@@ -1,11 +1,14 @@
 -- What may come between in an exchange of a mild connection, where both ends of path 0 are open and may send a DSS.
-use Rattle.std.specs.Prelude.{ℕ, ◌+◌, ◌≡◌, ◌<◌, ◌≤◌, true, false, is_some, Some, List, ◌++◌, slice_get}
+use Rattle.std.specs.Prelude.{ℕ, ◌+◌, ◌≡◌, ◌<◌, ◌≤◌, true, false, is_some, None, Some, List, ◌∷◌, ◌++◌, slice_get}
 use Rattle.sides.specs.declared.side.Side.{Side}
 use Rattle.sides.specs.Side.{peer}
 use Rattle.fallback_state.specs.Modes.{reads_mappings}
 use Rattle.subflow_send.specs.Records.{Record, end_of}
 use Rattle.subflow_tcp.specs.State.{is_fin_passed}
 use Rattle.subflow_tcp.specs.States.{is_dead}
+use Rattle.path_agenda.specs.declared.duty.Duty.{Duty}
+use Rattle.path_agenda.specs.declared.duty.Duty.TheVariants as duties
+use Rattle.path_agenda.specs.declared.duty.SendDuty.TheVariants as send_duties
 use Rattle.path_core.specs.MpJoin.{is_joined}
 use Rattle.path_core.specs.State.{PathState, end_at}
 use Rattle.path_core.specs.Values.{Carried, values}
@@ -17,7 +20,7 @@ use Rattle.whole_paths.specs.AsFar.{stage}
 use Rattle.whole_paths.specs.Exchanges.{IsAstray}
 use Rattle.whole_paths.specs.Finish.{IsWhole}
 use Rattle.whole_paths.specs.InHand.{IsPartial}
-use Rattle.whole_paths.specs.Mild.{IsMildStart}
+use Rattle.whole_paths.specs.Mild.{IsMildStart, IsUnbroken}
 
 -- path 0, whose ends are past the handshake, may send a DSS and aren't dead
 pub record IsOpen (p : PathState Carried) : Type 0 where
@@ -35,6 +38,31 @@ pub record IsOpenFrom (s : Side) (p : PathState Carried) : Type 0 where
   pub clear : (end_at s p).modes.clear ≡ true
   pub sure : p.b.modes.clear ≡ true
   pub keyed : is_some p.a.modes.peer_key ≡ true
+
+-- ---- of any number of paths
+
+-- A path whose ends are past the handshake and aren't dead. This side's end and B's may send a DSS, and each end has the other's key. None receives by
+-- an infinite mapping, breaks, or answers a copy by a reset.
+pub record IsSoundFrom (s : Side) (p : PathState Carried) : Type 0 where
+  pub past : (t : Side) → 3 ≤ stage (end_at t p).tcp.state
+  pub living : (t : Side) → is_dead (end_at t p).tcp.state ≡ false
+  pub clear : (end_at s p).modes.clear ≡ true
+  pub sure : p.b.modes.clear ≡ true
+  pub keyed : (t : Side) → is_some (end_at t p).modes.peer_key ≡ true
+  pub finite : (t : Side) → (end_at t p).modes.peer_infinite ≡ None
+  pub unbroken : IsUnbroken p
+  pub accepts : (t : Side) (others : List Duty) → p.agenda ≡ duties.Send (send_duties.ResetAnswer t) ∷ others → ⊥
+
+-- so from both sides, and no end owes the third MP_JOIN
+pub record IsSound (p : PathState Carried) : Type 0 where
+  pub past : (s : Side) → 3 ≤ stage (end_at s p).tcp.state
+  pub living : (s : Side) → is_dead (end_at s p).tcp.state ≡ false
+  pub clear : (s : Side) → (end_at s p).modes.clear ≡ true
+  pub keyed : (s : Side) → is_some (end_at s p).modes.peer_key ≡ true
+  pub third : (s : Side) → (end_at s p).modes.owes_third ≡ false
+  pub finite : (s : Side) → (end_at s p).modes.peer_infinite ≡ None
+  pub unbroken : IsUnbroken p
+  pub accepts : (s : Side) (others : List Duty) → p.agenda ≡ duties.Send (send_duties.ResetAnswer s) ∷ others → ⊥
 
 -- of all that leads an exchange astray this is left
 pub data IsHardlyAstray (s : Side) (r : Record) (p q : PathState Carried) : Type 0 where

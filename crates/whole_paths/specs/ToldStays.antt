@@ -1,15 +1,15 @@
--- What an end is to be told is told soon still, by each turn between open ends of the only path of a mild connection.
+-- What an end is to be told is told soon still, by each turn between open ends of path 0 of a mild connection, where windows have room.
 use Rattle.std.specs.Prelude.{ℕ, ◌+◌, ◌≡◌, ◌<◌, ◌⊎◌, true, List}
 use Rattle.sides.specs.declared.side.Side.{Side}
 use Rattle.sides.specs.Side.{peer}
 use Rattle.subflow_tcp.specs.State.{is_fin_passed}
 use Rattle.path_core.specs.State.{PathState, end_at}
 use Rattle.path_core.specs.Values.{Carried}
-use Rattle.world_laws.specs.Openings.{PathPlan, Start}
+use Rattle.world_laws.specs.Openings.{Start}
 use Rattle.world_laws.specs.Worlds.{Turn}
 use Rattle.whole_paths.specs.Finish.{is_harmed}
 use Rattle.whole_paths.specs.Mending.{IsBegunTurn, IsToldBy, IsToldSoon}
-use Rattle.whole_paths.specs.OnePathScripts.{BeginsWithOnePath}
+use Rattle.whole_paths.specs.WindowRoom.{IsRoomy}
 
 -- of a side, as the path becomes another one
 pub record ToldStays (s : Side) (p q : PathState Carried) : Type 0 where
@@ -27,5 +27,5 @@ pub record ToldStays (s : Side) (p q : PathState Carried) : Type 0 where
   pub soon : IsToldSoon s p → (is_harmed (peer s) p q ≡ true) ⊎ IsToldSoon s q
 
 abbrev pub WhoIsToldStaysTold : Type 0
-WhoIsToldStaysTold = (start : Start) (plan : PathPlan) (turns : List Turn) (turn : Turn) → BeginsWithOnePath start plan
+WhoIsToldStaysTold = (start : Start) (turns : List Turn) (turn : Turn) → IsRoomy start
     → (h : IsBegunTurn start turns turn) (s : Side) → ToldStays s h.before.path h.after.path

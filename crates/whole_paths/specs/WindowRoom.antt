@@ -1,8 +1,10 @@
 -- The window that an end last offered has room for all that its peer sent.
-use Rattle.std.specs.Prelude.{◌≡◌, ◌≤◌, false, List, [], ◌∷◌}
+use Rattle.std.specs.Prelude.{ℕ, ◌+◌, ◌≡◌, ◌≤◌, false, List, [], ◌∷◌, length}
 use Rattle.sides.specs.declared.side.Side.{Side}
 use Rattle.sides.specs.declared.side.Side.TheVariants.{B}
+use Rattle.sides.specs.Side.{peer}
 use Rattle.subflow_tcp.specs.States.{is_dead}
+use Rattle.actor_desk.specs.Words.{pick}
 use Rattle.path_core.specs.State.{PathState, end_at}
 use Rattle.path_core.specs.Values.{Carried, values}
 use Rattle.world_laws.specs.Openings.{PathPlan, Start}
@@ -35,3 +37,21 @@ EachWindowHasRoom = (start : Start) (plan : PathPlan) (turns : List Turn) → Be
 abbrev pub NoWindowIsShutBefore : Type 0
 NoWindowIsShutBefore = (start : Start) (plan : PathPlan) (turns : List Turn) → BeginsWithOnePath start plan → (p : PathState Carried) → IsPathAt 0 (reached values start turns) p
     → IsAlive p → p.a.tcp.send.nxt ≤ 1 → p.a.sending.shut ≡ false
+
+-- On each path, between living ends, so it is of an end's peer that sent no FIN.
+abbrev pub UnfinishedWindowsHaveRoom : Type 0
+UnfinishedWindowsHaveRoom = (start : Start) (turns : List Turn) → IsMildStart start → (number : ℕ) (p : PathState Carried) → IsPathAt number (reached values start turns) p
+    → ((s : Side) → is_dead (end_at s p).tcp.state ≡ false) → (s : Side) → (end_at (peer s) p).tcp.send.finished ≡ false → LeavesRoomFor s p
+
+-- The connection is mild, and so it is between living ends of path 0, whichever sent its FIN.
+pub record IsRoomy (start : Start) : Type 0 where
+  pub mild : IsMildStart start
+  pub room : (turns : List Turn) (p : PathState Carried) → IsPathAt 0 (reached values start turns) p → ((s : Side) → is_dead (end_at s p).tcp.state ≡ false)
+      → (s : Side) → LeavesRoomFor s p
+
+-- Over one path each mild connection is; over any number of paths where both files are short: no more was ever sent than a window has room for.
+abbrev pub OnePathIsRoomy : Type 0
+OnePathIsRoomy = (start : Start) (plan : PathPlan) → BeginsWithOnePath start plan → IsRoomy start
+
+abbrev pub ShortFilesAreRoomy : Type 0
+ShortFilesAreRoomy = (start : Start) → IsMildStart start → ((s : Side) → length (pick s start.file_a start.file_b) + 2 ≤ 1048576) → IsRoomy start

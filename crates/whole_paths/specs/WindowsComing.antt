@@ -12,7 +12,7 @@ use Rattle.link_model.specs.declared.flight.Flight.{Flight}
 use Rattle.path_core.specs.Looking.{first_sends, segment_sent}
 use Rattle.path_core.specs.State.{PathState, end_at}
 use Rattle.path_core.specs.Values.{Carried, as_arrived, values}
-use Rattle.world_laws.specs.Openings.{PathPlan, Start}
+use Rattle.world_laws.specs.Openings.{Start}
 use Rattle.world_laws.specs.Promises.{written_by}
 use Rattle.world_laws.specs.RoundDone.{reached}
 use Rattle.world_laws.specs.Worlds.{Turn}
@@ -20,7 +20,7 @@ use Rattle.whole_paths.specs.BareSegments.{IsBareFrom, IsBareTo}
 use Rattle.whole_paths.specs.Copies.{IsUnderWay}
 use Rattle.whole_paths.specs.Finish.{IsPathAt, is_harmed}
 use Rattle.whole_paths.specs.Mending.{IsBegunTurn, LeavesRoomFor}
-use Rattle.whole_paths.specs.OnePathScripts.{BeginsWithOnePath}
+use Rattle.whole_paths.specs.Mild.{IsMildStart}
 use Rattle.whole_paths.specs.SegmentRounds.{Rounds}
 use Rattle.whole_paths.specs.WindowsHeard.{IsOpenTo}
 
@@ -61,7 +61,7 @@ WindowsComeSoon = (start : Start) (turns : List Turn) (turn : Turn) (h : IsBegun
 
 -- In four rounds the side may send up to the edge that it was told so; or more is sent behind it.
 abbrev pub FourRoundsOpen : Type 0
-FourRoundsOpen = (start : Start) (plan : PathPlan) (v u : List Turn) → BeginsWithOnePath start plan → Rounds start 4 v u → (s : Side)
+FourRoundsOpen = (start : Start) (v u : List Turn) → IsMildStart start → Rounds start 4 v u → (s : Side)
     → (p q : PathState Carried) → IsPathAt 0 (reached values start v) p → IsPathAt 0 (reached values start u) q
     → (position edge : ℕ) → WindowIsTold (books_in (reached values start v).books) s position edge (p.clock + 400) p
     → (edge ≤ (written_by s (reached values start u)).edge) ⊎ (position < (end_at (peer s) q).tcp.send.nxt)

@@ -44,12 +44,13 @@ pub fn opens_quietly()
     ensures { OpensQuietly }
 {}
 
-/// A law: in one direction of the only path of a mild connection a segment that is harmed makes one debt at most (RFC 9293, section 3.10.7.4).
+/// A law: in one direction of path 0 of a mild connection where windows have room (`windows_have_room`) a segment that is harmed makes one debt at
+/// most (RFC 9293, section 3.10.7.4).
 ///
-/// Debts are records of data of a side that may be lost, and what harmed segments of its peer acknowledged and the side's end didn't hear: by each
-/// turn there are no more than before, but for one if a segment is harmed (`debts`). Until the peer is past the side's FIN the end is told soon how
-/// far the peer is, or that stands among them; and each segment under way to it acknowledges what it heard, is told soon, or stands there (`told`),
-/// by turns between ends past the handshake, B's of which may send a DSS.
+/// So it is over any number of paths; `free` over one. Debts are records of data of a side that may be lost, and what harmed segments of its peer
+/// acknowledged and the side's end didn't hear: by each turn there are no more than before, but for one if a segment is harmed (`debts`). Until the
+/// peer is past the side's FIN the end is told soon how far the peer is, or that stands among them; and each segment under way to it acknowledges what
+/// it heard, is told soon, or stands there (`told`), by turns between ends past the handshake, B's of which may send a DSS.
 /// Once all of the side's stream is with the peer, none is owed. Without debts each record of the side is well, and its end is told soon, or
 /// all of its stream is with the peer (`free`).
 pub fn directions_go_on()
@@ -151,7 +152,7 @@ pub fn lost_records_are_awaited()
 
 /// A law: in eight rounds without a harm a record that may be lost becomes the first one, or one less may be lost (RFC 9293, section 3.4).
 ///
-/// It is said of rounds of a mild connection over one path between open ends, where the end was to be told soon how far its peer was after the first
+/// It is said of rounds of a mild connection between open ends of path 0, where the end was to be told soon how far its peer was after the first
 /// four. By turns without a harm no more records may be lost (`stays`).
 pub fn lost_records_are_first()
     ensures stays { LostRecordsStay }

@@ -129,7 +129,7 @@ pub fn open_ends_hardly_go_awry()
 {}
 
 /// A law: the FIN of an end stands behind all else that the end sends: SND.NXT lies right behind it, where that is to be acknowledged, and where
-/// the peer heard of it (RFC 9293, section 3.10.4).
+/// the peer heard of it; all bytes that the end maps stand before it there (RFC 9293, section 3.10.4).
 pub fn fins_are_last()
     ensures { HoldsAnyway FinsAreLast }
 {}
@@ -179,7 +179,7 @@ pub fn what_has_room_is_sent()
     ensures { WhatHasRoomIsSent }
 {}
 
-/// A law: in each round of a mild connection over one path an application writes its file, or as much as a side buffers past what was acknowledged
+/// A law: in each round of a mild connection in which path 0 is open an application writes its file, or as much as a side buffers past what was acknowledged
 /// as the round began; and the peer's reader reads all that had come in order then.
 pub fn each_round_writes_and_reads()
     ensures writes { EachRoundWrites }
@@ -189,7 +189,7 @@ pub fn each_round_writes_and_reads()
 /// A law: where nothing is to be mended, all that an open end sent comes within four rounds (`brought`), and as soon the end is told how far the peer
 /// was (`told`); so the peer's reader reads a full segment more in twenty rounds (`read`), or all of the stream.
 ///
-/// It is said of a mild connection over one path, between moments at which the path is open. For `read` nothing is to be mended as the rounds begin,
+/// It is said of a mild connection, between moments at which path 0 is open; `read` over one path alone. For that nothing is to be mended as the rounds begin,
 /// and after seven, eleven and fifteen of them; and what the peer could tell of the stream is heard in the first six, as a premise says: the Data
 /// ACK, and a window that takes a full segment, or all of the file. Then come a round in which the application writes, eight by which all is
 /// acknowledged that was under way, so that the end sends what had no room in its congestion window, or what it is granted (`each_grant_is_full`),
@@ -284,10 +284,10 @@ pub fn what_rises_is_owed()
     ensures { WhatRisesIsOwed }
 {}
 
-/// A law: on the only path of a mild connection, once B's end may send a DSS, an end past the handshake that is told soon how far its peer is stays
-/// so, or an answer was harmed.
+/// A law: on path 0 of a mild connection where windows have room (`windows_have_room`), once B's end may send a DSS, an end past the handshake that is
+/// told soon how far its peer is stays so, or an answer was harmed.
 ///
-/// The peer's answer goes (`each_answer_comes_soon`), since the end's window has room for it (`each_window_has_room`); where RCV.NXT rises
+/// So it is over any number of paths. The peer's answer goes (`each_answer_comes_soon`), since the end's window has room for it; where RCV.NXT rises
 /// meanwhile the next answer is owed (`what_rises_is_owed`).
 pub fn who_is_told_stays_told()
     ensures { WhoIsToldStaysTold }
@@ -638,8 +638,8 @@ pub fn all_comes_up_to_lost()
 
 /// A law: in four rounds all comes that a side sends before the first record that may be lost (RFC 9293, section 3.10.7.4).
 ///
-/// It is said of rounds of a mild connection over one path between open ends: RCV.NXT has reached a record that could be lost as they began, or each
-/// record was well. After four rounds more SND.UNA has reached it, where the end was to be told soon how far its peer was (`told`).
+/// It is said of rounds of a mild connection between open ends of path 0: RCV.NXT has reached a record that could be lost as they began, or each record
+/// was well. After four rounds more SND.UNA has reached it, where the end was to be told soon how far its peer was (`told`).
 pub fn four_rounds_clear()
     ensures comes { FourRoundsClear }
     ensures told { EightRoundsClear }
@@ -692,8 +692,9 @@ pub fn bare_segments_are_taken()
 /// it (RFC 8684, section 3.3.3).
 ///
 /// By each turn: one that comes by a tick comes by it still, or is heard; or more was sent behind it, so that it may be overtaken, and doesn't count
-/// then (`by_turn`). An end sends its DATA_FIN once its end is known, though bytes before it wait for a shut window. Over one path it stays so that the
-/// DATA_FIN wasn't sent, or comes so, but for a harm (`stays`); and in four rounds the peer's side knows where the stream ends (`rounds`).
+/// then (`by_turn`). An end sends its DATA_FIN once its end is known, though bytes before it wait for a shut window. Where windows have room
+/// (`windows_have_room`) it stays so that the DATA_FIN wasn't sent, or comes so, but for a harm (`stays`); and in four rounds the peer's side knows where
+/// the stream ends (`rounds`).
 pub fn data_fins_come_soon()
     ensures by_turn { DataFinsComeSoon }
     ensures stays { DataFinsStaySoon }
@@ -704,8 +705,7 @@ pub fn data_fins_come_soon()
 /// unless more is sent behind it (RFC 8684, section 3.3.5).
 ///
 /// By each turn: one that comes by a tick comes by it still, or the side may send up to its edge; or more was sent behind it, so that it may be
-/// overtaken (`by_turn`). The window begins at the place of the Data ACK that the segment has. In four rounds over one path the side may send so far
-/// (`rounds`).
+/// overtaken (`by_turn`). The window begins at the place of the Data ACK that the segment has. In four rounds the side may send so far (`rounds`).
 pub fn windows_come_soon()
     ensures by_turn { WindowsComeSoon }
     ensures rounds { FourRoundsOpen }

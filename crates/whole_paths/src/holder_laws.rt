@@ -11,6 +11,9 @@ ghost use Rattle.whole_paths.specs.FirstMissing.{EachMissingByteIsHeld};
 ghost use Rattle.whole_paths.specs.GivenBack.{EachReturnCounts, GivenBackIsBounded, GivenBackNeverFalls};
 ghost use Rattle.whole_paths.specs.HolderWaits.{HoldersLetGo};
 ghost use Rattle.whole_paths.specs.Holders.{HoldersLive, WhatIsTriedIsAwaited};
+ghost use Rattle.whole_paths.specs.LivingPaths.{LivingPathsLive};
+ghost use Rattle.whole_paths.specs.StandbyPaths.{StandbyIsForAnother};
+ghost use Rattle.whole_paths.specs.StandbyRounds.{WhoStoodByWasServed};
 ghost use Rattle.whole_paths.specs.ManyGoingOn.{PathsGoOn};
 ghost use Rattle.whole_paths.specs.MissingBytes.{WhatIsMissingIsAwaited};
 ghost use Rattle.whole_paths.specs.Priorities.{BackupsAreSaid, PrioritiesComeByLines, WhoSaysAPriorityNotesIt};
@@ -35,6 +38,27 @@ pub fn what_is_tried_is_awaited()
 pub fn holders_live()
     ensures octets { Always octets (λ start w. HoldersLive w) }
     ensures values { Always values (λ start w. HoldersLive w) }
+{}
+
+/// A law: at every moment who lives by a side's control book is a path of the connection whose end of that side is past the handshake, and lives, or its
+/// side is told next that it doesn't.
+pub fn living_paths_live()
+    ensures octets { Always octets (λ start w. LivingPathsLive w) }
+    ensures values { Always values (λ start w. LivingPathsLive w) }
+{}
+
+/// A law: a side's book tells a path that it stands by only where another path of the connection lives that is no backup (RFC 8684, section 3.3.8).
+///
+/// That one's end of the side is past the handshake, and lives, or its side is told next that it doesn't.
+pub fn standby_is_for_another()
+    ensures octets { Always octets (λ start w. StandbyIsForAnother w) }
+    ensures values { Always values (λ start w. StandbyIsForAnother w) }
+{}
+
+/// A law: where a path asked for bytes on standby in a round, there was such another path at a moment of that round.
+pub fn who_stood_by_was_served()
+    ensures octets { WhoStoodByWasServed octets }
+    ensures values { WhoStoodByWasServed values }
 {}
 
 /// A law: a path gives back no byte twice: how many bytes are acknowledged, or were tried by it and are held no longer, never falls by any turns, and is
@@ -75,7 +99,7 @@ pub fn each_byte_counts()
 /// A law: in each round, in whatever order the actors go, where a path's turn is over, an end that may ask for bytes, with room in its window for a full
 /// segment, was granted what it might have taken as the round began, as far as the window reaches (RFC 8684, sections 3.3.5 and 3.3.8).
 ///
-/// Of each byte that was free for the path as the round began: something became of it, or of another byte of the stream (`each_byte_counts`); or the byte
+/// Of each byte that was free for the path as the round began: it was granted to a path since, or acknowledged (`what_is_taken_is_granted`); or the byte
 /// isn't before the edge of the window as the round began, and the end knows that the window is shut; or the path was on standby when it asked last. It is
 /// said of a side that isn't stopped, and whose stream isn't given to one path alone.
 pub fn who_asks_is_refused()

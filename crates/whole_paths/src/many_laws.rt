@@ -2,12 +2,16 @@
 ghost use Rattle.path_core.specs.Octets.{octets};
 ghost use Rattle.path_core.specs.Values.{values};
 ghost use Rattle.whole_paths.specs.EdgeStands.{NothingIsTriedPastTheEdge, ShutEndsStayShut};
+ghost use Rattle.whole_paths.specs.JoinedEnds.{JoinedEndsKnowTheirPeers};
+ghost use Rattle.whole_paths.specs.JoinedPaths.{JoinedPathsNeverBreak};
 ghost use Rattle.whole_paths.specs.FewLossesEnd.{FewLossesEndNoFirst};
 ghost use Rattle.whole_paths.specs.FirstTexts.{BegunTextsEnd, FewFirstTextsFinish, FewFirstTextsGoOn, FirstTextsDeliver, FirstTextsEnd, FirstTextsFinish, FirstTextsGoOn, RegularFirstPathsTellNone};
 ghost use Rattle.whole_paths.specs.ManyCourses.{ManyPathsBringAll, ManyPathsDeliver, ServingPathsDeliver};
-ghost use Rattle.whole_paths.specs.ManyEnds.{FirstPathsEnd};
-ghost use Rattle.whole_paths.specs.ManyPaths.{FirstPathsDeliver};
+ghost use Rattle.whole_paths.specs.ManyEnds.{EachWholePathEnds, FirstPathsEnd};
+ghost use Rattle.whole_paths.specs.ManyPaths.{EachWholePathDelivers, FirstPathsDeliver};
 ghost use Rattle.whole_paths.specs.ManyWaits.{EachMissingByteIsWaitedFor};
+ghost use Rattle.whole_paths.specs.RegularPaths.{EachRegularPathDelivers};
+ghost use Rattle.whole_paths.specs.Mild.{IsPromisedMildly};
 ghost use Rattle.whole_paths.specs.OpeningCourses.{opening_allowance, FirstPathsOpenWithin};
 ghost use Rattle.whole_paths.specs.Wanted.{WhatIsWantedIsTold};
 ghost use Rattle.whole_paths.specs.WindowWaits.{ShutEndsAreAwaited};
@@ -38,6 +42,14 @@ pub fn shut_ends_stay_shut()
 /// edge: probes ask for the window meanwhile. Path 0 is open, and it doesn't stand by.
 pub fn shut_ends_are_awaited()
     ensures { ShutEndsAreAwaited }
+{}
+
+/// A law: each end of a path that joined has the other end's key as soon as it has begun, and as long as it lives; and it owes no third MP_JOIN once it may
+/// send a DSS (RFC 8684, section 3.2).
+///
+/// It may send one from where it is past the handshake on. The links may do anything.
+pub fn joined_ends_know_their_peers()
+    ensures { JoinedEndsKnowTheirPeers }
 {}
 
 /// A law: where not all bytes are acknowledged as a round is over that a side had written as it began, its end of path 0 waits for a record, an answer, a
@@ -78,6 +90,15 @@ pub fn first_paths_deliver()
 pub fn first_paths_end()
     ensures octets { FirstPathsEnd octets }
     ensures values { FirstPathsEnd values }
+{}
+
+/// A law: a path that joins never breaks once each of its ends is past the handshake (RFC 8684, sections 3.2 and 3.6).
+///
+/// In a connection of whose options none is taken away, of whose payload nothing is altered, and in which no side closes at once, no end of it is to be
+/// reset for a reason from then on, nor is it told that its peer closed at once, and no check fails. The handshake itself may fail.
+pub fn joined_paths_never_break()
+    ensures octets { IsPromisedMildly octets (λ start w. JoinedPathsNeverBreak w) }
+    ensures values { IsPromisedMildly values (λ start w. JoinedPathsNeverBreak w) }
 {}
 
 /// A law: where no line of a mild script tells a priority of path 0, path 0 tells no side that it is a backup, over any number of paths (RFC 8684, sections
@@ -138,4 +159,32 @@ pub fn first_texts_go_on()
 /// script lets path 0 die or takes its address back, and the windows have room for what goes on path 0.
 pub fn few_losses_end_no_first()
     ensures { FewLossesEndNoFirst }
+{}
+
+/// A law: once any path is whole at the end of a round, and still whole when rounds enough have ended, both files are delivered, whatever becomes of the
+/// others, path 0 among them (RFC 8684, section 3.3.2).
+///
+/// It is said of mild scripts over any number of paths: a path that joined is enough. It stands by at neither end at any moment. There are rounds enough for
+/// all that can be counted over all paths, and for each segment of this one that is harmed.
+pub fn each_whole_path_delivers()
+    ensures octets { EachWholePathDelivers octets }
+    ensures values { EachWholePathDelivers values }
+{}
+
+/// A law: once any path is whole at the end of a round, both files are delivered when rounds enough have ended, or an end of this path died before all of
+/// both streams was there (RFC 8684, section 3.3.2).
+///
+/// It is said of mild scripts over any number of paths, and where the path stands by at neither end at any moment.
+pub fn each_whole_path_ends()
+    ensures octets { EachWholePathEnds octets }
+    ensures values { EachWholePathEnds values }
+{}
+
+/// A law: once a path that told no side that it is a backup is whole at the end of a round, and still whole when rounds enough have ended, both files are
+/// delivered (RFC 8684, sections 3.3.2 and 3.3.8).
+///
+/// It is said of mild scripts over any number of paths, whichever path it is; its journal alone says that it is no backup.
+pub fn each_regular_path_delivers()
+    ensures octets { EachRegularPathDelivers octets }
+    ensures values { EachRegularPathDelivers values }
 {}

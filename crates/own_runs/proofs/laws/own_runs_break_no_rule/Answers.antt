@@ -1,7 +1,8 @@
 use Rattle.std.proofs.Common.{refl}
-use Rattle.judge_rules.specs.declared.finding.Rule.TheVariants.{AddressHmac, DataFin, DssSum, Fail, FastCloseKey, Form, JoinHmac, Keys, Mapping, PlaceContent, Token, Within}
+use Rattle.judge_rules.specs.declared.finding.Rule.TheVariants.{AddressHmac, DataFin, DssSum, Fail, FastCloseKey, Form, Infinite, JoinHmac, Keys, Mapping, PlaceContent, Token, Within}
 use Rattle.own_runs.proofs.Kept.{no_run_breaks}
 use Rattle.own_runs.proofs.LinesTimes as lines
+use Rattle.own_runs.proofs.OnePathLines.{no_lone_run_breaks}
 use Rattle.own_runs.proofs.PlacesTrace as places
 use Rattle.own_runs.proofs.laws.own_runs_break_no_rule.Goals as goal
 
@@ -40,3 +41,9 @@ returns-clause-data_fin c = lines.no_run_breaks DataFin refl
 
 pub returns-clause-fail : goal.returns-clause-fail
 returns-clause-fail c = places.no_plain_run_breaks Fail refl
+
+pub returns-clause-infinite : goal.returns-clause-infinite
+returns-clause-infinite c = lines.no_plain_run_breaks Infinite refl
+
+pub returns-clause-infinite_lone : goal.returns-clause-infinite_lone
+returns-clause-infinite_lone c = no_lone_run_breaks Infinite refl

@@ -10,5 +10,5 @@ returns c =
     let facts = facts_of c.args.judging.now in
     let lanes = lanes_of c.judge_lanes.new.lanes in
     from_by_steps facts c.args.position (map value_of c.args.keyed.now.options.items) c.args.keyed.now.keys
-    (record { book = book_of c.args.book.now; lanes = lanes_of c.args.lanes.now }) (book_of c.count_gap.new.book) (book_of c.judge_lanes.new.book)
-    (own_lane facts lanes) lanes c.count_gap.ensures c.in_ok-judge_lanes.ensures.judged c.in_ok-judge_lanes.ensures.book c.in_ok-judge_lanes.ensures.lanes
+    (record { book = book_of c.args.book.now; lanes = lanes_of c.args.lanes.now }) c.plain_beside.result (book_of c.count_gap.new.book) (book_of c.judge_lanes.new.book)
+    (own_lane facts lanes) lanes c.count_gap.ensures c.plain_beside.ensures c.in_ok-judge_lanes.ensures.judged c.in_ok-judge_lanes.ensures.book c.in_ok-judge_lanes.ensures.lanes
