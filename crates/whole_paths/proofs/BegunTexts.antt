@@ -5,7 +5,7 @@ use Rattle.std.specs.List.{slice_get}
 use Rattle.std.proofs.lemmas.List.{append-nil, length-append}
 use Rattle.link_script.specs.declared.script.PathLine.{PathLine}
 use Rattle.link_script.specs.declared.script.Script.{Script}
-use Rattle.sides.specs.declared.side.Side.TheVariants.{A}
+use Rattle.sides.specs.declared.side.Side.TheVariants.{A, B}
 use Rattle.subflow_tcp.specs.States.{is_dead}
 use Rattle.path_core.specs.Octets.{octets}
 use Rattle.path_core.specs.Start.{first_turn}
@@ -32,7 +32,7 @@ use Rattle.whole_paths.proofs.ManyEnds.{served_paths_end}
 use Rattle.whole_paths.proofs.ManyPaths.{rounds_so, starts_mildly}
 use Rattle.whole_paths.proofs.OpeningEnds.{LaterPath, delivers_from, first_paths_open_within, later_path}
 use Rattle.whole_paths.proofs.OverOctets.{octets_are_as_far_as_values}
-use Rattle.whole_paths.proofs.ShortRooms.{short_windows_have_room}
+use Rattle.whole_paths.proofs.WindowRoom.{short_files_are_roomy}
 
 -- there is a path 0
 first_plan : (script : Script) (file_a file_b : List ℕ) → 1 ≤ length script.paths → (plan : PathPlan) × (slice_get (start_of script file_a file_b).paths 0 ≡ Some plan)
@@ -79,7 +79,7 @@ module _ (script : Script) (file_a file_b : List ℕ) (turns : List Turn) (text 
   -- no end dies
   none_dies : HarmsNoFirst script file_a file_b → harms_at start 0 turns ≤ 4 → AnEndDied 0 (reached values start turns) → ⊥
   none_dies h four died = few_losses_end_no_first start turns (record { mild = begins.mild; plan = plan.0; there = plan.1; harmless = h.harmless })
-      (let least = text.mild.ranges.buffer.least in omega (arith, least)) (short_windows_have_room start begins.mild h.a h.b) brief.few four died
+      (let least = text.mild.ranges.buffer.least in omega (arith, least)) (short_files_are_roomy start begins.mild (elim [ A ↦ h.a | B ↦ h.b ])) brief.few four died
 
   -- so it goes on until both files are delivered
   goes_on_so : HarmsNoFirst script file_a file_b → harms_at start 0 turns ≤ 4 → (outcome_of (reached values start turns).crew ≡ Going) ⊎ (outcome_of (reached values start turns).crew ≡ Delivered)

@@ -49,7 +49,7 @@ use Rattle.whole_paths.specs.OwedGoes.{IsReply, OwedGoes}
 use Rattle.whole_paths.specs.OwedGoes.{IsReply as reply}
 use Rattle.whole_paths.specs.OwedGoes.{OwedGoes as owed}
 use Rattle.whole_paths.specs.Sent.{WasSent}
-use Rattle.whole_paths.specs.WindowRoom.{LivesWithRoom}
+use Rattle.whole_paths.specs.WindowRoom.{IsRoomy}
 use Rattle.whole_paths.proofs.EdgeRises.{edges_wait_for_the_handshake}
 use Rattle.whole_paths.proofs.Exchanges.{Shown, each_shown}
 use Rattle.whole_paths.proofs.ExpiryMeanings.{Unless, a_opens_still, between, ends_on, far, known, met, then_there, wants_on}
@@ -73,7 +73,7 @@ not_first ds others none is = true≢false (sym (ap comes_first is) ∙ none)
 
 -- ---- a turn between living ends
 
-module _ (start : Start) (rooms : LivesWithRoom start) (turns : List Turn) (turn : Turn) (p q : PathState Carried) (t : IsLivingTurn start turns turn p q) (mild : IsMildStart start) where
+module _ (start : Start) (roomy : IsRoomy start) (turns : List Turn) (turn : Turn) (p q : PathState Carried) (t : IsLivingTurn start turns turn p q) (mild : IsMildStart start) where
   abbrev w : WorldState Carried
   w = reached values start turns
 
@@ -104,7 +104,7 @@ module _ (start : Start) (rooms : LivesWithRoom start) (turns : List Turn) (turn
     from = was_sent s;
     within = ⊎_elim
         (λ inside. inl inside)
-        (λ past. inr (let room = rooms turns p t.before t.lived s in omega (arith, past, room), refl))
+        (λ past. inr (let room = roomy.room turns p t.before t.lived s in omega (arith, past, room), refl))
         (cases_lt (end_at (peer s) p).tcp.send.nxt ((end_at s p).tcp.recv.edge + 1048576));
   })))
 
@@ -257,16 +257,16 @@ opens_first start turns p here lives s h others first = by h.next
 
 -- ---- all of them
 
-module _ (start : Start) (mild : IsMildStart start) (room : 2 ≤ start.buffer) (rooms : LivesWithRoom start) where
+module _ (start : Start) (mild : IsMildStart start) (room : 2 ≤ start.buffer) (roomy : IsRoomy start) where
   pub segments_mean_so : SegmentsMeanSo IsWanted EndsTheRow IsOpenedFor start
   segments_mean_so = record {
     goes_again = λ turns turn p q t s is out h. wants_on start turns turn p q t mild s h.segment
         (what_goes_again_is_wanted start turns mild p t.before t.lived room s is out q h);
-    replies = λ turns turn p q t s x owes is. replies start rooms turns turn p q t mild s x owes is;
+    replies = λ turns turn p q t s x owes is. replies start roomy turns turn p q t mild s x owes is;
     wants_on = λ turns turn p q t s x h. wants_on start turns turn p q t mild s x h;
     ends_on = λ turns turn p q t s x h. ends_on start turns turn p q t mild s x h;
-    wants_come = λ turns turn p q t s f there to h n. wants_come start rooms turns turn p q t mild f there n s to h;
-    ends_come = λ turns turn p q t s f there to h n. ends_come start rooms turns turn p q t mild f there n s to h;
-    opens_on = λ turns turn p q t s h. opens_on start rooms turns turn p q t mild s h;
+    wants_come = λ turns turn p q t s f there to h n. wants_come start roomy turns turn p q t mild f there n s to h;
+    ends_come = λ turns turn p q t s f there to h n. ends_come start roomy turns turn p q t mild f there n s to h;
+    opens_on = λ turns turn p q t s h. opens_on start roomy turns turn p q t mild s h;
     opens_first = λ turns p here lives s h others first. opens_first start turns p here lives s h others first;
   }

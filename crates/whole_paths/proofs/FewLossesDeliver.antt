@@ -9,10 +9,9 @@ use Rattle.whole_paths.specs.ExpiriesInARow.{ExpiriesAreAnswered}
 use Rattle.whole_paths.specs.ExpiryMeanings.{EndsTheRow, IsOpenedFor, IsWanted}
 use Rattle.whole_paths.specs.FewLossesEnd.{FewLossesEndNoFirst, RunsAlive}
 use Rattle.whole_paths.specs.Finish.{BriefLossesEndNone, BriefLossesFinish, IsBrief}
-use Rattle.whole_paths.specs.Mild.{IsMildStart}
 use Rattle.whole_paths.specs.OnePathScripts.{BeginsWithOnePath}
 use Rattle.whole_paths.specs.OpeningCourses.{opening_patience}
-use Rattle.whole_paths.specs.WindowRoom.{LivesWithRoom}
+use Rattle.whole_paths.specs.WindowRoom.{IsRoomy}
 use Rattle.whole_paths.proofs.AnsweredExpiries.{expiries_are_answered_so}
 use Rattle.whole_paths.proofs.ExpiryAnswers.{segments_mean_so}
 use Rattle.whole_paths.proofs.FewLosses.{few_losses_finish_so}
@@ -21,20 +20,20 @@ use Rattle.whole_paths.proofs.HarmlessLines.{spare_first}
 use Rattle.whole_paths.proofs.OnePathScripts.{mild_scripts_begin_with_one_path}
 use Rattle.whole_paths.proofs.OpeningEnds.{one_path_ends}
 use Rattle.whole_paths.proofs.OverOctets.{end_none_where, finish_where}
-use Rattle.whole_paths.proofs.WindowRoom.{living_windows_have_room}
+use Rattle.whole_paths.proofs.WindowRoom.{one_path_is_roomy}
 
 -- the exchange of each expiry
-answers : (start : Start) → IsMildStart start → 2 ≤ start.buffer → LivesWithRoom start → ExpiriesAreAnswered values (RunsAlive start) (IsAnsweredAt IsWanted EndsTheRow IsOpenedFor)
-answers start mild room rooms = expiries_are_answered_so IsWanted EndsTheRow IsOpenedFor start mild (segments_mean_so start mild room rooms)
+answers : (start : Start) → 2 ≤ start.buffer → IsRoomy start → ExpiriesAreAnswered values (RunsAlive start) (IsAnsweredAt IsWanted EndsTheRow IsOpenedFor)
+answers start room roomy = expiries_are_answered_so IsWanted EndsTheRow IsOpenedFor start roomy.mild (segments_mean_so start roomy.mild room roomy)
 
 pub few_losses_end_no_first : FewLossesEndNoFirst
-few_losses_end_no_first start turns h room rooms short few died =
-    few_losses_end_none_so start (IsAnsweredAt IsWanted EndsTheRow IsOpenedFor) (answers start h.mild room rooms) h turns short few died
+few_losses_end_no_first start turns h room roomy short few died =
+    few_losses_end_none_so start (IsAnsweredAt IsWanted EndsTheRow IsOpenedFor) (answers start room roomy) h turns short few died
 
 pub few_losses_end_none : BriefLossesEndNone values
 few_losses_end_none script path file_a file_b turns mild brief harmless few died = few_losses_end_no_first start turns
     (record { mild = begins.mild; plan = plan; there = ap (λ (plans : List PathPlan). slice_get plans 0) begins.one; harmless = spare_first script.lines harmless })
-    (let room = begins.buffer in omega (arith, room)) (λ turns p here lives s. living_windows_have_room start plan turns begins.one begins.mild p here lives s) brief.few few died
+    (let room = begins.buffer in omega (arith, room)) (one_path_is_roomy start plan begins) brief.few few died
   where
     start : Start
     start = start_of script file_a file_b

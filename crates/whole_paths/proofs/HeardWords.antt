@@ -23,7 +23,7 @@ use Rattle.path_core.specs.MpCapable.{key_items}
 use Rattle.path_core.specs.MpJoin.{join_items}
 use Rattle.path_core.specs.OptionsIn.{items_in}
 use Rattle.whole_paths.specs.Priorities.{BackupsAreSaid}
-use Rattle.whole_paths.proofs.NoticeWords.{AreUnheard, Word, is_heard, no_backup, ranks, removes, is_said, same_options}
+use Rattle.whole_paths.proofs.NoticeWords.{AreUnheard, Word, flag_of, flags, is_heard, no_backup, ranks, removes, is_said, same_options}
 
 module _ (word : Word) where
   abbrev SayNone : List Heard → Type 0
@@ -60,12 +60,12 @@ module _ (word : Word) where
   key_say A _ = refl
   key_say B _ = refl
 
-  join_say : (s : Side) (form : JoinForm) → SayNone (join_items s form)
-  join_say A (forms.Answer backup id hmac nonce) = refl
-  join_say B (forms.Syn backup id token nonce) = refl
-  join_say B (forms.Third hmac) = refl
-  join_say A _ = refl
-  join_say B _ = refl
+  join_say : (s : Side) (form : JoinForm) → flags word && flag_of form ≡ false → SayNone (join_items s form)
+  join_say A (forms.Answer backup id hmac nonce) none = or_from (flags word && backup) false none refl
+  join_say B (forms.Syn backup id token nonce) none = or_from (flags word && backup) false none refl
+  join_say B (forms.Third hmac) none = or_from (flags word && false) false none refl
+  join_say A _ none = refl
+  join_say B _ none = refl
 
   ack_say : (window : ℕ) (next : Option ℕ) → SayNone (ack_items (option_map (λ n. Some n) next) window)
   ack_say window None = refl
@@ -81,7 +81,7 @@ module _ (word : Word) where
   option_says joined s window (options.Remove ids) none = removed_say ids none
   option_says joined s window (options.Capable flag_a flag_c form) none = either_say joined [] (key_items s form) refl (key_say s form)
   option_says joined s window (options.Dss next mapping) none = both_say (ack_items (option_map (λ n. Some n) next) window) (map_items (option_map meant_mapping mapping)) (ack_say window next) (map_say mapping)
-  option_says joined s window (options.Join form) none = join_say s form
+  option_says joined s window (options.Join form) none = join_say s form none
   option_says joined s window (options.AddAddr echo id address port hmac) none = address_say echo id address port hmac
   option_says joined s window (options.Prio backup) none = or_from (ranks word) false none refl
   option_says joined s window (options.Fail place) none = refl

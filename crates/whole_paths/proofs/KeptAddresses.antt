@@ -73,7 +73,7 @@ duty_notes six d x keeps none = shed_notes six d x tt none
 
 duty_clean : (six : SixBooks) (d : Duty) (ds : List Duty) (p : PathState Carried) → let x = with_agenda (d ∷ ds) p in ((s : Side) → Keeps 0 (control_of s six)) → Spares p.lines → Clean x
     → Clean (answered values d (reply_of six (ask_for values d x)) x)
-duty_clean six d ds p keeps spares h = record { agenda = by (is_event d) refl; unsaid = duty_unsaid removed d ds r p (duty_notes six d x keeps h.unsaid.notes) h.unsaid }
+duty_clean six d ds p keeps spares h = record { agenda = by (is_event d) refl; unsaid = duty_unsaid removed d ds r p (λ is joined. absurd (true≢false (sym is))) (duty_notes six d x keeps h.unsaid.notes) h.unsaid }
   where
     x : PathState Carried
     x = with_agenda (d ∷ ds) p

@@ -87,6 +87,7 @@ pub mod Hears
 pub mod InRounds
 pub mod InTime
 pub mod EachPath
+pub mod EachText
 pub mod JoinedEnds
 pub mod JoinedFinite
 pub mod JoinedKeys
@@ -343,10 +344,10 @@ pub mod Backups
 pub mod BackupAsks
 pub mod RegularPaths
 pub mod NoPriorities
+pub mod JoinFlags
 pub mod FirstTexts
 pub mod BegunTexts
 pub mod GoesOnLiving
-pub mod ShortRooms
 pub mod ManyWaits
 pub mod ManyGoingOn
 pub mod ManyCourses

@@ -28,12 +28,11 @@ use Rattle.path_core.specs.Codec.{Codec}
 use Rattle.path_core.specs.End.{PathEnd}
 use Rattle.path_core.specs.Octets.{octets}
 use Rattle.path_core.specs.Profile.{Profile}
-use Rattle.path_core.specs.State.{PathState}
 use Rattle.path_core.specs.Values.{Carried, values}
 use Rattle.world_laws.specs.declared.member.Member.TheVariants.{App, Path}
 use Rattle.world_laws.specs.Actors.{Actor, ActorCrew}
 use Rattle.world_laws.specs.Fresh.{shown_crew, shown_member, shown_world}
-use Rattle.world_laws.specs.Members.{HoldsOfKind, of_kind}
+use Rattle.world_laws.specs.Members.{of_kind}
 use Rattle.world_laws.specs.Openings.{PathPlan, Start, path_begins, opened_world}
 use Rattle.world_laws.specs.Promises.{BothKeepTheirWord, IsPlain, NumbersFit}
 use Rattle.world_laws.specs.Worlds.{WorldState, Turn, world_run}
@@ -46,7 +45,7 @@ use Rattle.world_laws.proofs.Numbers.PathSteps.{PathTells}
 use Rattle.world_laws.proofs.Numbers.TellSmall.{EndTells}
 use Rattle.world_laws.proofs.Promises.Made.{keep_their_word, run_fresh}
 use Rattle.world_laws.proofs.Weaving.Journals.{books_after}
-use Rattle.world_laws.proofs.Worlds.CastLifting.{each_actor, path_actor, writes_the_files}
+use Rattle.world_laws.proofs.Worlds.CastLifting.{path_actor, writes_the_files}
 use Rattle.world_laws.proofs.Worlds.Casts.{Walker, seated, walking, world_of}
 use Rattle.world_laws.proofs.Worlds.Turns.{run_so}
 use Rattle.whole_paths.specs.News.{NewsIsBounded, arrived_news, end_news, most_news, news, path_news, sent_news, side_news}
@@ -229,38 +228,6 @@ module _ (start : Start) (turns : List Turn) (plain : IsPlain start) (fit : Numb
 
       end_b : end_news x.path.b ≤ 3 * b + a + 19
       end_b = end_most _ B x.path.b n b a view_ba view_ab there.ba there.ab there.shows.b told.b to_a to_b holds_ba holds_ab
-
-  -- SND.NXT of both ends of a path
-  abbrev PositionsFew : PathState Carried → Type 0
-  PositionsFew p = (p.a.tcp.send.nxt ≤ a + 2) × (p.b.tcp.send.nxt ≤ b + 2)
-
-  path_positions : (n : ℕ) (x : Walker Carried) → slice_get h.cast.paths n ≡ Some x → PositionsFew x.path
-  path_positions n x at = (omega (arith, next_a, sent_a), omega (arith, next_b, sent_b))
-    where
-      there : PathThere start h.lanes_ab h.lanes_ba n x.path
-      there = h.paths.each n n x (omega arith) at
-
-      holds_ab : LaneHolds view_ab n there.ab
-      holds_ab = holds.ab.lanes.each n n there.ab (omega arith) there.ab_there
-
-      holds_ba : LaneHolds view_ba n there.ba
-      holds_ba = holds.ba.lanes.each n n there.ba (omega arith) there.ba_there
-
-      sent_a : length there.ab.sent ≤ a
-      sent_a = lane_most n view_ab a there.ab to_b holds_ab
-
-      sent_b : length there.ba.sent ≤ b
-      sent_b = lane_most n view_ba b there.ba to_a holds_ba
-
-      next_a : x.path.a.tcp.send.nxt ≤ length there.ab.sent + 2
-      next_a = next_most n view_ab x.path.a.tcp.send.finished x.path.a.tcp.send.nxt x.path.a.sending.heard x.path.a.sending.granted there.ab.sent there.ab.fins there.ab.pair there.shows.a.sender.sent holds_ab.fins
-
-      next_b : x.path.b.tcp.send.nxt ≤ length there.ba.sent + 2
-      next_b = next_most n view_ba x.path.b.tcp.send.finished x.path.b.tcp.send.nxt x.path.b.sending.heard x.path.b.sending.granted there.ba.sent there.ba.fins there.ba.pair there.shows.b.sender.sent holds_ba.fins
-
-  pub positions_few : (actor : ℕ) (c : ActorCrew Carried) → slice_get w.crew actor ≡ Some c → HoldsOfKind (λ app. Unit {0}) PositionsFew c.member
-  positions_few = subst (λ (v : WorldState Carried). (actor : ℕ) (c : ActorCrew Carried) → slice_get v.crew actor ≡ Some c → HoldsOfKind (λ app. Unit {0}) PositionsFew c.member) (sym h.is)
-      (each_actor (λ actor c. HoldsOfKind (λ app. Unit {0}) PositionsFew c.member) h.cast tt tt (λ number x there. path_positions number x there))
 
   abbrev member_news : ActorCrew Carried → ℕ
   member_news c = of_kind (λ app. 0) (path_news start) c.member

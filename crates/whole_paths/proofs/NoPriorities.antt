@@ -1,7 +1,8 @@
--- Where no line of the script tells a priority of path 0, none is ever noted, said or heard on it: it tells no side that it is a backup.
-use Rattle.std.proofs.Common.{◌≡◌, refl, sym, subst, ap, ◌∙◌, ⊎_elim, ℕ, ◌+◌, ◌==◌, arith, Bool, true, false, true≢false, not, if◌then◌else◌, Option, Some, None, List, [], ◌∷◌, ◌++◌, map}
+-- Where no line of the script tells a priority of a path, none is ever noted, said or heard on it; where its own line doesn't say that it is a backup, no
+-- MP_JOIN says so, and that of path 0 says nothing: so it tells no side that it is a backup.
+use Rattle.std.proofs.Common.{◌≡◌, refl, sym, subst, ap, ◌∙◌, inl, ⊎_elim, ℕ, ◌+◌, arith, nat_lt, Bool, true, false, true≢false, not, if◌then◌else◌, Option, Some, None, List, [], ◌∷◌, ◌++◌, map}
 use Rattle.std.specs.List.{list_any, slice_get}
-use Rattle.std.proofs.lemmas.Bool.{both_ways, or_from, or_parts}
+use Rattle.std.proofs.lemmas.Bool.{both_ways, or_from}
 use Rattle.std.proofs.lemmas.List.Folds.{list_any-append}
 use Rattle.std.proofs.lemmas.Option.{same_Some}
 use Rattle.sides.specs.declared.side.Side.{Side}
@@ -21,6 +22,7 @@ use Rattle.actor_desk.specs.declared.ask.Ask.{Ask}
 use Rattle.actor_desk.specs.declared.ask.Note.{Note}
 use Rattle.actor_desk.specs.declared.ask.Reply.{Reply}
 use Rattle.path_agenda.specs.Agenda.{emission, leaves}
+use Rattle.path_agenda.specs.Words.{replaced}
 use Rattle.path_agenda.specs.declared.duty.Duty.{Duty}
 use Rattle.path_agenda.specs.declared.duty.Duty.TheVariants as duties
 use Rattle.path_agenda.specs.declared.duty.AskDuty.TheVariants as ask_duties
@@ -32,13 +34,13 @@ use Rattle.path_store.specs.Lines.{with_event}
 use Rattle.path_store.specs.declared.lines.LineAction.{LineAction}
 use Rattle.path_store.specs.declared.lines.LineAction.TheVariants as actions
 use Rattle.path_store.specs.declared.lines.LineLeft.{LineLeft}
-use Rattle.path_core.specs.Arrival.{after_judged, asked_in, copy_heard, copy_judged, heard_in, judged_in, reset_for, told_at}
+use Rattle.path_core.specs.Arrival.{after_judged, asked_in, copy_heard, copy_judged, heard_in, judged_in, reset_for, template_of, told_at, with_held}
 use Rattle.path_core.specs.DssIn.{HeardOption, held_of}
 use Rattle.path_core.specs.Duties.{answered, passed}
 use Rattle.path_core.specs.End.{PathEnd, died}
 use Rattle.path_core.specs.Events.{after_line, happens_if, next_event}
-use Rattle.path_core.specs.Judged.{taken_as}
-use Rattle.path_core.specs.MpJoin.{is_joined, is_never, join_begun, keys_begun, never_joined, opened_by}
+use Rattle.path_core.specs.Judged.{after_join, answered_in, cleared_in, taken_as, with_answer}
+use Rattle.path_core.specs.MpJoin.{asked_at, is_joined, is_never, join_answer, join_begun, join_taken, joined_by, keys_begun, never_joined, opened_by, with_mode_refused}
 use Rattle.path_core.specs.OptionsIn.{options_heard}
 use Rattle.path_core.specs.Start.{first_turn, waiting_path}
 use Rattle.path_core.specs.State.{PathState, at_tick, end_at, goes_on, with_agenda}
@@ -52,28 +54,34 @@ use Rattle.stream_apps.specs.declared.duty.AppDuty.{AppDuty}
 use Rattle.stream_apps.specs.declared.duty.AppDuty.TheVariants as apps
 use Rattle.stream_apps.specs.Apps.{AppState}
 use Rattle.world_laws.specs.declared.member.Member.TheVariants.{App, Path}
-use Rattle.world_laws.specs.Actors.{Actor, ActorCrew, member_asks}
+use Rattle.world_laws.specs.Actors.{Actor, ActorCrew, member_asks, member_next, member_takes}
 use Rattle.world_laws.specs.Openings.{PathPlan, Start, opened_world, path_begins}
 use Rattle.world_laws.specs.RoundDone.{reached}
 use Rattle.world_laws.specs.Worlds.{Turn, WorldState, all_over, asked, begins, crew_after, greatest, note_of}
-use Rattle.world_laws.specs.Writes.{EndView, OnlyAt, Writes, side_of, writes}
+use Rattle.world_laws.specs.Writes.{EndView, OnlyAt, PathView, Writes, side_of, writes}
 use Rattle.world_laws.proofs.Worlds.Opened.{opened_actors}
 use Rattle.world_laws.proofs.Writes.Paths.{passes_no_more, writes_no_more}
-use Rattle.world_laws.proofs.Writes.Steps.{Lasts, begins_lasts, both_ends, settled_lasts, unwritten}
+use Rattle.world_laws.proofs.Writes.Steps.{Lasts, begins_lasts, both_ends, settled_lasts, takes_lasts, unwritten}
 use Rattle.whole_paths.specs.Backups.{ToldNoBackup, noted_backup, tells_backup}
-use Rattle.whole_paths.specs.FirstTexts.{RankNoFirst, RegularFirstPathsTellNone, ranks_first}
-use Rattle.whole_paths.specs.Mild.{IsMildStart, IsNeverBroken, is_harsh}
+use Rattle.whole_paths.specs.FirstTexts.{JoinsAsNoBackup, RankNone, RegularFirstPathsTellNone, RegularPathsTellNone, ranks_path}
 use Rattle.whole_paths.specs.Priorities.{is_priority_line}
 use Rattle.whole_paths.proofs.BackupAsks.{who_heard_of_none_tells_none}
-use Rattle.whole_paths.proofs.Breaking.{never_breaks}
-use Rattle.whole_paths.proofs.ByTurns.{Of, OfFirst, each_first_moment, each_moment}
+use Rattle.whole_paths.proofs.ByTurns.{Of, each_moment}
 use Rattle.whole_paths.proofs.LinesLeft as left
-use Rattle.whole_paths.proofs.NoticeWords.{Word, no_backup}
-use Rattle.whole_paths.proofs.OpenCourses.{IsFirstPath, each_first}
+use Rattle.whole_paths.proofs.NoticeWords.{AreUnheard, Word, is_queued, no_backup}
 use Rattle.whole_paths.proofs.Pieces.{is_event}
 use Rattle.whole_paths.proofs.QueuedWords as queues
-use Rattle.whole_paths.proofs.UnsaidWords.{Unsaid, begins_unsaid, duty_unsaid, next_unsaid, notes_then, settled_unsaid}
-
+use Rattle.whole_paths.proofs.UnsaidWords.{HearNone, Unsaid, begins_unsaid, duty_unsaid, next_unsaid, notes_then, settled_unsaid}
+use Rattle.join_handshake.specs.declared.hearing.JoinAnswer.{JoinAnswer}
+use Rattle.join_handshake.specs.declared.hearing.JoinSyn.{JoinSyn}
+use Rattle.path_agenda.specs.declared.heard.Heard.{Heard}
+use Rattle.path_agenda.specs.declared.notice.OwnNotice.{OwnNotice}
+use Rattle.subflow_tcp.specs.declared.handshake.State.{State as EndPhase}
+use Rattle.path_core.specs.OptionsIn.{items_of}
+use Rattle.world_laws.specs.StampedBooks.{answer_to}
+use Rattle.world_laws.proofs.Worlds.Turns.{run_so}
+use Rattle.whole_paths.proofs.JoinFlags.{answer_flag, asked_flag}
+use Rattle.whole_paths.proofs.SaidWords.{Fits}
 -- ---- the flag of an MP_JOIN
 
 -- neither end comes to hear one
@@ -106,21 +114,52 @@ asked_same : (m : Meaning) (options : List HeardOption) (modes : Modes) → (ask
 asked_same means.Opens options modes = refl
 asked_same _ options modes = refl
 
--- a copy, on a path that doesn't join
-judged_same : (joined : Bool) → joined ≡ false → (told : List KeptMapping) (answer : Outgoing) (s : Side) (now : ℕ) (x : HeardSegment) (meaning : Meaning) (e : PathEnd)
-    → (copy_judged joined told answer s now x meaning e).modes.backup_heard ≡ e.modes.backup_heard
-judged_same true is told answer s now x meaning e = absurd (true≢false is)
-judged_same false is told answer s now x meaning e = asked_same meaning x.options e.modes
+asked_none : (joined : Bool) (items : List Heard) (meaning : Meaning) (e : PathEnd) → AreUnheard Word.flag items → e.modes.backup_heard ≡ false → (after_join joined items meaning e).modes.backup_heard ≡ false
+asked_none false items meaning e none h = h
+asked_none true items meaning e none h = cleared meaning e.tcp.state (answered_in meaning items e.modes) ∙ answers meaning
+  where
+    cleared : (meaning : Meaning) (state : EndPhase) (m : Modes) → (cleared_in meaning state m).backup_heard ≡ m.backup_heard
+    cleared (means.Taken position acknowledged) state m = refl
+    cleared _ state m = refl
 
-told_stays : (now : ℕ) (s : Side) (x : HeardSegment) (p : PathState Carried) → is_joined p.profile ≡ false → HeardStays p (told_at now s x p)
-told_stays now s x p first =
+    with_flag : (o : Option JoinAnswer) → join_answer items e.modes ≡ o → (with_answer o e.modes).backup_heard ≡ false
+    with_flag None is = h
+    with_flag (Some answer) is = answer_flag items e.modes answer is none
+
+    answers : (meaning : Meaning) → (answered_in meaning items e.modes).backup_heard ≡ false
+    answers (means.Accepts acknowledged) = with_flag (join_answer items e.modes) refl
+    answers _ = h
+
+judged_none : (joined : Bool) (told : List KeptMapping) (answer : Outgoing) (s : Side) (now : ℕ) (x : HeardSegment) (meaning : Meaning) (e : PathEnd) → AreUnheard Word.flag (items_of joined s x) → e.modes.backup_heard ≡ false
+    → (copy_judged joined told answer s now x meaning e).modes.backup_heard ≡ false
+judged_none joined told answer s now x meaning e none h =
+    asked_same meaning x.options (after_join joined (items_of joined s x) meaning (with_held told x meaning e)).modes ∙ asked_none joined (items_of joined s x) meaning (with_held told x meaning e) none h
+
+-- neither end heard one
+abbrev NoneHeard : PathState Carried → Type 0
+NoneHeard p = (s : Side) → (end_at s p).modes.backup_heard ≡ false
+
+heard_then : (p q : PathState Carried) → HeardStays p q → NoneHeard p → NoneHeard q
+heard_then p q x none A = x.a ∙ none A
+heard_then p q x none B = x.b ∙ none B
+
+side_none : (s : Side) (e : PathEnd) (ds : List Duty) (p : PathState Carried) → e.modes.backup_heard ≡ false → NoneHeard p → NoneHeard (goes_on s e ds p)
+side_none A e ds p is h A = is
+side_none A e ds p is h B = h B
+side_none B e ds p is h A = h A
+side_none B e ds p is h B = is
+
+told_none : (now : ℕ) (s : Side) (x : HeardSegment) (p : PathState Carried) → AreUnheard Word.flag (items_of (is_joined p.profile) s x) → NoneHeard p → NoneHeard (told_at now s x p)
+told_none now s x p none h =
     let joined = is_joined p.profile in let verdict = judged_in joined s x (end_at s p) in
-    side_stays s (after_judged p.profile s now x verdict (end_at s p)) _ p
-    (judged_same joined first (held_of p.profile s x) (reset_for p.profile s x) s now x (taken_as verdict) (end_at s p))
+    side_none s (after_judged p.profile s now x verdict (end_at s p)) (template_of joined s (items_of joined s x) verdict) p
+    (judged_none joined (held_of p.profile s x) (reset_for p.profile s x) s now x (taken_as verdict) (end_at s p) none (h s)) h
 
-copy_stays : (s : Side) (o : Option HeardSegment) (p : PathState Carried) → is_joined p.profile ≡ false → HeardStays p (copy_heard s o p)
-copy_stays s None p first = record { a = refl; b = refl }
-copy_stays s (Some x) p first = told_stays p.clock s (options_heard (end_at s p) x) p first
+-- a copy of which nothing that is heard says it
+copy_none : (s : Side) (o : Option HeardSegment) (p : PathState Carried) → HearNone Word.flag (copy_heard s o p) → NoneHeard p → NoneHeard (copy_heard s o p)
+copy_none s None p none h = heard_then p (copy_heard s None p) (record { a = refl; b = refl }) h
+copy_none A (Some x) p none h = told_none p.clock A (options_heard (end_at A p) x) p (none A) h
+copy_none B (Some x) p none h = told_none p.clock B (options_heard (end_at B p) x) p (none B) h
 
 begun_stays : (r : Reply) (dead living : List Duty) (p : PathState Carried) → HeardStays p (join_begun r dead living p)
 begun_stays r dead living p =
@@ -141,19 +180,28 @@ line_stays (actions.Prio s backup) p = side_stays s _ _ p refl
 line_stays (actions.Announce s id) p = record { a = refl; b = refl }
 line_stays (actions.Withdraw s id) p = record { a = refl; b = refl }
 
-event_stays : (o : Option Event) (r : Reply) (p : PathState Carried) → is_joined p.profile ≡ false → HeardStays p (happens_if values o r p)
-event_stays None r p first = record { a = refl; b = refl }
-event_stays (Some (happenings.Joins tick)) r p first =
-    let x : PathState Carried = record (at_tick tick p) { joined_at = None } in chain_stays p x _ (record { a = refl; b = refl }) (begun_stays r (leaves A) (emission A) x)
-event_stays (Some (happenings.Takes line)) r p first =
-    let x : PathState Carried = record (at_tick line.tick p) { lines = tail_of p.lines } in chain_stays p x _ (record { a = refl; b = refl }) (line_stays line.action x)
-event_stays (Some (happenings.Arrives due)) r p first =
+event_none : (o : Option Event) (r : Reply) (p : PathState Carried) → HearNone Word.flag (happens_if values o r p) → NoneHeard p → NoneHeard (happens_if values o r p)
+event_none None r p none h = heard_then p (happens_if values None r p) (record { a = refl; b = refl }) h
+event_none (Some (happenings.Joins tick)) r p none h =
+    let x : PathState Carried = record (at_tick tick p) { joined_at = None } in
+    heard_then p (happens_if values (Some (happenings.Joins tick)) r p) (chain_stays p x _ (record { a = refl; b = refl }) (begun_stays r (leaves A) (emission A) x)) h
+event_none (Some (happenings.Takes line)) r p none h =
+    let x : PathState Carried = record (at_tick line.tick p) { lines = tail_of p.lines } in
+    heard_then p (happens_if values (Some (happenings.Takes line)) r p) (chain_stays p x _ (record { a = refl; b = refl }) (line_stays line.action x)) h
+event_none (Some (happenings.Arrives due)) r p none h =
     let x : PathState Carried = record (at_tick due.tick p) { link = after_delivery due p.link } in
-    chain_stays p x _ (record { a = refl; b = refl }) (copy_stays due.to (heard_in values due.to (arriving due p.link) p) x first)
-event_stays (Some (happenings.Fires A tick)) r p first = record { a = refl; b = refl }
-event_stays (Some (happenings.Fires B tick)) r p first = record { a = refl; b = refl }
+    copy_none due.to (heard_in values due.to (arriving due p.link) p) x none (elim [ A ↦ h A | B ↦ h B ])
+event_none (Some (happenings.Fires A tick)) r p none h = heard_then p (happens_if values (Some (happenings.Fires A tick)) r p) (record { a = refl; b = refl }) h
+event_none (Some (happenings.Fires B tick)) r p none h = heard_then p (happens_if values (Some (happenings.Fires B tick)) r p) (record { a = refl; b = refl }) h
 
--- but for the SYN that asks to join
+-- the SYN that asks to join
+join_none : (s : Side) (keys : Option KeyPair) (o : Option JoinSyn) (r : Reply) (p : PathState Carried) → asked_at s p ≡ o → AreUnheard Word.flag (end_at s p).treated.items → NoneHeard p → NoneHeard (join_taken s keys o r p)
+join_none s (Some keys) (Some request) r p is none h =
+    side_none s (joined_by keys request (end_at s p)) (replaced (duties.Send (send_duties.SynAck s)) p.agenda) p (asked_flag (end_at s p).treated.items request is none) h
+join_none s None (Some request) r p is none h = side_none s (with_mode_refused r (end_at s p)) (replaced (duties.Send (send_duties.Refuse s)) p.agenda) p (h s) h
+join_none s keys None r p is none h = heard_then p (join_taken s keys None r p) (record { a = refl; b = refl }) h
+
+-- nothing else writes it
 abbrev is_join : Duty → Bool
 is_join (duties.Ask (ask_duties.JoinHeard s)) = true
 is_join _ = false
@@ -165,10 +213,10 @@ spares_flag (duties.Send (send_duties.Update s)) other still = (refl, refl)
 spares_flag (duties.Silent (silent_duties.Timer s)) other still = (refl, refl)
 spares_flag _ other still = (refl, refl)
 
-answered_stays : (d : Duty) (r : Reply) (p : PathState Carried) → is_harsh d ≡ false → is_joined p.profile ≡ false → HeardStays p (answered values d r p)
-answered_stays (duties.Ask (ask_duties.JoinHeard s)) r p mild first = absurd (true≢false mild)
-answered_stays (duties.Step step_duties.Events) r p mild first = event_stays (next_event p) r p first
-answered_stays d r p mild first = let none = spares_flag d refl refl in unwritten_stays (side_of d) (writes d) p _ none.0 none.1 (writes_no_more values d r p)
+answered_none : (d : Duty) (r : Reply) (p : PathState Carried) → HearNone Word.flag p → HearNone Word.flag (answered values d r p) → NoneHeard p → NoneHeard (answered values d r p)
+answered_none (duties.Ask (ask_duties.JoinHeard s)) r p items next h = join_none s (keys_begun r) (asked_at s p) r p refl (items s) h
+answered_none (duties.Step step_duties.Events) r p items next h = event_none (next_event p) r p next h
+answered_none d r p items next h = let none = spares_flag d refl refl in heard_then p (answered values d r p) (unwritten_stays (side_of d) (writes d) p _ none.0 none.1 (writes_no_more values d r p)) h
 
 passed_stays : (d : Duty) (p : PathState Carried) → HeardStays p (passed d p)
 passed_stays (duties.Ask (ask_duties.JoinHeard s)) p = stays p
@@ -178,93 +226,132 @@ passed_stays d p = let none = spares_flag d refl refl in unwritten_stays (side_o
 heard_last : Lasts HeardStays
 heard_last = record { agenda = λ ds p. record { a = refl; b = refl }; chains = chain_stays; passes = passed_stays }
 
--- ---- path 0
+-- ---- the profile
 
--- no priority is to come, is noted, said or heard; and neither end heard a flag
+abbrev KeepsProfile : PathState Carried → PathState Carried → Type 0
+KeepsProfile p q = q.profile ≡ p.profile
+
+profile_last : Lasts KeepsProfile
+profile_last = record { agenda = λ ds p. refl; chains = λ p q r x y. y ∙ x; passes = λ d p. ap (λ (v : PathView Carried). v.profile) (passes_no_more d p).same }
+
+takes_profile : (r : Reply) (p : PathState Carried) → KeepsProfile p (takes values r p)
+takes_profile r p = takes_lasts KeepsProfile profile_last values r p (λ d. ap (λ (v : PathView Carried). v.profile) (writes_no_more values d r p).same)
+
+-- ---- a path
+
+-- no priority is to come, is noted, said or heard; nor is a flag said or heard, and neither end heard one
 record IsRegular (p : PathState Carried) : Type 0 where
   lines : left.Spares is_priority_line p.lines
   unsaid : Unsaid Word.priority p
-  joined : (s : Side) → (end_at s p).modes.backup_heard ≡ false
+  unflagged : Unsaid Word.flag p
+  fits : Fits Word.flag p.profile
+  joined : NoneHeard p
 
--- what is known of it
-record IsFirst (p : PathState Carried) : Type 0 where
-  first : is_joined p.profile ≡ false
-  mild : list_any is_harsh p.agenda ≡ false
+none_flagged : (queue : List OwnNotice) → is_queued Word.flag queue ≡ false
+none_flagged [] = refl
+none_flagged (OwnNotice.Prio backup ∷ queue) = none_flagged queue
+none_flagged (OwnNotice.Removes id ∷ queue) = none_flagged queue
+none_flagged (_ ∷ queue) = none_flagged queue
 
-heard_then : (p q : PathState Carried) → HeardStays p q → ((s : Side) → (end_at s p).modes.backup_heard ≡ false) → (s : Side) → (end_at s q).modes.backup_heard ≡ false
-heard_then p q x none A = x.a ∙ none A
-heard_then p q x none B = x.b ∙ none B
+-- but for the lines and the profile
+record IsSilent (p : PathState Carried) : Type 0 where
+  unsaid : Unsaid Word.priority p
+  unflagged : Unsaid Word.flag p
+  joined : NoneHeard p
 
--- but for the lines
-abbrev IsSilent : PathState Carried → Type 0
-IsSilent p = Unsaid Word.priority p × ((s : Side) → (end_at s p).modes.backup_heard ≡ false)
-
-takes_regular : (r : Reply) (p : PathState Carried) → IsFirst p → IsRegular p → IsRegular (takes values r p)
-takes_regular r p known h = record { lines = left.takes_spares is_priority_line values r p h.lines; unsaid = (by p.agenda known h).0; joined = (by p.agenda known h).1 }
+takes_regular : (r : Reply) (p : PathState Carried) → IsRegular p → IsRegular (takes values r p)
+takes_regular r p h =
+    let now : IsSilent (takes values r p) = by p.agenda h in
+    record { lines = left.takes_spares is_priority_line values r p h.lines; unsaid = now.unsaid; unflagged = now.unflagged; fits = subst (Fits Word.flag) (sym (takes_profile r p)) h.fits; joined = now.joined }
   where
-    by : (ds : List Duty) → let x = with_agenda ds p in IsFirst x → IsRegular x → IsSilent (takes values r x)
-    by [] known h = (h.unsaid, h.joined)
-    by (d ∷ ds) known h =
+    by : (ds : List Duty) → let x = with_agenda ds p in IsRegular x → IsSilent (takes values r x)
+    by [] h = record { unsaid = h.unsaid; unflagged = h.unflagged; joined = h.joined }
+    by (d ∷ ds) h =
         let x : PathState Carried = with_agenda (d ∷ ds) p in let q : PathState Carried = answered values d r x in
-        let spares = left.no_harm_comes is_priority_line x h.lines in (
-          settled_unsaid Word.priority q (duty_unsaid Word.priority d ds r p
-              (notes_then Word.priority x q (queues.answered_sheds Word.priority values d (λ is. absurd (true≢false is)) r x (λ is line next. spares line next)) h.unsaid.notes) h.unsaid),
-          heard_then x (settled q.agenda q) (chain_stays x q _ (answered_stays d r x (or_parts (is_harsh d) (list_any is_harsh ds) known.mild).0 known.first) (settled_lasts HeardStays heard_last q.agenda q)) h.joined,
-        )
+        let spares = left.no_harm_comes is_priority_line x h.lines in
+        let flags : Unsaid Word.flag q = duty_unsaid Word.flag d ds r p h.fits (λ s. none_flagged (end_at s q).notices.queue) h.unflagged in
+        record {
+          unsaid = settled_unsaid Word.priority q (duty_unsaid Word.priority d ds r p (λ is joined. absurd (true≢false (sym is)))
+              (notes_then Word.priority x q (queues.answered_sheds Word.priority values d (λ is. absurd (true≢false is)) r x (λ is line next. spares line next)) h.unsaid.notes) h.unsaid);
+          unflagged = settled_unsaid Word.flag q flags;
+          joined = heard_then q (settled q.agenda q) (settled_lasts HeardStays heard_last q.agenda q) (answered_none d r x h.unflagged.items flags.items h.joined);
+        }
 
-next_regular : (p : PathState Carried) → IsFirst p → IsRegular p → IsRegular (next_round p)
-next_regular p known h =
+next_regular : (p : PathState Carried) → IsRegular p → IsRegular (next_round p)
+next_regular p h =
     let x : PathState Carried = record p { clock = p.until; until = p.until + 100 } in record {
       lines = left.begins_spares is_priority_line x h.lines;
       unsaid = next_unsaid Word.priority p h.unsaid;
+      unflagged = next_unsaid Word.flag p h.unflagged;
+      fits = subst (Fits Word.flag) (sym (begins_lasts KeepsProfile profile_last x)) h.fits;
       joined = heard_then x (next_round p) (begins_lasts HeardStays heard_last x) (elim [ A ↦ h.joined A | B ↦ h.joined B ]);
     }
 
 -- ---- as it begins
 
-rank_spares : (path : ℕ) → path ≡ 0 → (number : ℕ) (line : ScriptLine) (lines : List LineLeft) → not (ranks_first line) ≡ true → left.Spares is_priority_line lines → left.Spares is_priority_line (with_event path number line lines)
-rank_spares path zeroth number (Prio named s tick on) lines none h = left.only_spares is_priority_line named path _ lines (λ here. other (named == 0) refl none here) h
-  where
-    other : (b : Bool) → (named == 0) ≡ b → not b ≡ true → (named == path) ≡ true → true ≡ false
-    other true is none here = sym none
-    other false is none here = absurd (both_ways (named == 0) is (subst (λ n. (named == n) ≡ true) zeroth here))
-rank_spares path zeroth number (Die named tick) lines none h = left.only_spares is_priority_line named path _ lines (λ here. refl) h
-rank_spares path zeroth number (Add id tick) lines none h = left.only_spares is_priority_line 0 path _ lines (λ here. refl) h
-rank_spares path zeroth number (Remove s id tick) lines none h = left.only_spares is_priority_line 0 path _ lines (λ here. refl) h
-rank_spares path zeroth number (OnSegment segment happens) lines none h = h
-rank_spares path zeroth number (OnDirection direction impairment) lines none h = h
-rank_spares path zeroth number (StripAll named s tick) lines none h = h
-rank_spares path zeroth number (FastClose s tick) lines none h = h
+rank_spares : (path number : ℕ) (line : ScriptLine) (lines : List LineLeft) → not (ranks_path path line) ≡ true → left.Spares is_priority_line lines → left.Spares is_priority_line (with_event path number line lines)
+rank_spares path number (Prio named s tick on) lines none h = left.only_spares is_priority_line named path _ lines (λ here. sym none ∙ ap not here) h
+rank_spares path number (Die named tick) lines none h = left.only_spares is_priority_line named path _ lines (λ here. refl) h
+rank_spares path number (Add id tick) lines none h = left.only_spares is_priority_line 0 path _ lines (λ here. refl) h
+rank_spares path number (Remove s id tick) lines none h = left.only_spares is_priority_line 0 path _ lines (λ here. refl) h
+rank_spares path number (OnSegment segment happens) lines none h = h
+rank_spares path number (OnDirection direction impairment) lines none h = h
+rank_spares path number (StripAll named s tick) lines none h = h
+rank_spares path number (FastClose s tick) lines none h = h
 
-opened_regular : (start : Start) → RankNoFirst start.lines → OfFirst IsRegular (opened_world start)
-opened_regular start regular = record {
-  each = λ c at. opened_actors (λ actor c. actor ≡ 2 → Of IsRegular c.member) start (λ is. tt) (λ is. tt) (λ number plan there is. begun number plan (omega (arith, is))) 2 c at refl;
-}
-  where
-    begun : (number : ℕ) (plan : PathPlan) → number ≡ 0 → IsRegular (first_turn (path_begins start number plan) start.lines)
-    begun number plan zeroth =
-        let p : PathState Carried = waiting_path (path_begins start number plan) start.lines in
-        record {
-          lines = left.begins_spares is_priority_line p (left.events_spare is_priority_line number (λ line. not (ranks_first line)) (λ at line lines. rank_spares number zeroth at line lines) 0 start.lines [] regular tt);
-          unsaid = begins_unsaid Word.priority (path_begins start number plan) start.lines;
-          joined = heard_then p _ (begins_lasts HeardStays heard_last p) (elim [ A ↦ refl | B ↦ refl ]);
-        }
 
--- ---- at every moment
-
-module _ (start : Start) (mild : IsMildStart start) (regular : RankNoFirst start.lines) where
+module _ (start : Start) (number : ℕ) (regular : JoinsAsNoBackup number start) (ranks : RankNone number start.lines) where
   abbrev at : List Turn → WorldState Carried
   at turns = reached values start turns
 
-  known : (turns : List Turn) → OfFirst IsFirst (at turns)
-  known turns = record { each = λ c there. by c.member (each_first start turns mild.plain.size c there) ((never_breaks start turns mild).each 2 c there) }
-    where
-      by : (m : Actor Carried) → Of (IsFirstPath start) m → Of IsNeverBroken m → Of IsFirst m
-      by (App a) first unbroken = tt
-      by (Path p) first unbroken = record { first = first.first; mild = (unbroken first.first).duties }
+  -- of the path of this number
+  record RegularAt (w : WorldState Carried) : Type 0 where
+    each : (c : ActorCrew Carried) → slice_get w.crew (2 + number) ≡ Some c → Of IsRegular c.member
 
-  each_regular : (turns : List Turn) → OfFirst IsRegular (at turns)
-  each_regular = each_first_moment values start IsFirst IsRegular known (opened_regular start regular) takes_regular next_regular
+  begun : (n : ℕ) (plan : PathPlan) → slice_get start.paths n ≡ Some plan → n ≡ number → IsRegular (first_turn (path_begins start n plan) start.lines)
+  begun n plan there same =
+      let p : PathState Carried = waiting_path (path_begins start n plan) start.lines in
+      record {
+        lines = left.begins_spares is_priority_line p (left.events_spare is_priority_line n (λ line. not (ranks_path n line)) (λ at line lines. rank_spares n at line lines) 0 start.lines []
+            (subst (λ m. RankNone m start.lines) (sym same) ranks) tt);
+        unsaid = begins_unsaid Word.priority (path_begins start n plan) start.lines;
+        unflagged = begins_unsaid Word.flag (path_begins start n plan) start.lines;
+        fits = subst (Fits Word.flag) (sym (begins_lasts KeepsProfile profile_last p)) (λ is joined. ⊎_elim
+            (λ zeroth. absurd (both_ways (nat_lt 0 n) (ap (λ m. nat_lt 0 m) (same ∙ zeroth)) joined))
+            (λ none. none)
+            (regular plan (ap (slice_get start.paths) (sym same) ∙ there)));
+        joined = heard_then p _ (begins_lasts HeardStays heard_last p) (elim [ A ↦ refl | B ↦ refl ]);
+      }
+
+  opened_regular : RegularAt (opened_world start)
+  opened_regular = record {
+    each = λ c there. opened_actors (λ actor c. actor ≡ 2 + number → Of IsRegular c.member) start (λ is. tt) (λ is. tt) (λ n plan found is. begun n plan found (omega (arith, is))) (2 + number) c there refl;
+  }
+
+  -- ---- at every moment
+
+  member_takes_on : (r : Reply) (m : Actor Carried) → Of IsRegular m → Of IsRegular (member_takes values r m)
+  member_takes_on r (App a) h = tt
+  member_takes_on r (Path p) h = takes_regular r p h
+
+  member_next_on : (m : Actor Carried) → Of IsRegular m → Of IsRegular (member_next m)
+  member_next_on (App a) h = tt
+  member_next_on (Path p) h = next_regular p h
+
+  each_regular : (turns : List Turn) → RegularAt (at turns)
+  each_regular turns = run_so values RegularAt
+      (λ w h actor c x there is. record {
+        each = λ d found. ⊎_elim
+            (λ here. subst (λ (y : ActorCrew Carried). Of IsRegular y.member) here.1 (member_takes_on (answer_to w.books x) c.member (h.each c (ap (λ i. slice_get w.crew i) here.0 ∙ there))))
+            (λ other. h.each d other.1)
+            (in_set w.crew actor (crew_after values x w.books c) (2 + number) d found);
+      })
+      (λ w h over. record {
+        each = λ d found.
+            let was = in_map (begins (greatest 0 w.crew)) w.crew (2 + number) d found in
+            subst (λ (y : ActorCrew Carried). Of IsRegular y.member) was.2 (member_next_on was.0.member (h.each was.0 was.1));
+      })
+      turns (opened_world start) opened_regular
 
   app_tells : (ds : List AppDuty) (a : AppState) (x : Ask) → app_asks_first ds a ≡ Some x → tells_backup x ≡ false
   app_tells [] a x is = cc
@@ -281,28 +368,32 @@ module _ (start : Start) (mild : IsMildStart start) (regular : RankNoFirst start
   later_none : (xs : List Note) (y : Note) → list_any noted_backup xs ≡ false → noted_backup y ≡ false → list_any noted_backup (xs ++ y ∷ []) ≡ false
   later_none xs y older new = list_any-append noted_backup xs (y ∷ []) ∙ or_from (list_any noted_backup xs) (list_any noted_backup (y ∷ [])) older (or_from (noted_backup y) false new refl)
 
-  told_none : (turns : List Turn) → ToldNoBackup 0 (at turns)
-  told_none = each_moment values start (ToldNoBackup 0) opened asked_so begun_so
+  tells_none : (turns : List Turn) → ToldNoBackup number (at turns)
+  tells_none = each_moment values start (ToldNoBackup number) opened asked_so begun_so
     where
-      opened : ToldNoBackup 0 (opened_world {C = Carried} start)
-      opened c there = opened_actors (λ actor c. list_any noted_backup c.list ≡ false) start refl refl (λ number plan at. refl) 2 c there
+      opened : ToldNoBackup number (opened_world {C = Carried} start)
+      opened c there = opened_actors (λ actor c. list_any noted_backup c.list ≡ false) start refl refl (λ n plan found. refl) (2 + number) c there
 
-      asked_so : (turns : List Turn) (actor : ℕ) (c : ActorCrew Carried) (x : Ask) → slice_get (at turns).crew actor ≡ Some c → member_asks values c.member ≡ Some x → ToldNoBackup 0 (at turns)
-          → ToldNoBackup 0 (asked values actor (Some x) c (at turns))
+      asked_so : (turns : List Turn) (actor : ℕ) (c : ActorCrew Carried) (x : Ask) → slice_get (at turns).crew actor ≡ Some c → member_asks values c.member ≡ Some x → ToldNoBackup number (at turns)
+          → ToldNoBackup number (asked values actor (Some x) c (at turns))
       asked_so turns actor c x there is h d found = ⊎_elim
           (λ here.
           (let w : WorldState Carried = at turns in
-          let two : slice_get w.crew 2 ≡ Some c = ap (λ i. slice_get w.crew i) here.0 ∙ there in
+          let own : slice_get w.crew (2 + number) ≡ Some c = ap (λ i. slice_get w.crew i) here.0 ∙ there in
           subst (λ (y : ActorCrew Carried). list_any noted_backup y.list ≡ false) here.1
-          (later_none c.list (note_of w.books c.pass x) (h c two) (asks_none c.member x is ((each_regular turns).each c two)))))
+          (later_none c.list (note_of w.books c.pass x) (h c own) (asks_none c.member x is ((each_regular turns).each c own)))))
           (λ other. h d other.1)
-          (in_set (at turns).crew actor (crew_after values x (at turns).books c) 2 d found)
+          (in_set (at turns).crew actor (crew_after values x (at turns).books c) (2 + number) d found)
 
-      begun_so : (turns : List Turn) → all_over (at turns).crew ≡ true → ToldNoBackup 0 (at turns)
-          → ToldNoBackup 0 (record (at turns) { crew = map (begins (greatest 0 (at turns).crew)) (at turns).crew })
+      begun_so : (turns : List Turn) → all_over (at turns).crew ≡ true → ToldNoBackup number (at turns)
+          → ToldNoBackup number (record (at turns) { crew = map (begins (greatest 0 (at turns).crew)) (at turns).crew })
       begun_so turns over h d found =
-          let was = in_map (begins (greatest 0 (at turns).crew)) (at turns).crew 2 d found in
+          let was = in_map (begins (greatest 0 (at turns).crew)) (at turns).crew (2 + number) d found in
           subst (λ (y : ActorCrew Carried). list_any noted_backup y.list ≡ false) was.2 (h was.0 was.1)
 
+pub regular_paths_tell_none : RegularPathsTellNone
+regular_paths_tell_none start turns number regular ranks = tells_none start number regular ranks turns
+
+-- path 0 sends no MP_JOIN
 pub regular_first_paths_tell_none : RegularFirstPathsTellNone
-regular_first_paths_tell_none start turns mild regular = told_none start mild regular turns
+regular_first_paths_tell_none start turns mild ranks = regular_paths_tell_none start turns 0 (λ plan there. inl refl) ranks

@@ -1,10 +1,12 @@
--- What an end notes to its peer, an option says, and the peer hears: that an address is taken back, or a priority.
-use Rattle.std.proofs.Common.{◌≡◌, refl, sym, ℕ, ◌==◌, ◌||◌, inl, inr, Bool, true, false, true≢false, List, [], ◌∷◌}
+-- What an end notes to its peer, an option says, and the peer hears: that an address is taken back, a priority, or that a path joins as a backup.
+use Rattle.std.proofs.Common.{◌≡◌, refl, sym, ℕ, ◌==◌, ◌||◌, ◌&&◌, inl, inr, Bool, true, false, true≢false, List, [], ◌∷◌}
 use Rattle.std.specs.List.{list_any}
 use Rattle.std.proofs.lemmas.Bool.{false≢true, or_cases, or_from, or_parts}
 use Rattle.path_segments.specs.Options.{PlainOption}
 use Rattle.path_segments.specs.Spelled.{PlainSegment}
-use Rattle.path_segments.specs.declared.segment.PathOption.TheVariants.{Prio, Remove}
+use Rattle.path_segments.specs.declared.segment.PathOption.TheVariants.{Join, Prio, Remove}
+use Rattle.mptcp_options.specs.declared.join.JoinForm.{JoinForm}
+use Rattle.mptcp_options.specs.declared.join.JoinForm.TheVariants as forms
 use Rattle.path_agenda.specs.declared.heard.Heard.{Heard}
 use Rattle.path_agenda.specs.declared.notice.OwnNotice.{OwnNotice}
 use Rattle.path_agenda.specs.declared.notice.PeerNotice.{PeerNotice}
@@ -12,18 +14,29 @@ use Rattle.path_core.specs.End.{PathEnd}
 use Rattle.whole_paths.specs.BackupAsks.{notes_backup}
 use Rattle.whole_paths.specs.Priorities.{is_priority_note, says_priority}
 
--- the address of this id is taken back; a priority
+-- the address of this id is taken back; a priority; that a path joins as a backup
 pub data Word : Type 0 where
   removal : ℕ → Word
   priority : Word
+  flag : Word
 
 abbrev pub removes : Word → ℕ → Bool
 removes (Word.removal id) other = other == id
-removes Word.priority other = false
+removes _ other = false
 
 abbrev pub ranks : Word → Bool
-ranks (Word.removal id) = false
 ranks Word.priority = true
+ranks _ = false
+
+abbrev pub flags : Word → Bool
+flags Word.flag = true
+flags _ = false
+
+-- the flag of an MP_JOIN (RFC 8684, section 3.2)
+abbrev pub flag_of : JoinForm → Bool
+flag_of (forms.Syn backup id token nonce) = backup
+flag_of (forms.Answer backup id hmac nonce) = backup
+flag_of (forms.Third hmac) = false
 
 -- an own notice is that, and what an end has to note
 abbrev pub is_note : Word → OwnNotice → Bool
@@ -41,6 +54,7 @@ is_noted word e = is_queued word e.notices.queue
 abbrev pub is_said : Word → PlainOption → Bool
 is_said word (Remove ids) = list_any (removes word) ids
 is_said word (Prio backup) = ranks word
+is_said word (Join form) = flags word && flag_of form
 is_said word _ = false
 
 abbrev pub is_said_in : Word → PlainSegment → Bool
@@ -50,6 +64,7 @@ is_said_in word segment = list_any (is_said word) segment.options
 abbrev pub is_heard : Word → Heard → Bool
 is_heard word (Heard.Notice (PeerNotice.Removed id)) = removes word id
 is_heard word (Heard.Notice (PeerNotice.Prio backup)) = ranks word
+is_heard word (Heard.Join form) = flags word && flag_of form
 is_heard word _ = false
 
 -- none of these things is it
@@ -65,6 +80,7 @@ either_way b is = elim (or_cases b false is) [ inl here ↦ here | inr never ↦
 pub rank_alone : (word : Word) → ranks word ≡ true → (id : ℕ) → removes word id ≡ false
 rank_alone (Word.removal id) is other = absurd (true≢false (sym is))
 rank_alone Word.priority is other = refl
+rank_alone Word.flag is other = refl
 
 same_note : (notice : OwnNotice) → is_note Word.priority notice ≡ is_priority_note notice
 same_note (OwnNotice.Prio backup) = refl

@@ -1,6 +1,6 @@
 -- A segment says that an address is taken back, or a priority, only where this stands in what its end has to note.
-use Rattle.std.proofs.Common.{◌≡◌, refl, sym, ap, ◌∙◌, ℕ, ◌-◌, ◌&&◌, ◌||◌, not, Bool, true, false, if◌then◌else◌, Option, Some, None, List, ◌∷◌, []}
-use Rattle.std.proofs.lemmas.Bool.{both_ways, false≢true}
+use Rattle.std.proofs.Common.{◌≡◌, refl, sym, ap, ◌∙◌, ℕ, ◌-◌, ◌&&◌, ◌||◌, not, Bool, true, false, true≢false, if◌then◌else◌, Option, Some, None, List, ◌∷◌, []}
+use Rattle.std.proofs.lemmas.Bool.{both_ways, false≢true, or_from}
 use Rattle.std.specs.List.{list_any}
 use Rattle.std.specs.Option.{IfSome}
 use Rattle.sides.specs.declared.side.Side.{Side}
@@ -34,9 +34,13 @@ use Rattle.path_core.specs.OptionsOut.{capable_options, syn_options, key_options
 use Rattle.path_core.specs.Profile.{Profile}
 use Rattle.whole_paths.specs.Priorities.{PrioritiesAreNoted, has_priority, says_priority_in}
 use Rattle.whole_paths.proofs.Saying.{ToSend}
-use Rattle.whole_paths.proofs.NoticeWords.{Word, either_way, is_note, is_noted, is_queued, ranks, removes, same_options, same_queue, is_said, is_said_in}
+use Rattle.whole_paths.proofs.NoticeWords.{Word, either_way, flags, is_note, is_noted, is_queued, ranks, removes, same_options, same_queue, is_said, is_said_in}
 
-module _ (word : Word) (c : Profile) (s : Side) (e : PathEnd) where
+-- a path that joins with the flag says so
+abbrev pub Fits : Word → Profile → Type 0
+Fits word c = flags word ≡ true → is_joined c ≡ true → c.backup ≡ false
+
+module _ (word : Word) (c : Profile) (fits : Fits word c) (s : Side) (e : PathEnd) where
   abbrev HasNone : List PlainOption → Type 0
   HasNone options = list_any (is_said word) options ≡ false
 
@@ -46,15 +50,31 @@ module _ (word : Word) (c : Profile) (s : Side) (e : PathEnd) where
   plain_none : (position : ℕ) → HasNone (plain_options position e)
   plain_none position = either_none (owes_mapping e) _ [] refl refl
 
-  join_none : (s : Side) → HasNone (join_options c s e.modes)
-  join_none = elim [ A ↦ refl | B ↦ refl ]
+  flag_none : (b : Bool) → flags word ≡ b → is_joined c ≡ true → flags word && c.backup ≡ false
+  flag_none true is joined = ap (λ b. b && c.backup) is ∙ fits is joined
+  flag_none false is joined = ap (λ b. b && c.backup) is
+
+  join_none : (s : Side) → is_joined c ≡ true → HasNone (join_options c s e.modes)
+  join_none A joined = or_from (flags word && c.backup) false (flag_none (flags word) refl joined) refl
+  join_none B joined = or_from (flags word && c.backup) false (flag_none (flags word) refl joined) refl
 
   capable_none : (s : Side) → HasNone (capable_options c s e)
   capable_none A = refl
   capable_none B = either_none (e.modes.capable_asked && not e.modes.identity) _ [] refl refl
 
   syn_none : HasNone (syn_options c s e)
-  syn_none = either_none (is_joined c) (join_options c s e.modes) (capable_options c s e) (join_none s) (capable_none s)
+  syn_none = by (is_joined c) refl
+    where
+      by : (b : Bool) → is_joined c ≡ b → HasNone (if b then join_options c s e.modes else capable_options c s e)
+      by true joined = join_none s joined
+      by false first = capable_none s
+
+  third_none : HasNone (third_options e.modes)
+  third_none = or_from (flags word && false) false (and_false (flags word)) refl
+    where
+      and_false : (b : Bool) → b && false ≡ false
+      and_false true = refl
+      and_false false = refl
 
   key_none : (s : Side) (key : Option ℕ) → HasNone (key_options c s key e)
   key_none A None = refl
@@ -62,7 +82,7 @@ module _ (word : Word) (c : Profile) (s : Side) (e : PathEnd) where
   key_none B key = refl
 
   opening_none : HasNone (opening_options c s e)
-  opening_none = either_none e.modes.owes_third (third_options e.modes) (key_options c s e.modes.peer_key e) refl (key_none s e.modes.peer_key)
+  opening_none = either_none e.modes.owes_third (third_options e.modes) (key_options c s e.modes.peer_key e) third_none (key_none s e.modes.peer_key)
 
   fail_none : (o : Option ℕ) → HasNone (fail_options o)
   fail_none = elim [ None ↦ refl | Some place ↦ refl ]
@@ -167,9 +187,9 @@ either_some : {X : Type 0} (P : X → Type 0) (b : Bool) (x y : Option X) → If
 either_some P true x y g h = g
 either_some P false x y g h = h
 
-module _ {C : Type 0} (word : Word) (p : PathState C) where
+module _ {C : Type 0} (word : Word) (p : PathState C) (fits : Fits word p.profile) where
   broken_noted : (s : Side) (reason : ℕ) → IfSome (broken_by s reason p) (λ t. is_said_in word (segment_sent p t) ≡ true → is_noted word (end_at t.from p) ≡ true)
-  broken_noted s reason = either_some _ (end_at s p).treated.asked None _ tt (reset_says word p.profile s (end_at s p) (Some reason))
+  broken_noted s reason = either_some _ (end_at s p).treated.asked None _ tt (reset_says word p.profile fits s (end_at s p) (Some reason))
 
   item_noted : (s : Side) (o : Option Heard) → IfSome (heard_sends s o p) (λ t. is_said_in word (segment_sent p t) ≡ true → is_noted word (end_at t.from p) ≡ true)
   item_noted s (Some (Heard.Mapping fin)) = either_some _ (is_clash (end_at s p)) (broken_by s 1 p) None (broken_noted s 1) tt
@@ -177,7 +197,7 @@ module _ {C : Type 0} (word : Word) (p : PathState C) where
 
   unsent_noted : (s : Side) (o : Option Record) → IfSome (unsent_sends s o) (λ t. is_said_in word (segment_sent p t) ≡ true → is_noted word (end_at t.from p) ≡ true)
   unsent_noted s None = tt
-  unsent_noted s (Some r) = unsent_says word p.profile s (end_at s p) (first_unsent (end_at s p))
+  unsent_noted s (Some r) = unsent_says word p.profile fits s (end_at s p) (first_unsent (end_at s p))
 
   step_noted : (d : StepDuty) → IfSome (step_sends d p) (λ t. is_said_in word (segment_sent p t) ≡ true → is_noted word (end_at t.from p) ≡ true)
   step_noted (StepDuty.Data s) = unsent_noted s (first_unsent (end_at s p))
@@ -187,22 +207,22 @@ module _ {C : Type 0} (word : Word) (p : PathState C) where
   step_noted _ = tt
 
   send_noted : (d : SendDuty) → IfSome (send_of d) (λ t. is_said_in word (segment_sent p t) ≡ true → is_noted word (end_at t.from p) ≡ true)
-  send_noted (SendDuty.Update s) = plain_says word p.profile s (end_at s p)
-  send_noted (SendDuty.Acknowledge s) = plain_says word p.profile s (end_at s p)
-  send_noted (SendDuty.Syn s) = unsent_says word p.profile s (end_at s p) (first_unsent (end_at s p))
-  send_noted (SendDuty.FastClose s) = fast_close_says word p.profile s (end_at s p)
-  send_noted (SendDuty.Notice s) = first_notes word p.profile s (end_at s p) (end_at s p).notices.queue
-  send_noted (SendDuty.DataFin s) = data_fin_says word p.profile s (end_at s p)
-  send_noted (SendDuty.Fin s) = fin_says word p.profile s (end_at s p)
-  send_noted (SendDuty.SynAck s) = syn_ack_says word p.profile s (end_at s p)
+  send_noted (SendDuty.Update s) = plain_says word p.profile fits s (end_at s p)
+  send_noted (SendDuty.Acknowledge s) = plain_says word p.profile fits s (end_at s p)
+  send_noted (SendDuty.Syn s) = unsent_says word p.profile fits s (end_at s p) (first_unsent (end_at s p))
+  send_noted (SendDuty.FastClose s) = fast_close_says word p.profile fits s (end_at s p)
+  send_noted (SendDuty.Notice s) = first_notes word p.profile fits s (end_at s p) (end_at s p).notices.queue
+  send_noted (SendDuty.DataFin s) = data_fin_says word p.profile fits s (end_at s p)
+  send_noted (SendDuty.Fin s) = fin_says word p.profile fits s (end_at s p)
+  send_noted (SendDuty.SynAck s) = syn_ack_says word p.profile fits s (end_at s p)
   send_noted (SendDuty.Refuse s) = λ is. absurd (false≢true is)
-  send_noted (SendDuty.Again s) = unsent_says word p.profile s (end_at s p) (first_record (end_at s p))
-  send_noted (SendDuty.Answer s) = answer_says word p.profile s (end_at s p)
+  send_noted (SendDuty.Again s) = unsent_says word p.profile fits s (end_at s p) (first_record (end_at s p))
+  send_noted (SendDuty.Answer s) = answer_says word p.profile fits s (end_at s p)
   send_noted (SendDuty.ResetAnswer s) = λ is. absurd (false≢true is)
-  send_noted (SendDuty.Resend s) = resend_says word p.profile s (end_at s p)
-  send_noted (SendDuty.BreakReset s reason) = reset_says word p.profile s (end_at s p) (Some reason)
-  send_noted (SendDuty.Reset s) = reset_says word p.profile s (end_at s p) None
-  send_noted (SendDuty.ResetNoted s) = reset_says word p.profile s (end_at s p) None
+  send_noted (SendDuty.Resend s) = resend_says word p.profile fits s (end_at s p)
+  send_noted (SendDuty.BreakReset s reason) = reset_says word p.profile fits s (end_at s p) (Some reason)
+  send_noted (SendDuty.Reset s) = reset_says word p.profile fits s (end_at s p) None
+  send_noted (SendDuty.ResetNoted s) = reset_says word p.profile fits s (end_at s p) None
 
   -- where the first duty sends a segment that says it, it stands in what the end has to note
   pub first_noted : (ds : List Duty) → IfSome (first_sends ds p) (λ t. is_said_in word (segment_sent p t) ≡ true → is_noted word (end_at t.from p) ≡ true)
@@ -214,7 +234,7 @@ module _ {C : Type 0} (word : Word) (p : PathState C) where
   first_noted (Duty.End ∷ ds) = tt
 
 pub priorities_are_noted : {C : Type 0} (p : PathState C) → PrioritiesAreNoted p
-priorities_are_noted p ds = by (first_sends ds p) (first_noted Word.priority p ds)
+priorities_are_noted p ds = by (first_sends ds p) (first_noted Word.priority p (λ is joined. absurd (true≢false (sym is))) ds)
   where
     by : (o : Option ToSend) → IfSome o (λ t. is_said_in Word.priority (segment_sent p t) ≡ true → is_noted Word.priority (end_at t.from p) ≡ true)
         → IfSome o (λ t. says_priority_in (segment_sent p t) ≡ true → has_priority (end_at t.from p) ≡ true)

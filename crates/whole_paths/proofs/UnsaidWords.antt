@@ -5,7 +5,7 @@ use Rattle.whole_paths.proofs.HeardItems as hears
 use Rattle.whole_paths.proofs.QueuedWords as queues
 use Rattle.whole_paths.proofs.NoticeWords.{AreUnheard, Word, is_heard, is_noted, is_said_in}
 use Rattle.whole_paths.proofs.HeardWords.{options_say}
-use Rattle.whole_paths.proofs.SaidWords.{first_noted}
+use Rattle.whole_paths.proofs.SaidWords.{Fits, first_noted}
 use Rattle.std.proofs.Common.{◌≡◌, refl, sym, subst, ℕ, ◌+◌, Bool, true, false, true≢false, if◌then◌else◌, Option, Some, None, List, ◌∷◌, ◌∙◌, []}
 use Rattle.std.specs.List.{position, flat_map}
 use Rattle.std.proofs.lemmas.Bool.{both_ways}
@@ -77,9 +77,9 @@ module _ (word : Word) where
   abbrev IsSaidAsNoted : PathState Carried → Option ToSend → Type 0
   IsSaidAsNoted x o = IfSome o (λ t. is_said_in word (segment_sent x t) ≡ true → is_noted word (end_at t.from x) ≡ true)
 
-  pub sent_none : (d : Duty) (ds : List Duty) (r : Reply) (p : PathState Carried) → let x = with_agenda (d ∷ ds) p in is_event d ≡ false → NotesNone x → Every IsSaidNone p.link.under_way
+  pub sent_none : (d : Duty) (ds : List Duty) (r : Reply) (p : PathState Carried) → Fits word p.profile → let x = with_agenda (d ∷ ds) p in is_event d ≡ false → NotesNone x → Every IsSaidNone p.link.under_way
       → Every IsSaidNone (answered values d r x).link.under_way
-  sent_none d ds r p other none = by (duty_sends d x) refl (first_noted word x (d ∷ ds))
+  sent_none d ds r p fits other none = by (duty_sends d x) refl (first_noted word x fits (d ∷ ds))
     where
       x : PathState Carried
       x = with_agenda (d ∷ ds) p
@@ -175,8 +175,8 @@ module _ (word : Word) where
     pub items : HearNone p
     pub copies : Every IsSaidNone p.link.under_way
 
-  pub duty_unsaid : (d : Duty) (ds : List Duty) (r : Reply) (p : PathState Carried) → let x = with_agenda (d ∷ ds) p in NotesNone (answered values d r x) → Unsaid x → Unsaid (answered values d r x)
-  duty_unsaid d ds r p notes h = by (is_event d) refl
+  pub duty_unsaid : (d : Duty) (ds : List Duty) (r : Reply) (p : PathState Carried) → Fits word p.profile → let x = with_agenda (d ∷ ds) p in NotesNone (answered values d r x) → Unsaid x → Unsaid (answered values d r x)
+  duty_unsaid d ds r p fits notes h = by (is_event d) refl
     where
       x : PathState Carried
       x = with_agenda (d ∷ ds) p
@@ -195,7 +195,7 @@ module _ (word : Word) where
       by true is =
           let all = subst (λ e. HearNone (answered values e r x) × Every IsSaidNone (answered values e r x).link.under_way) (sym (event d is)) happens in
           record { notes = notes; items = all.0; copies = all.1 }
-      by false other = record { notes = notes; items = items_then x q (hears.answered_sheds values d other r x) h.items; copies = sent_none d ds r p other h.notes h.copies }
+      by false other = record { notes = notes; items = items_then x q (hears.answered_sheds values d other r x) h.items; copies = sent_none d ds r p fits other h.notes h.copies }
 
   pub settled_unsaid : (q : PathState Carried) → Unsaid q → Unsaid (settled q.agenda q)
   settled_unsaid q h = record {

@@ -28,6 +28,7 @@ use Rattle.whole_paths.specs.WindowRoom.{EachWindowHasRoom, LivingWindowsHaveRoo
 use Rattle.whole_paths.proofs.EdgesStay.{sent_fin}
 use Rattle.whole_paths.proofs.Arrivals.{sender_of}
 use Rattle.whole_paths.proofs.Came.{what_is_acknowledged_came}
+use Rattle.whole_paths.proofs.Exchanges.{Shown, each_shown}
 use Rattle.whole_paths.proofs.FinishedThere.{what_is_finished_is_there}
 use Rattle.whole_paths.proofs.GrantedPositions.{paths_send_what_is_granted}
 use Rattle.whole_paths.proofs.OpenCourses.{IsFirstPath, each_first}
@@ -109,5 +110,7 @@ module _ (start : Start) (mild : IsMildStart start) (turns : List Turn) (p : Pat
 pub short_files_are_roomy : ShortFilesAreRoomy
 short_files_are_roomy start mild short = record {
   mild = mild;
-  room = λ turns p here lives s. (let few = granted_of start mild turns p here (peer s) in let small = short (peer s) in omega (arith, few, small));
+  room = λ turns p here lives s. (
+      let few = granted_of start mild turns p here (peer s) in let small = short (peer s) in
+      let some = (subst (HoldsOfKind (λ app. Unit {0}) Shown) here.is (each_shown start turns mild.plain.size mild.fit 2 here.crew here.there)).edge s in omega (arith, few, small, some));
 }

@@ -11,7 +11,7 @@ use Rattle.world_laws.specs.Worlds.{WorldState, Turn}
 use Rattle.whole_paths.specs.Finish.{AnEndDied, IsPathAt, harmed}
 use Rattle.whole_paths.specs.KeptAddresses.{spares_first}
 use Rattle.whole_paths.specs.Mild.{IsMildStart}
-use Rattle.whole_paths.specs.WindowRoom.{LivesWithRoom}
+use Rattle.whole_paths.specs.WindowRoom.{IsRoomy}
 
 -- the moment is one after these turns, fewer than 2^64 - 1, and both ends of path 0 live
 pub record RunsAlive (start : Start) (w : WorldState Carried) : Type 0 where
@@ -32,5 +32,5 @@ pub record HarmsNoEnd (start : Start) : Type 0 where
 -- With four harmed segments of path 0 at most, in fewer than 2^64 - 1 turns, no end of it dies, whatever becomes of other paths: where its windows have
 -- room for what was sent.
 abbrev pub FewLossesEndNoFirst : Type 0
-FewLossesEndNoFirst = (start : Start) (turns : List Turn) → HarmsNoEnd start → 2 ≤ start.buffer → LivesWithRoom start → length turns < 2 ^ 64 - 1
+FewLossesEndNoFirst = (start : Start) (turns : List Turn) → HarmsNoEnd start → 2 ≤ start.buffer → IsRoomy start → length turns < 2 ^ 64 - 1
     → harmed values 0 turns (opened_world start) ≤ 4 → AnEndDied 0 (reached values start turns) → ⊥

@@ -1,6 +1,6 @@
 -- Connections by mild scripts over any number of paths, of which no line tells a priority of path 0 (RFC 8684, section 3.3.8).
-use Rattle.std.specs.Prelude.{ℕ, suc, ◌+◌, ◌/◌, ◌==◌, ◌≡◌, ◌<◌, ◌≤◌, ◌⊎◌, Bool, true, false, not, List, [], ◌∷◌, ◌++◌, length}
-use Rattle.std.specs.List.{list_all}
+use Rattle.std.specs.Prelude.{ℕ, suc, ◌+◌, ◌/◌, ◌==◌, ◌≡◌, ◌<◌, ◌≤◌, ◌⊎◌, Bool, true, false, not, Some, List, [], ◌∷◌, ◌++◌, length}
+use Rattle.std.specs.List.{list_all, slice_get}
 use Rattle.link_script.specs.declared.script.Script.{Script}
 use Rattle.link_script.specs.declared.script.ScriptLine.{ScriptLine}
 use Rattle.link_script.specs.declared.script.ScriptLine.TheVariants.{Prio}
@@ -8,7 +8,7 @@ use Rattle.path_core.specs.Codec.{Codec}
 use Rattle.path_core.specs.Octets.{octets}
 use Rattle.path_core.specs.Values.{values}
 use Rattle.world_laws.specs.declared.outcome.Outcome.TheVariants.{Delivered, Going}
-use Rattle.world_laws.specs.Openings.{Start, start_of}
+use Rattle.world_laws.specs.Openings.{PathPlan, Start, start_of}
 use Rattle.world_laws.specs.Outcomes.{outcome_of}
 use Rattle.world_laws.specs.RoundDone.{reached}
 use Rattle.world_laws.specs.Worlds.{Turn, AreLawful}
@@ -23,16 +23,28 @@ use Rattle.whole_paths.specs.PathDirections.{SparesDirectionsOf}
 use Rattle.whole_paths.specs.ReturnWaits.{most_of_all}
 use Rattle.whole_paths.specs.Rounds.{ticks_for}
 
--- by the line a side tells a priority of path 0
-abbrev pub ranks_first : ScriptLine → Bool
-ranks_first (Prio path side tick backup) = path == 0
-ranks_first _ = false
+-- by the line a side tells a priority of the path of this number
+abbrev pub ranks_path : ℕ → ScriptLine → Bool
+ranks_path number (Prio path side tick backup) = path == number
+ranks_path number _ = false
 
 -- none of these lines does
-abbrev pub RankNoFirst : List ScriptLine → Type 0
-RankNoFirst lines = list_all (λ line. not (ranks_first line)) lines ≡ true
+abbrev pub RankNone : ℕ → List ScriptLine → Type 0
+RankNone number lines = list_all (λ line. not (ranks_path number line)) lines ≡ true
 
--- Then path 0 tells no side that it is a backup, whatever the word `backup` in its own line says: it sends no MP_JOIN.
+abbrev pub RankNoFirst : List ScriptLine → Type 0
+RankNoFirst lines = RankNone 0 lines
+
+-- as the path joins it says by no MP_JOIN that it is a backup (RFC 8684, section 3.2): its own line doesn't say so; path 0 sends none
+abbrev pub JoinsAsNoBackup : ℕ → Start → Type 0
+JoinsAsNoBackup number start = (plan : PathPlan) → slice_get start.paths number ≡ Some plan → (number ≡ 0) ⊎ (plan.backup ≡ false)
+
+-- Where both are so a path tells no side that it is a backup, over any number of paths, whatever is lost or altered.
+abbrev pub RegularPathsTellNone : Type 0
+RegularPathsTellNone = (start : Start) (turns : List Turn) (number : ℕ) → JoinsAsNoBackup number start → RankNone number start.lines
+    → ToldNoBackup number (reached values start turns)
+
+-- So path 0 tells no side that it is a backup, whatever the word `backup` in its own line says: it sends no MP_JOIN.
 abbrev pub RegularFirstPathsTellNone : Type 0
 RegularFirstPathsTellNone = (start : Start) (turns : List Turn) → IsMildStart start → RankNoFirst start.lines → ToldNoBackup 0 (reached values start turns)
 

@@ -208,6 +208,7 @@ pub mod ManyGoingOn
 pub mod ManyCourses
 pub mod ManyPaths
 pub mod ManyEnds
+pub mod EachText
 pub mod JoinedPaths
 pub mod LivingPaths
 pub mod StandbyPaths

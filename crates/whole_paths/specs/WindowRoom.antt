@@ -1,5 +1,5 @@
 -- The window that an end last offered has room for all that its peer sent.
-use Rattle.std.specs.Prelude.{ℕ, ◌+◌, ◌≡◌, ◌≤◌, false, List, [], ◌∷◌, length}
+use Rattle.std.specs.Prelude.{ℕ, ◌≡◌, ◌<◌, ◌≤◌, false, List, [], ◌∷◌, length}
 use Rattle.sides.specs.declared.side.Side.{Side}
 use Rattle.sides.specs.declared.side.Side.TheVariants.{B}
 use Rattle.sides.specs.Side.{peer}
@@ -22,11 +22,6 @@ use Rattle.whole_paths.specs.Straying.{IsOpenFrom}
 abbrev pub LivingWindowsHaveRoom : Type 0
 LivingWindowsHaveRoom = (start : Start) (plan : PathPlan) (turns : List Turn) → start.paths ≡ plan ∷ [] → IsMildStart start → (p : PathState Carried)
     → IsPathAt 0 (reached values start turns) p → ((s : Side) → is_dead (end_at s p).tcp.state ≡ false) → (s : Side) → LeavesRoomFor s p
-
--- that is so at each moment of this connection's path 0
-abbrev pub LivesWithRoom : Start → Type 0
-LivesWithRoom start = (turns : List Turn) (p : PathState Carried) → IsPathAt 0 (reached values start turns) p → ((s : Side) → is_dead (end_at s p).tcp.state ≡ false)
-    → (s : Side) → LeavesRoomFor s p
 
 -- so where both are past the handshake, and B's may send a DSS
 abbrev pub EachWindowHasRoom : Type 0
@@ -54,4 +49,4 @@ abbrev pub OnePathIsRoomy : Type 0
 OnePathIsRoomy = (start : Start) (plan : PathPlan) → BeginsWithOnePath start plan → IsRoomy start
 
 abbrev pub ShortFilesAreRoomy : Type 0
-ShortFilesAreRoomy = (start : Start) → IsMildStart start → ((s : Side) → length (pick s start.file_a start.file_b) + 2 ≤ 1048576) → IsRoomy start
+ShortFilesAreRoomy = (start : Start) → IsMildStart start → ((s : Side) → length (pick s start.file_a start.file_b) < 1048576) → IsRoomy start

@@ -1,11 +1,12 @@
 //! What is promised of each path of a connection over several, as clauses of functions that do nothing.
 ghost use Rattle.path_core.specs.Octets.{octets};
 ghost use Rattle.path_core.specs.Values.{values};
+ghost use Rattle.whole_paths.specs.EachText.{EachTextDelivers, EachTextEnds};
 ghost use Rattle.whole_paths.specs.EdgeStands.{NothingIsTriedPastTheEdge, ShutEndsStayShut};
 ghost use Rattle.whole_paths.specs.JoinedEnds.{JoinedEndsKnowTheirPeers};
 ghost use Rattle.whole_paths.specs.JoinedPaths.{JoinedPathsNeverBreak};
 ghost use Rattle.whole_paths.specs.FewLossesEnd.{FewLossesEndNoFirst};
-ghost use Rattle.whole_paths.specs.FirstTexts.{BegunTextsEnd, FewFirstTextsFinish, FewFirstTextsGoOn, FirstTextsDeliver, FirstTextsEnd, FirstTextsFinish, FirstTextsGoOn, RegularFirstPathsTellNone};
+ghost use Rattle.whole_paths.specs.FirstTexts.{BegunTextsEnd, FewFirstTextsFinish, FewFirstTextsGoOn, FirstTextsDeliver, FirstTextsEnd, FirstTextsFinish, FirstTextsGoOn, RegularFirstPathsTellNone, RegularPathsTellNone};
 ghost use Rattle.whole_paths.specs.ManyCourses.{ManyPathsBringAll, ManyPathsDeliver, ServingPathsDeliver};
 ghost use Rattle.whole_paths.specs.ManyEnds.{EachWholePathEnds, FirstPathsEnd};
 ghost use Rattle.whole_paths.specs.ManyPaths.{EachPathTakesOver, EachWholePathDelivers, FirstPathsDeliver};
@@ -161,6 +162,12 @@ pub fn few_losses_end_no_first()
     ensures { FewLossesEndNoFirst }
 {}
 
+/// A law: a path of a connection tells no side that it is a backup, always, where its own line of the script doesn't say so, and no line tells a priority of it
+/// (RFC 8684, sections 3.2 and 3.3.8), over any number of paths.
+pub fn regular_paths_tell_none()
+    ensures { RegularPathsTellNone }
+{}
+
 /// A law: once any path is whole at the end of a round, and still whole when rounds enough have ended, both files are delivered, whatever becomes of the
 /// others, path 0 among them (RFC 8684, section 3.3.2).
 ///
@@ -196,4 +203,16 @@ pub fn each_whole_path_ends()
 pub fn each_regular_path_delivers()
     ensures octets { EachRegularPathDelivers octets }
     ensures values { EachRegularPathDelivers values }
+{}
+
+/// A law: once any path, of which the script's text says that it is no backup, is whole at the end of a round, and still whole when rounds enough have ended,
+/// both files are delivered, whatever becomes of the others (RFC 8684, sections 3.2 and 3.3.8).
+///
+/// But for the turns and for 'whole' this is said of the script's text: `each_whole_path_delivers`, since such a path never stands by
+/// (`regular_paths_tell_none`). Without the second 'whole' both are delivered, or an end of this path died early (`ends`).
+pub fn each_text_delivers()
+    ensures octets { EachTextDelivers octets }
+    ensures values { EachTextDelivers values }
+    ensures ends_octets { EachTextEnds octets }
+    ensures ends { EachTextEnds values }
 {}

@@ -37,7 +37,7 @@ pub fn paths_send_what_is_granted()
 /// A law: between living ends of path 0 SND.NXT of either lies 2^20 positions past RCV.NXT of its peer at most, so that a bare acknowledgement, which goes
 /// at SND.NXT, stands in the window or just past it (RFC 9293, section 3.10.7.4).
 ///
-/// So it is of mild connections over one path (`one`), and over any number of paths where both files have fewer than 2^20 - 1 octets (`short`). On each path
+/// So it is of mild connections over one path (`one`), and over any number of paths where both files have fewer than 2^20 octets (`short`). On each path
 /// of any other it is so of an end that sent no FIN (`unfinished`).
 pub fn windows_have_room()
     ensures one { OnePathIsRoomy }
