@@ -18,7 +18,7 @@ use Rattle.path_core.specs.State.{PathState, end_at}
 use Rattle.path_core.specs.Values.{Carried, values}
 use Rattle.world_laws.specs.Actors.{ActorCrew}
 use Rattle.world_laws.specs.Members.{HoldsOfKind}
-use Rattle.world_laws.specs.Openings.{PathPlan, Start}
+use Rattle.world_laws.specs.Openings.{Start}
 use Rattle.world_laws.specs.RoundDone.{reached}
 use Rattle.world_laws.specs.Worlds.{Turn, WorldState, all_over}
 use Rattle.whole_paths.specs.Answered.{HasAnswered}
@@ -28,12 +28,12 @@ use Rattle.whole_paths.specs.ClearRounds.{IsFirstOrFewer as reached_one}
 use Rattle.whole_paths.specs.Copies.{IsUnderWay}
 use Rattle.whole_paths.specs.Courses.{round_end}
 use Rattle.whole_paths.specs.Delivery.{IsAllThere}
-use Rattle.whole_paths.specs.DirectionWaits.{EdgeIsUnheard, HearsSoon, MendsInTurn, NothingElseComes, NumbersAgree}
+use Rattle.whole_paths.specs.DirectionWaits.{EdgeIsUnheard, HearsSoon, MendsInTurn, NothingElseComes}
 use Rattle.whole_paths.specs.DirectionWaits.{HearsSoon as hears, MendsInTurn as in_turn}
 use Rattle.whole_paths.specs.Directions.{AreHeardBut, OwesThese}
 use Rattle.whole_paths.specs.Mending.{IsToldBy, IsToldSoon}
 use Rattle.whole_paths.specs.Mending.{IsToldBy as told_by, IsToldSoon as told_soon}
-use Rattle.whole_paths.specs.OnePathScripts.{BeginsWithOnePath}
+use Rattle.whole_paths.specs.Mild.{IsMildStart}
 use Rattle.whole_paths.specs.OpenCourses.{IsOpenAfter}
 use Rattle.whole_paths.specs.Reasons.{IsOutstanding, IsTimedWhereItWaits}
 use Rattle.whole_paths.specs.InTime.{ComesFrom}
@@ -64,8 +64,8 @@ not_again s [] none (inl is) = cc
 not_again s [] none (inr is) = cc
 not_again s (d ∷ ds) none is = cc
 
-module _ (start : Start) (plan : PathPlan) (one : BeginsWithOnePath start plan) (turns : List Turn) (over : all_over (reached values start turns).crew ≡ true) (h : IsOpenAfter start turns) (s : Side)
-    (agree : NumbersAgree start s) (x : ℕ) where
+module _ (start : Start) (mild : IsMildStart start) (turns : List Turn) (over : all_over (reached values start turns).crew ≡ true) (h : IsOpenAfter start turns) (s : Side)
+    (Level : PathState Carried → Type 0) (enters : h.path.agenda ≡ [] → IsAllThere s (reached values start turns) ⊎ Level h.path) (x : ℕ) where
   abbrev p : PathState Carried
   p = h.path
 
@@ -125,12 +125,12 @@ module _ (start : Start) (plan : PathPlan) (one : BeginsWithOnePath start plan) 
 
   module _ (lost unheard : List ℕ) (these : OwesThese s lost unheard p) where
     pub data GoesOn : Type 0 where
-      on : HearsSoon s unheard x (until + 100) p → GoesOn
+      on : HearsSoon Level s unheard x (until + 100) p → GoesOn
       fewer : OwesFewer s (length lost + length unheard) p → GoesOn
       all_there : IsAllThere s w → GoesOn
 
     sent_up : edge ≤ (end_at s p).tcp.send.nxt
-    sent_up = subst (λ u. edge ≤ (end_at u p).tcp.send.nxt) (sender_of s) (of_path WasSent ((what_came_was_sent start turns one.mild.plain.size).each 2 crew there) t)
+    sent_up = subst (λ u. edge ≤ (end_at u p).tcp.send.nxt) (sender_of s) (of_path WasSent ((what_came_was_sent start turns mild.plain.size).each 2 crew there) t)
 
     -- the timer runs
     timed : EdgeIsUnheard s unheard p → (records : List Record) → (end_at s p).tcp.send.records ≡ records → (tick : ℕ) × ((tick ≤ p.clock + 60000) × RunsTo tick (end_at s p))
@@ -162,12 +162,12 @@ module _ (start : Start) (plan : PathPlan) (one : BeginsWithOnePath start plan) 
     settled_now is_unheard by_then late bound soon heard = ⊎_elim all_there
         (λ level. (let timer = timed is_unheard (end_at s p).tcp.send.records refl in let near = timer.1.0 in let low = clock_low in
         on (hears.waits is_unheard nothing timer.0 timer.1.1 level (omega (arith, near, low, bound, late)) (omega (arith, bound, late)))))
-        (agree.level turns h nothing_to_do)
+        (enters nothing_to_do)
       where
         nothing : NothingElseComes s unheard p
         nothing f n under to rst acks = ⊎_elim (λ told. inl (is_heard n by_then soon told)) (λ has. inr has) (heard f n under to rst acks)
 
-    pub hears_later : HearsSoon s unheard x until p → GoesOn
+    pub hears_later : HearsSoon Level s unheard x until p → GoesOn
     hears_later (hears.comes n among behind by_then low told) = ⊎_elim
         (λ soon. absurd (let reaches = is_heard n by_then soon told in omega (arith, reaches, behind)))
         (λ still. on (hears.comes n among behind by_then low told))
@@ -182,7 +182,7 @@ module _ (start : Start) (plan : PathPlan) (one : BeginsWithOnePath start plan) 
     hears_later (hears.flies is_unheard r kind passed by_then late bound comes) =
         let low = late_copy comes.copy comes.there in let soon = comes.soon in on (hears.flies is_unheard r kind passed by_then late (omega (arith, low, soon, late)) comes)
 
-    pub hears_in_time : HearsSoon s unheard x until p → until ≤ x
+    pub hears_in_time : HearsSoon Level s unheard x until p → until ≤ x
     hears_in_time (hears.comes n among behind by_then low told) = ⊎_elim
         (λ soon. absurd (let reaches = is_heard n by_then soon told in omega (arith, reaches, behind)))
         (λ still. omega (arith, still, low))
@@ -197,31 +197,31 @@ module _ (start : Start) (plan : PathPlan) (one : BeginsWithOnePath start plan) 
 
   module _ (lost : List ℕ) (these : OwesThese s lost [] p) where
     pub data MendsLater : Type 0 where
-      mends_later : MendsInTurn s lost x (until + 100) p → MendsLater
+      mends_later : MendsInTurn Level s lost x (until + 100) p → MendsLater
       less : OwesFewer s (length lost + 0) p → MendsLater
       whole : IsAllThere s w → MendsLater
 
     -- so much came: the end is told soon
     came : (position : ℕ) → Has (λ n. n ≡ position) lost → (by : ℕ) → by + 60700 ≤ x → until ≤ by + 100 → position ≤ edge → IsToldSoon s p ⊎ Has (λ n. n ≡ edge) [] → MendsLater
     came position among by_then late bound low (inr has) = absurd (let there = has.there in cc)
-    came position among by_then late bound low (inl (told_soon.past_fin is_past)) = whole (past_is_there start one.mild turns p h.here s h.is_open is_past)
+    came position among by_then late bound low (inl (told_soon.past_fin is_past)) = whole (past_is_there start mild turns p h.here s h.is_open is_past)
     came position among by_then late bound low (inl (told_soon.owed due)) = absurd (not_owing due)
     came position among by_then late bound low (inl (told_soon.told told)) = let early_now = clock_low in
         mends_later (in_turn.told position among (p.clock + 400) (omega (arith, early_now, late, bound)) (omega (arith, late, bound)) (told_lower s position edge (p.clock + 400) p low told))
 
     reached_now : (position : ℕ) → Has (λ n. n ≡ position) lost → until + 60000 ≤ x → position ≤ una → MendsLater
-    reached_now position among bound reaches = by (what_is_reached_is_first start turns one.mild h s lost these.well position among reaches)
+    reached_now position among bound reaches = by (what_is_reached_is_first start turns mild h s lost these.well position among reaches)
       where
         by : IsFirstOrFewer s lost p → MendsLater
         by (reached_one.fewer fewer_now few well) = less (lost_less s lost [] p these fewer_now few well)
         by (reached_one.first r rs is among_first) = ⊎_elim whole
             (λ level. (let waits = (lost_records_are_awaited start turns h nothing_to_do s (length lost)).begins r rs is lost (le_refl (length lost)) these.well among_first in let near = waits.1 in let low = clock_low in
             mends_later (in_turn.mends waits.0 (omega (arith, near, low, bound)) level waits.2)))
-            (agree.level turns h nothing_to_do)
+            (enters nothing_to_do)
 
-    pub mends_then : MendsInTurn s lost x until p → MendsLater
+    pub mends_then : MendsInTurn Level s lost x until p → MendsLater
     mends_then (in_turn.comes position among by_then late bound comes) = ⊎_elim
-        (λ soon. came position among by_then late bound (octets_are_passed.due start turns one.mild h nothing_to_do s position by_then (omega (arith, soon, until_is)) comes) these.told.told)
+        (λ soon. came position among by_then late bound (octets_are_passed.due start turns mild h nothing_to_do s position by_then (omega (arith, soon, until_is)) comes) these.told.told)
         (λ still. mends_later (in_turn.comes position among by_then late (omega (arith, still)) comes))
         (cases_lt by_then until)
     mends_then (in_turn.told position among by_then late bound told) = ⊎_elim
@@ -230,7 +230,7 @@ module _ (start : Start) (plan : PathPlan) (one : BeginsWithOnePath start plan) 
         (cases_lt by_then until)
     mends_then (in_turn.mends by_then low level m) = mends_later (in_turn.mends by_then low level m)
 
-    pub mends_in_time : MendsInTurn s lost x until p → until ≤ x
+    pub mends_in_time : MendsInTurn Level s lost x until p → until ≤ x
     mends_in_time (in_turn.comes position among by_then late bound comes) = omega (arith, late, bound)
     mends_in_time (in_turn.told position among by_then late bound told) = omega (arith, bound)
     mends_in_time (in_turn.mends by_then low level m) = let in_time = (lost_records_are_awaited start turns h nothing_to_do s (length lost)).in_time by_then m in omega (arith, in_time, low, until_is)

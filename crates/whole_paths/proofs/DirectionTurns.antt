@@ -16,13 +16,13 @@ use Rattle.path_core.specs.State.{PathState, end_at}
 use Rattle.path_core.specs.Values.{Carried, values}
 use Rattle.world_laws.specs.Actors.{ActorCrew}
 use Rattle.world_laws.specs.Members.{HoldsOfKind}
-use Rattle.world_laws.specs.Openings.{PathPlan, Start}
+use Rattle.world_laws.specs.Openings.{Start}
 use Rattle.world_laws.specs.RoundDone.{reached}
 use Rattle.world_laws.specs.Worlds.{Turn, WorldState}
 use Rattle.whole_paths.specs.Came.{HasCome}
 use Rattle.whole_paths.specs.DataLeft.{HasDataLeft, IsData}
 use Rattle.whole_paths.specs.Delivery.{FinishedIsThere, HasFinished, IsAllThere}
-use Rattle.whole_paths.specs.DirectionWaits.{EdgeIsUnheard, HearsSoon, MendsInTurn, NothingElseComes, NumbersAgree}
+use Rattle.whole_paths.specs.DirectionWaits.{ArePassedWhole, EdgeIsUnheard, HearsSoon, MendsInTurn, NothingElseComes}
 use Rattle.whole_paths.specs.DirectionWaits.{HearsSoon as hears, MendsInTurn as in_turn}
 use Rattle.whole_paths.specs.Directions.{OwesThese}
 use Rattle.whole_paths.specs.Expiries.{IsToSend, IsToSendAgain, PathsGoAgain, RunsOut}
@@ -32,7 +32,7 @@ use Rattle.whole_paths.specs.FirstLost.{MendsFirst as first_stage, MendsFirstOn 
 use Rattle.whole_paths.specs.Kept.{EndsKeepWhatWaits}
 use Rattle.whole_paths.specs.Mending.{ComesBy, IsOpenTurn, IsToldBy, IsWell}
 use Rattle.whole_paths.specs.Mending.{IsToldBy as told_by, IsToldSoon as told_soon, IsWell as well_by}
-use Rattle.whole_paths.specs.OnePathScripts.{BeginsWithOnePath}
+use Rattle.whole_paths.specs.WindowRoom.{IsRoomy}
 use Rattle.whole_paths.specs.ToldStays.{ToldStays}
 use Rattle.whole_paths.specs.UnaSaid.{UnaFrom, UnasAreSaid}
 use Rattle.whole_paths.specs.UnaSaid.{UnaFrom as una_from}
@@ -45,7 +45,7 @@ use Rattle.whole_paths.proofs.ComesAgain.{comes_again}
 use Rattle.whole_paths.proofs.Delivery.{what_is_there_stays}
 use Rattle.whole_paths.proofs.Directions.{clock, edge_up, passed_there, past_is_there, says_only_on, stays, una_up}
 use Rattle.whole_paths.proofs.DataLeft.{what_is_left_is_data}
-use Rattle.whole_paths.proofs.FinishedThere.{what_is_finished_is_there}
+use Rattle.whole_paths.proofs.FinishedThere.{each_finished_is_there}
 use Rattle.whole_paths.proofs.FirstLost.{lost_records_are_mended, shorter, stays_among, without}
 use Rattle.whole_paths.proofs.Keeping.{what_waits_is_kept}
 use Rattle.whole_paths.proofs.Losing.{harms_alone_lose_records}
@@ -61,7 +61,6 @@ use Rattle.whole_paths.proofs.Settling.{sides}
 use Rattle.whole_paths.proofs.UnaSaid.{each_una_is_said}
 use Rattle.whole_paths.proofs.Waiting.{no_timer_is_put_off}
 use Rattle.whole_paths.specs.Sent.{WasSent}
-use Rattle.whole_paths.proofs.WindowRoom.{one_path_is_roomy}
 
 -- ---- lists
 
@@ -154,7 +153,8 @@ module _ (s : Side) (lost unheard : List ℕ) (q : PathState Carried) (these : O
 
 -- ---- a turn without a harm
 
-module _ (start : Start) (plan : PathPlan) (one : BeginsWithOnePath start plan) (turns : List Turn) (turn : Turn) (h : IsOpenTurn start turns turn) (s : Side) (agree : NumbersAgree start s)
+module _ (start : Start) (roomy : IsRoomy start) (turns : List Turn) (turn : Turn) (h : IsOpenTurn start turns turn) (s : Side) (Level : PathState Carried → Type 0) (whole_ones : ArePassedWhole start s)
+    (level_on : (y z : PathState Carried) → Level y → (end_at s z).tcp.send.una ≤ (end_at s y).tcp.send.una → (end_at s y).sending.heard ≤ (end_at s z).sending.heard → Level z)
     (unpast : is_fin_passed (end_at (peer s) h.before.path).tcp ≡ false) (none : is_harmed s h.before.path h.after.path ≡ false) (none_back : is_harmed (peer s) h.before.path h.after.path ≡ false) (x until : ℕ)
     (in_round : h.after.path.clock ≤ until) where
   abbrev p : PathState Carried
@@ -179,10 +179,10 @@ module _ (start : Start) (plan : PathPlan) (one : BeginsWithOnePath start plan) 
   edge z = (end_at t z).tcp.recv.edge
 
   told_stays : ToldStays s p q
-  told_stays = stays start (one_path_is_roomy start plan one) turns turn (begun start turns turn h) s
+  told_stays = stays start roomy turns turn (begun start turns turn h) s
 
   clock_up : p.clock ≤ q.clock
-  clock_up = clock start (one_path_is_roomy start plan one) turns turn (begun start turns turn h) s
+  clock_up = clock start roomy turns turn (begun start turns turn h) s
 
   abbrev crew : ActorCrew Carried
   crew = h.before.here.crew
@@ -191,10 +191,10 @@ module _ (start : Start) (plan : PathPlan) (one : BeginsWithOnePath start plan) 
   there = h.before.here.there
 
   una_later : una p ≤ una q
-  una_later = una_up start (one_path_is_roomy start plan one) turns turn (begun start turns turn h) s s
+  una_later = una_up start roomy turns turn (begun start turns turn h) s s
 
   edge_later : edge p ≤ edge q
-  edge_later = edge_up start (one_path_is_roomy start plan one) turns turn (begun start turns turn h) s t
+  edge_later = edge_up start roomy turns turn (begun start turns turn h) s t
 
   heard_later : (end_at s p).sending.heard ≤ (end_at s q).sending.heard
   heard_later = (with_both start turns turn h EndsKeepWhatWaits (what_waits_is_kept values w (turn ∷ []) 2 crew there) s).heard
@@ -212,18 +212,20 @@ module _ (start : Start) (plan : PathPlan) (one : BeginsWithOnePath start plan) 
   module _ (lost unheard : List ℕ) (these : OwesThese s lost unheard q) where
     -- the wait goes on, or fewer are owed, or all is there
     pub data Goes : Type 0 where
-      on : HearsSoon s unheard x until q → Goes
+      on : HearsSoon Level s unheard x until q → Goes
       fewer : OwesFewer s (length lost + length unheard) q → Goes
       all_there : IsAllThere s (reached values start later) → Goes
+      -- or the end hears more acknowledged, though SND.UNA stays
+      hears_more : Level p → una q ≤ una p → (end_at s p).sending.heard < (end_at s q).sending.heard → Goes
 
-    same_path : q ≡ p → HearsSoon s unheard x until p → Goes
-    same_path same stands = on (subst (HearsSoon s unheard x until) (sym same) stands)
+    same_path : q ≡ p → HearsSoon Level s unheard x until p → Goes
+    same_path same stands = on (subst (HearsSoon Level s unheard x until) (sym same) stands)
 
     there_then : IsAllThere s w → Goes
     there_then all = all_there (what_is_there_stays start turns (turn ∷ []) h.mild s all)
 
     past_then : is_fin_passed (end_at t q).tcp ≡ true → Goes
-    past_then past = all_there (past_is_there start one.mild later q h.after.here s h.after.is_open past)
+    past_then past = all_there (past_is_there start roomy.mild later q h.after.here s h.after.is_open past)
 
     -- SND.UNA has reached one of them, or it goes on
     unless_heard : (n : ℕ) → Has (λ m. m ≡ n) unheard → (una q < n → Goes) → Goes
@@ -251,7 +253,7 @@ module _ (start : Start) (plan : PathPlan) (one : BeginsWithOnePath start plan) 
       unless_moved : (EdgeIsUnheard s unheard q → Goes) → Goes
       unless_moved then_so = unless_heard (edge p) is_unheard.among (λ behind. ⊎_elim
           (rises (edge p) is_unheard.among behind edge_later bound)
-          (λ few. (let same : edge q ≡ edge p = omega (arith, few, edge_up start (one_path_is_roomy start plan one) turns turn (begun start turns turn h) s t) in
+          (λ few. (let same : edge q ≡ edge p = omega (arith, few, edge_up start roomy turns turn (begun start turns turn h) s t) in
           then_so (record { behind = omega (arith, behind, same); among = subst (λ n. Has (λ m. m ≡ n) unheard) (sym same) is_unheard.among })))
           (cases_lt (edge p) (edge q)))
 
@@ -271,32 +273,30 @@ module _ (start : Start) (plan : PathPlan) (one : BeginsWithOnePath start plan) 
 
     finished : HasFinished (end_at s q) → Goes
     finished has = all_there (subst (HoldsOfKind (λ app. Unit {0}) (FinishedIsThere (reached values start later))) h.after.here.is
-        (what_is_finished_is_there start plan later one.one h.mild 2 h.after.here.crew h.after.here.there) s has)
+        (each_finished_is_there start later h.mild 2 h.after.here.crew h.after.here.there) s has)
 
     no_third : (end_at s p).modes.owes_third ≡ true → ⊥
     no_third owes = both_ways (is_joined p.profile) h.before.is_open.first ((of_before start turns turn h EndsAskForThemselves (ends_ask_for_themselves start turns h.mild 2 crew there) s).third owes)
 
     -- no news but of SND.UNA, where the Data ACKs are level with it
-    unless_news : una p ≤ suc (end_at s p).sending.heard → (una p < una q → Goes) → IsNews (end_at s p) (end_at s q) → Goes
+    unless_news : Level p → (una p < una q → Goes) → IsNews (end_at s p) (end_at s q) → Goes
     unless_news level una_up_so (news_by.on_subflow more) = una_up_so more
-    unless_news level una_up_so (news_by.on_stream more) = ⊎_elim all_there
-        (λ below. ⊎_elim una_up_so (λ few. absurd (omega (arith, level, more, below, few))) (cases_lt (una p) (una q)))
-        (agree.below later h.after)
+    unless_news level una_up_so (news_by.on_stream more) = ⊎_elim una_up_so (λ few. hears_more level few more) (cases_lt (una p) (una q))
     unless_news level una_up_so (news_by.data_fin none_acked acked) = finished (HasFinished.acknowledged acked)
     unless_news level una_up_so (news_by.opened early late) = absurd (let past = h.before.is_open.past s in omega (arith, early, past))
     unless_news level una_up_so (news_by.third owes none_owed) = absurd (no_third owes)
 
-    waits_on : EdgeIsUnheard s unheard p → NothingElseComes s unheard p → (tick : ℕ) → RunsTo tick (end_at s p) → una p ≤ suc (end_at s p).sending.heard → tick + 1100 ≤ x → until + 1000 ≤ x → Goes
+    waits_on : EdgeIsUnheard s unheard p → NothingElseComes s unheard p → (tick : ℕ) → RunsTo tick (end_at s p) → Level p → tick + 1100 ≤ x → until + 1000 ≤ x → Goes
     waits_on is_unheard nothing tick runs level late bound = unless_moved is_unheard (omega (arith, bound)) (λ still. ⊎_elim
         (una_rises is_unheard (omega (arith, bound)) nothing)
         (λ same. by still same (with_both start turns turn h TimersWaitOn ((no_timer_is_put_off values).waits w turn 2 crew there) s tick runs))
         (cases_lt (una p) (una q)))
       where
-        stands : HearsSoon s unheard x until p
+        stands : HearsSoon Level s unheard x until p
         stands = hears.waits is_unheard nothing tick runs level late bound
 
         nothing_later : NothingElseComes s unheard q
-        nothing_later = says_only_on start (one_path_is_roomy start plan one) turns turn (begun start turns turn h) s (λ n. (n ≤ una p) ⊎ Has (λ m. m ≡ n) unheard) (λ n. (n ≤ una q) ⊎ Has (λ m. m ≡ n) unheard)
+        nothing_later = says_only_on start roomy turns turn (begun start turns turn h) s (λ n. (n ≤ una p) ⊎ Has (λ m. m ≡ n) unheard) (λ n. (n ≤ una q) ⊎ Has (λ m. m ≡ n) unheard)
             (λ n so. ⊎_elim (λ low. inl (let up = una_later in omega (arith, low, up))) (λ has. inr has) so) nothing (λ y is from rst. inr (inr is_unheard.among))
 
         ran_out : EdgeIsUnheard s unheard q → (at : ℕ) → RunsOut s at p → Goes
@@ -309,7 +309,7 @@ module _ (start : Start) (plan : PathPlan) (one : BeginsWithOnePath start plan) 
             ((with_both start turns turn h (PathsGoAgain values) (what_runs_out_goes_again values w turn 2 crew there)).fires s at out)
 
         by : EdgeIsUnheard s unheard q → una q ≤ una p → WaitsOn s tick p q → Goes
-        by still same (wait.runs more) = on (hears.waits still nothing_later tick more (let up = heard_later in omega (arith, level, same, up)) late bound)
+        by still same (wait.runs more) = on (hears.waits still nothing_later tick more (level_on p q level same heard_later) late bound)
         by still same (wait.runs_out at out) = ran_out still at out
         by still same (wait.news news) = unless_news level (una_rises is_unheard (omega (arith, bound)) nothing) news
         by still same (wait.gone dead) = absurd (both_ways (is_dead (end_at s q).tcp.state) (h.after.is_open.living s) dead)
@@ -334,13 +334,13 @@ module _ (start : Start) (plan : PathPlan) (one : BeginsWithOnePath start plan) 
         (λ comes. on (hears.flies still r is_data.kind (let up = edge_later in omega (arith, passed, up)) (q.clock + 400) (omega (arith, in_round, bound)) (omega (arith, bound)) comes))
         goes)
         (first_goes_again start turns turn h s is r others records is_data.kind))
-        (agree.whole turns h.before r (record { at = 0; item = r; there = ap (λ (rs : List Record). slice_get rs 0) records; holds = refl }) is_data.kind)
+        (whole_ones turns h.before r (record { at = 0; item = r; there = ap (λ (rs : List Record). slice_get rs 0) records; holds = refl }) is_data.kind)
       where
         data_left : HasDataLeft p
         data_left = subst (HoldsOfKind (λ app. Unit {0}) HasDataLeft) h.before.here.is (what_is_left_is_data start turns h.mild.plain.size h.mild.fit crew there)
 
         is_data : IsData r (end_at s p)
-        is_data = data_left s (h.before.is_open.past s) (h.before.is_open.living s) (inl (unfinished start one.mild turns p h.before.here s may)) r others records
+        is_data = data_left s (h.before.is_open.past s) (h.before.is_open.living s) (inl (unfinished start roomy.mild turns p h.before.here s may)) r others records
 
     resends_on : EdgeIsUnheard s unheard p → IsToSendAgain s p → until + 1000 ≤ x → Goes
     resends_on is_unheard again bound = unless_moved is_unheard (omega (arith, bound)) (λ still. by still again)
@@ -350,7 +350,7 @@ module _ (start : Start) (plan : PathPlan) (one : BeginsWithOnePath start plan) 
             (λ same. same_path same (hears.resends is_unheard (inl is) bound))
             (λ given. on (hears.resends still (inr given.0) bound))
             ((with_both start turns turn h (PathsGoAgain values) (what_runs_out_goes_again values w turn 2 crew there)).gives_back s is)
-        by still (inr is) = if_may start one.mild Goes turns p h.before.here h.before.is_open s there_then (λ may. goes_on is_unheard bound is (end_at s p).tcp.send.records refl may still)
+        by still (inr is) = if_may start roomy.mild Goes turns p h.before.here h.before.is_open s there_then (λ may. goes_on is_unheard bound is (end_at s p).tcp.send.records refl may still)
 
     flies_on : EdgeIsUnheard s unheard p → (r : Record) → r.kind ≡ kinds.Data → end_of r ≤ edge p → (by : ℕ) → by + 500 ≤ x → until + 400 ≤ x → ComesBy s r by p → Goes
     flies_on is_unheard r kind passed by_then late bound comes = unless_moved is_unheard bound (λ still. ⊎_elim
@@ -358,11 +358,11 @@ module _ (start : Start) (plan : PathPlan) (one : BeginsWithOnePath start plan) 
         (λ due. on (hears.owes (edge q) still.among still.behind (le_refl (edge q)) bound due))
         (comes_again start turns turn h s r kind by_then comes passed))
 
-    pub hears_on : HearsSoon s unheard x until p → Goes
+    pub hears_on : HearsSoon Level s unheard x until p → Goes
     hears_on (hears.comes n among behind by_then low told) = unless_heard n among (λ still. on (hears.comes n among still by_then low (told_stays.comes n by_then told)))
     hears_on (hears.owes n among behind low bound due) = unless_heard n among (λ still. is_owed n among still (let up = edge_later in omega (arith, low, up)) bound due)
     hears_on (hears.settles is_unheard by_then late bound heard) = unless_moved is_unheard (omega (arith, late, bound)) (λ still. on (hears.settles still by_then late bound
-        (says_only_on start (one_path_is_roomy start plan one) turns turn (begun start turns turn h) s (λ n. IsToldBy s n by_then p ⊎ Has (λ m. m ≡ n) unheard) (λ n. IsToldBy s n by_then q ⊎ Has (λ m. m ≡ n) unheard)
+        (says_only_on start roomy turns turn (begun start turns turn h) s (λ n. IsToldBy s n by_then p ⊎ Has (λ m. m ≡ n) unheard) (λ n. IsToldBy s n by_then q ⊎ Has (λ m. m ≡ n) unheard)
         (λ n so. ⊎_elim (λ told. inl (told_stays.comes n by_then told)) (λ has. inr has) so) heard (λ y is from rst. inr (inr is_unheard.among)))))
     hears_on (hears.waits is_unheard nothing tick runs level late bound) = waits_on is_unheard nothing tick runs level late bound
     hears_on (hears.resends is_unheard again bound) = resends_on is_unheard again bound
@@ -372,9 +372,10 @@ module _ (start : Start) (plan : PathPlan) (one : BeginsWithOnePath start plan) 
 
   module _ (lost : List ℕ) (these : OwesThese s lost [] q) where
     pub data MendsOnSo : Type 0 where
-      goes_on_so : MendsInTurn s lost x until q → MendsOnSo
+      goes_on_so : MendsInTurn Level s lost x until q → MendsOnSo
       less : OwesFewer s (length lost + 0) q → MendsOnSo
       whole : IsAllThere s (reached values start later) → MendsOnSo
+      heard_more : Level p → una q ≤ una p → (end_at s p).sending.heard < (end_at s q).sending.heard → MendsOnSo
 
     -- Where RCV.NXT of the peer is past the beginning of a record, that is there: so it isn't lost.
     past_it : (some_lost : List ℕ) (position : ℕ) → AreWellBut s some_lost q → position < edge q → AreWellBut s (without position some_lost) q
@@ -388,8 +389,8 @@ module _ (start : Start) (plan : PathPlan) (one : BeginsWithOnePath start plan) 
             by kinds.Fin is = well_by.other (λ data_is. (let apart : kinds.Fin ≡ kinds.Data = sym is ∙ data_is in cc))
             by kinds.Data is = ⊎_elim
                 (λ before. absurd (omega (arith, before, same, past)))
-                (λ passed. well_by.sent (passed_there start one.mild later q h.after.here s r passed (q.clock + 400)))
-                (agree.whole later h.after r is_one is)
+                (λ passed. well_by.sent (passed_there start roomy.mild later q h.after.here s r passed (q.clock + 400)))
+                (whole_ones later h.after r is_one is)
 
         among : Has (λ n. n ≡ r.pos) some_lost → IsWell s q r ⊎ Has (λ n. n ≡ r.pos) (without position some_lost)
         among has = one_or_apart r.pos position (λ same. inl (there_now same)) (λ apart. inr (stays_among position r.pos apart some_lost has.at has.item has.there has.holds))
@@ -427,7 +428,7 @@ module _ (start : Start) (plan : PathPlan) (one : BeginsWithOnePath start plan) 
                 none_left_in : Has (λ n. n ≡ t.pos) (without r.pos (r.pos ∷ [])) → ⊥
                 none_left_in has = (let few = shorter r.pos (r.pos ∷ []) 0 r.pos refl refl in empty_has (without r.pos (r.pos ∷ [])) t.pos (omega (arith, few)) has)
 
-    mends_first : (by_then : ℕ) → by_then ≤ x → una p ≤ suc (end_at s p).sending.heard → MendsFirst s (length lost) by_then p → MendsOnSo
+    mends_first : (by_then : ℕ) → by_then ≤ x → Level p → MendsFirst s (length lost) by_then p → MendsOnSo
     mends_first by_then low level m = ⊎_elim
         (first_rises by_then m)
         (λ same. by same (lost_records_are_mended start turns turn h s (length lost) by_then m))
@@ -435,20 +436,20 @@ module _ (start : Start) (plan : PathPlan) (one : BeginsWithOnePath start plan) 
       where
         refuted : una q ≤ una p → IsNews (end_at s p) (end_at s q) → MendsOnSo
         refuted same (news_by.on_subflow more) = absurd (omega (arith, more, same))
-        refuted same (news_by.on_stream more) = ⊎_elim whole (λ below. absurd (omega (arith, level, more, below, same))) (agree.below later h.after)
+        refuted same (news_by.on_stream more) = heard_more level same more
         refuted same (news_by.data_fin none_acked acked) = whole (subst (HoldsOfKind (λ app. Unit {0}) (FinishedIsThere (reached values start later))) h.after.here.is
-            (what_is_finished_is_there start plan later one.one h.mild 2 h.after.here.crew h.after.here.there) s (HasFinished.acknowledged acked))
+            (each_finished_is_there start later h.mild 2 h.after.here.crew h.after.here.there) s (HasFinished.acknowledged acked))
         refuted same (news_by.opened early late) = absurd (let past = h.before.is_open.past s in omega (arith, early, past))
         refuted same (news_by.third owes none_owed) =
             absurd (both_ways (is_joined p.profile) h.before.is_open.first ((of_before start turns turn h EndsAskForThemselves (ends_ask_for_themselves start turns h.mild 2 crew there) s).third owes))
 
         by : una q ≤ una p → MendsFirstOn s (length lost) by_then p q → MendsOnSo
-        by same (mending.on more) = goes_on_so (in_turn.mends by_then low (let up = heard_later in omega (arith, level, same, up)) more)
+        by same (mending.on more) = goes_on_so (in_turn.mends by_then low (level_on p q level same heard_later) more)
         by same (mending.fewer fewer_now few well) = fewer_lost fewer_now few well
         by same (mending.harmed u harmed) = absurd (unharmed u harmed)
         by same (mending.news first before after news) = refuted same news
 
-    pub mends_on : MendsInTurn s lost x until p → MendsOnSo
+    pub mends_on : MendsInTurn Level s lost x until p → MendsOnSo
     mends_on (in_turn.comes position among by_then late bound comes) = goes_on_so (in_turn.comes position among by_then late bound (octets_are_passed.on start turns turn h s position by_then comes))
     mends_on (in_turn.told position among by_then late bound told) = goes_on_so (in_turn.told position among by_then late bound (told_stays.comes position by_then told))
     mends_on (in_turn.mends by_then low level m) = mends_first by_then low level m

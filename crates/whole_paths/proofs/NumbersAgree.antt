@@ -60,14 +60,14 @@ pub numbers_agree_so : (start : Start) (plan : PathPlan) (s : Side) → BeginsWi
 numbers_agree_so start plan s one whole = agree start plan s one whole
 
 pub records_are_passed_whole : RecordsArePassedWhole
-records_are_passed_whole start plan s one = by start.checksums refl
+records_are_passed_whole start s mild = by start.checksums refl
   where
     by : (b : Bool) → start.checksums ≡ b → ArePassedWhole start s
-    by true checked turns h r has kind = (subst (HoldsOfKind (λ app. Unit {0}) NoneIsCut) h.here.is (checked_records_are_passed_whole start turns one.mild checked h.here.crew h.here.there)) s r (has_same r (end_at s h.path) has) kind
-    by false unchecked turns h r has kind = unchecked_records_are_passed_whole start turns one.mild unchecked h.path h.here h.is_open.living s r has kind
+    by true checked turns h r has kind = (subst (HoldsOfKind (λ app. Unit {0}) NoneIsCut) h.here.is (checked_records_are_passed_whole start turns mild checked h.here.crew h.here.there)) s r (has_same r (end_at s h.path) has) kind
+    by false unchecked turns h r has kind = unchecked_records_are_passed_whole start turns mild unchecked h.path h.here h.is_open.living s r has kind
 
 pub numbers_always_agree : NumbersAlwaysAgree
-numbers_always_agree start plan s one = agree start plan s one (records_are_passed_whole start plan s one)
+numbers_always_agree start plan s one = agree start plan s one (records_are_passed_whole start s one.mild)
 
 pub checked_numbers_agree : (start : Start) (plan : PathPlan) (s : Side) → BeginsWithOnePath start plan → start.checksums ≡ true → NumbersAgree start s
 checked_numbers_agree start plan s one checked = numbers_always_agree start plan s one

@@ -216,3 +216,4 @@ pub mod StandbyRounds
 pub mod GrantedPieces
 pub mod GrantedPositions
 pub mod NearRounds
+pub mod HeardBytes

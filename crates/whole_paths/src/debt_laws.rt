@@ -22,7 +22,7 @@ pub fn checked_records_are_passed_whole()
 /// A law: without checksums RCV.NXT of an end lies inside no record of data of its peer's either, on path 0 of a mild connection neither end of which
 /// is dead: each segment has all of a record, so that none of its octets comes, or all (RFC 9293, section 3.4; `unchecked`).
 ///
-/// Over one path it doesn't wherever the path is open, with checksums or without (`always`).
+/// So it doesn't wherever path 0 is open, with checksums or without (`always`).
 pub fn records_are_passed_whole()
     ensures unchecked { UncheckedRecordsArePassedWhole }
     ensures always { RecordsArePassedWhole }

@@ -1,7 +1,9 @@
 //! What is promised of how soon connections over several paths deliver, as clauses of functions that do nothing.
 ghost use Rattle.whole_paths.specs.ClearRounds.{EightRoundsAcknowledge};
+ghost use Rattle.whole_paths.specs.DirectionWaits.{DirectionsAreMendedUnlessMoreIsHeard};
 ghost use Rattle.whole_paths.specs.GrantedPieces.{PiecesAreFew, WhatIsTakenIsGranted, WhoMayAskIsServed};
 ghost use Rattle.whole_paths.specs.GrantedPositions.{PathsSendWhatIsGranted};
+ghost use Rattle.whole_paths.specs.HeardBytes.{WhatIsHeardIsAcknowledged};
 ghost use Rattle.whole_paths.specs.NearRounds.{WhatOwesNoneIsAcknowledged};
 ghost use Rattle.whole_paths.specs.WindowRoom.{OnePathIsRoomy, ShortFilesAreRoomy, UnfinishedWindowsHaveRoom};
 ghost use Rattle.world_laws.specs.Promises.{HoldsAnyway};
@@ -53,4 +55,22 @@ pub fn windows_have_room()
 pub fn what_is_well_is_acknowledged()
     ensures well { EightRoundsAcknowledge }
     ensures free { WhatOwesNoneIsAcknowledged }
+{}
+
+/// A law: of the debts along a direction of path 0 (`directions_go_on`) one is mended within 62,000 ticks, over any number of paths, unless a segment is harmed,
+/// or the side's end hears that more of its stream is acknowledged (RFC 6298, section 5).
+///
+/// So it is of a mild connection where windows have room (`windows_have_room`). A Data ACK that tells of bytes which other paths brought starts the end's
+/// timer anew, though its own records wait. Over one path none does (`directions_are_mended`).
+pub fn directions_are_mended_unless_more_is_heard()
+    ensures { DirectionsAreMendedUnlessMoreIsHeard }
+{}
+
+/// A law: as long as a byte of a stream isn't acknowledged, no end of its side heard by Data ACKs of more bytes than the side's book has acknowledged, over
+/// any number of paths, whatever the links do (RFC 8684, section 3.3.2).
+///
+/// So while the first missing byte stays, an end's timer starts anew by Data ACKs only until it heard of all before that byte
+/// (`directions_are_mended_unless_more_is_heard`).
+pub fn what_is_heard_is_acknowledged()
+    ensures { HoldsAnyway WhatIsHeardIsAcknowledged }
 {}
