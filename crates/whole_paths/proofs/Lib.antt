@@ -371,3 +371,4 @@ pub mod GrantedPieces
 pub mod GrantedPositions
 pub mod NearRounds
 pub mod TakenPieces
+pub mod UnclearJoins

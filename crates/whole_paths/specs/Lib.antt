@@ -214,3 +214,4 @@ pub mod StandbyRounds
 pub mod GrantedPieces
 pub mod GrantedPositions
 pub mod NearRounds
+pub mod UnclearJoins
