@@ -1,6 +1,6 @@
 -- A's end of a path that joins owes its third MP_JOIN from the SYN/ACK on, as long as it may send no DSS.
-use Rattle.std.proofs.Common.{◌≡◌, refl, sym, subst, ap, ◌∙◌, ◌⊎◌, inl, inr, ⊎_elim, ℕ, ◌+◌, ◌≤◌, arith, Bool, true, false, true≢false, if◌then◌else◌, ◌||◌, Option, Some, None, is_some, List, [], ◌∷◌, length}
-use Rattle.std.proofs.lemmas.Bool.{both_ways, or_from, or_parts}
+use Rattle.std.proofs.Common.{◌≡◌, refl, sym, subst, ap, ◌∙◌, ℕ, ◌+◌, ◌≤◌, arith, Bool, true, false, true≢false, if◌then◌else◌, ◌||◌, Option, Some, None, is_some, List, [], ◌∷◌, length}
+use Rattle.std.proofs.lemmas.Bool.{both_ways, or_parts}
 use Rattle.path_segments.specs.Heard.{HeardSegment}
 use Rattle.sides.specs.declared.side.Side.{Side}
 use Rattle.sides.specs.declared.side.Side.TheVariants.{A, B}
@@ -14,14 +14,13 @@ use Rattle.subflow_tcp.specs.Closing.{after_passing_fin, is_fin_next}
 use Rattle.subflow_tcp.specs.Expiring.{after_expiry, is_sixth}
 use Rattle.subflow_tcp.specs.Judging.{meaning_of}
 use Rattle.subflow_tcp.specs.Opening.{after_begin}
-use Rattle.subflow_tcp.specs.State.{EndState}
 use Rattle.subflow_tcp.specs.States.{after_fin_passed, after_finish, is_dead, is_half_open, is_waiting}
 use Rattle.subflow_tcp.specs.Taking.{after_death, after_dropping_held, after_keeping_held, after_syn, unkept}
 use Rattle.subflow_tcp.specs.declared.handshake.State.{State}
 use Rattle.subflow_tcp.specs.declared.handshake.State.TheVariants as phase
 use Rattle.subflow_tcp.specs.declared.verdicts.Meaning.{Meaning}
 use Rattle.subflow_tcp.specs.declared.verdicts.Meaning.TheVariants as means
-use Rattle.actor_desk.specs.Words.{pick, tail_of}
+use Rattle.actor_desk.specs.Words.{tail_of}
 use Rattle.actor_desk.specs.declared.ask.Reply.{Reply}
 use Rattle.actor_desk.specs.declared.ask.Reply.TheVariants as replies
 use Rattle.path_agenda.specs.Agenda.{emission, leaves, resets}
@@ -49,13 +48,13 @@ use Rattle.path_core.specs.End.{PathEnd, died}
 use Rattle.path_core.specs.Events.{after_line, happens_if, next_event}
 use Rattle.path_core.specs.Fallback.{after_fell, answered_fell, book_answered, breaks_by_ack, fell_duties, mode_in, with_infinite, with_plain_ack}
 use Rattle.path_core.specs.Judged.{join_judged, is_forged, is_passed_over, taken_as, with_answer}
-use Rattle.path_core.specs.MpCapable.{after_keys, answered_opened, keys_in}
+use Rattle.path_core.specs.MpCapable.{after_keys, answered_opened}
 use Rattle.path_core.specs.MpJoin.{asked_at, is_joined, is_listening, is_never, join_answer, join_asked, join_begun, join_taken, joined_by, keys_begun, never_joined, opened_by, syn_of_window, with_mode_refused}
 use Rattle.path_core.specs.OptionsIn.{items_of, options_heard}
 use Rattle.path_core.specs.Standing.{after_ack_out, answered_ack_out}
 use Rattle.path_core.specs.Start.{waiting_path}
 use Rattle.path_core.specs.State.{PathState, at_tick, end_at, goes_on, left}
-use Rattle.path_core.specs.Steps.{begins_turn, next_round, settled, takes}
+use Rattle.path_core.specs.Steps.{begins_turn, takes}
 use Rattle.path_core.specs.Timer.{after_firing}
 use Rattle.path_core.specs.Treating.{answered_heard, answered_item, item_of, item_passed}
 use Rattle.path_core.specs.declared.events.Event.{Event}
@@ -71,7 +70,6 @@ use Rattle.world_laws.proofs.Writes.Ends.{fell_so, mode_so}
 use Rattle.world_laws.proofs.Writes.Paths.{passes_no_more, writes_no_more}
 use Rattle.world_laws.proofs.Writes.Steps.{Lasts, begins_lasts, both_ends, settled_lasts, unwritten}
 use Rattle.whole_paths.specs.AsFar.{stage}
-use Rattle.std.specs.List.{slice_get}
 use Rattle.stream_lanes.proofs.Lists.{in_map}
 use Rattle.subflow_tcp.specs.States.{is_closed_to_segments}
 use Rattle.path_core.specs.DssIn.{counts, with_data_fin, with_learned, with_skipped}

@@ -1,5 +1,5 @@
 -- An end of a path that joins, past the handshake, which may send no DSS yet, waits for the answer to its third MP_JOIN (RFC 8684, section 3.2).
-use Rattle.std.specs.Prelude.{ℕ, ◌≡◌, ◌≤◌, true, false, Some, IsSome, List, [], slice_get}
+use Rattle.std.specs.Prelude.{ℕ, ◌≡◌, ◌≤◌, true, false, Some, IsSome, [], slice_get}
 use Rattle.sides.specs.declared.side.Side.{Side}
 use Rattle.sides.specs.declared.side.Side.TheVariants.{A}
 use Rattle.subflow_tcp.specs.States.{is_dead}
