@@ -166,7 +166,7 @@ module _ (start : Start) (turns : List Turn) where
   abbrev FellAt : WorldState Carried → Type 0
   FellAt v = (s : Side) (number : ℕ) (x : Walker Carried) → slice_get v.crew (suc (suc number)) ≡ Some (walking x) → (end_at s x.path).modes.identity ≡ true → Was is_identity v.books s
 
-  fell_at : FellAt (world_run values turns (opened_world start))
+  pub fell_at : FellAt (world_run values turns (opened_world start))
   fell_at = let run = run_causes start turns in subst FellAt (sym run.is) (of_cast run.cast (λ n x there. run.holds.paths.each n x there))
     where
       of_cast : (t : Cast Carried) → ((n : ℕ) (x : Walker Carried) → slice_get t.paths n ≡ Some x → Knows start t x.path) → FellAt (world_of t)

@@ -9,6 +9,7 @@ mod AgendaFits
 mod AllKept
 mod AnswersAsked
 mod AnswersShow
+mod Arising
 mod Bearing
 mod BearsKnow
 mod BearsPlain
@@ -63,6 +64,7 @@ mod LanePlaces
 mod LastLanes
 mod LateJoins
 mod Learning
+mod Leaving
 mod LineLinks
 mod Lines
 mod LinesKept
@@ -82,7 +84,6 @@ mod Nonces
 mod Numbered
 mod Offering
 mod OneConnection
-mod OnePathLines
 mod OpenCounts
 mod OpenFlows
 mod Openers
@@ -91,6 +92,7 @@ mod OpeningArrivals
 mod OpeningEnds
 mod OpeningHears
 mod OpeningRuns
+mod OtherPaths
 mod Own
 mod OwnFlows
 mod OwnOptions
@@ -109,6 +111,7 @@ mod PlacesKept
 mod PlacesTrace
 mod Placing
 mod PlainSends
+mod QuietBeside
 mod Reached
 mod ReadEnds
 mod ReadingBack
@@ -120,11 +123,16 @@ mod SeenFiles
 mod Segments
 mod SendingModes
 mod SentGrows
+mod Settled
 mod ShortOctets
 mod ShortPieces
 mod ShownAcks
 mod ShownSeen
 mod Speaking
+mod StandsEver
+mod StandsFirst
+mod StandsOn
+mod StandsWorld
 mod Syns
 mod Telling
 mod TellsPlaces

@@ -1,5 +1,4 @@
--- In the capture of a run, whatever its script does, no place has two octets, and the DATA_FIN stands at one place. Where the script alters no payload all
--- infinite mappings are plain TCP's, which give each position one place on path 0.
+-- In the capture of a run, whatever its script does, no place has two octets, and the DATA_FIN stands at one place.
 use Rattle.std.proofs.Common.{◌≡◌, refl, sym, ap, ◌∙◌, subst, ℕ, suc, ◌+◌, ◌<◌, ◌^◌, ◌≤◌, ◌⊎◌, inl, inr, ⊎_elim, Bool, true, false, Option, Some, None, option_map, Ok, Result, List, [], ◌∷◌, ◌++◌, append_assoc, length, map, arith}
 use Rattle.std.specs.Prelude.{All}
 use Rattle.std.specs.List.{list_any, slice_get}
@@ -29,10 +28,10 @@ use Rattle.sides.specs.declared.side.Side.{Side}
 use Rattle.stream_lanes.specs.Duo.{Duo}
 use Rattle.world_laws.proofs.Lanes.OfAWorld.{anyhow}
 use Rattle.world_laws.specs.Openings.{Start, opened_world}
-use Rattle.world_laws.specs.Promises.{HasRoom, IsPlain, NumbersFit}
+use Rattle.world_laws.specs.Promises.{HasRoom, NumbersFit}
 use Rattle.world_laws.specs.Worlds.{Turn, WorldState, after_turn, world_run}
 use Rattle.own_runs.specs.Fitting.{RunFits}
-use Rattle.own_runs.specs.Runs.{NoPlainRunBreaks, NoRunBreaks, capture_of}
+use Rattle.own_runs.specs.Runs.{NoRunBreaks, capture_of}
 use Rattle.own_runs.specs.Traces.{FitsCapture, packet_for}
 use Rattle.own_runs.proofs.AckMoments.{Sends, one_turn}
 use Rattle.own_runs.proofs.Bearing.{maps_octets}
@@ -43,7 +42,7 @@ use Rattle.own_runs.proofs.FinRuns.{fin_stands}
 use Rattle.own_runs.proofs.Fitting.{traces_fit}
 use Rattle.own_runs.proofs.InTime.{LinesPath, OpensAt, ResetsPath, Sending, SynsAt, SynsPath, TellsLineAt, WasReset, WasSaid, turn_sending, was_last, was_more, was_split}
 use Rattle.own_runs.proofs.Kept.{same_judged}
-use Rattle.own_runs.proofs.LastLanes.{AtLast, none_beside}
+use Rattle.own_runs.proofs.LastLanes.{AtLast}
 use Rattle.own_runs.proofs.LateJoins.{ComesBehind, Says}
 use Rattle.own_runs.proofs.Learning.{IsAlone, IsAnswer}
 use Rattle.own_runs.proofs.Lines.{StreamLined, is_line}
@@ -59,7 +58,7 @@ use Rattle.own_runs.proofs.Moments.{IsSpoken, WorldAlso, world_speaks}
 use Rattle.own_runs.proofs.NextTrace.{octets_append}
 use Rattle.own_runs.proofs.OwnTrace.{found}
 use Rattle.own_runs.proofs.ShownAcks.{both_worlds}
-use Rattle.own_runs.proofs.TellsPlaces.{AnyLine, PlainLine, RunTells, RunTold, Tells, plain_tells, run_told}
+use Rattle.own_runs.proofs.TellsPlaces.{AnyLine, RunTells, RunTold, Tells, run_told}
 use Rattle.own_runs.proofs.TimeRuns.{OpensSo, opens_so}
 use Rattle.own_runs.proofs.Traces.{traces_are}
 
@@ -362,11 +361,11 @@ module _ (start : Start) (turns : List Turn) (size : HasRoom start) (fit : Numbe
 pub no_run_breaks : (r : Rule) → is_line true false r ≡ true → NoRunBreaks r
 no_run_breaks r is start turns size fit run side at judged read connection s stream there = (run_lined_so start turns size fit run side at judged read connection s stream there).1.untold r is
 
--- ---- where the script alters no payload
+-- ---- nothing on a lane
 
-module _ (start : Start) (last : Duo) (ended : AtLast start last) (path : ℕ) (s : Side) (none : upto_of (lane_of last path s) ≡ 0) where
+module _ (start : Start) (Told : Duo → ℕ → Side → ℕ → ℕ → Type 0) (Fails : Type 0) (last : Duo) (path : ℕ) (s : Side) (none : upto_of (lane_of last path s) ≡ 0) where
   -- where a lane has nothing nothing is mapped
-  maps_none : (o : PlainOption) → OptionFine (file_len start) (IsMapped start last path) (LineAt start PlainLine last path) ⊥ s o → maps_octets o ≡ true → ⊥
+  maps_none : (o : PlainOption) → OptionFine (file_len start) (IsMapped start last path) (LineAt start Told last path) Fails s o → maps_octets o ≡ true → ⊥
   maps_none (Dss next (Some (Bytes place position len fin checksum))) is maps = let some = is.0 in let low = is.3.2 in let within = is.3.3 in omega (arith, none, some, low, within)
   maps_none (Dss next (Some (End place checksum))) is maps = false≢true maps
   maps_none (Dss next (Some (Infinite place position))) is maps = false≢true maps
@@ -377,27 +376,7 @@ module _ (start : Start) (last : Duo) (ended : AtLast start last) (path : ℕ) (
   maps_none (Capable flag_a flag_c (Both sender receiver)) is maps = false≢true maps
   maps_none _ is maps = false≢true maps
 
-  all_none : (options : List PlainOption) → AllFine (file_len start) (IsMapped start last path) (LineAt start PlainLine last path) ⊥ s options → list_any maps_octets options ≡ true → ⊥
+  pub all_none : (options : List PlainOption) → AllFine (file_len start) (IsMapped start last path) (LineAt start Told last path) Fails s options → list_any maps_octets options ≡ true → ⊥
   all_none [] each maps = false≢true maps
   all_none (o ∷ options) each maps =
       ⊎_elim (λ here. maps_none o (each.each 0 o refl) here) (λ later. all_none options (record { each = λ i y at. each.each (suc i) y at }) later) (or_cases (maps_octets o) (list_any maps_octets options) maps)
-
-module _ (start : Start) (turns : List Turn) (plain : IsPlain start) (fit : NumbersFit start) where
-  abbrev plainly_told : RunTells start PlainLine ⊥ turns
-  plainly_told = plain_tells start turns plain fit
-
-  no_fins : FinsStand start false true PlainLine ⊥ turns plain.size fit plainly_told
-  no_fins before later turn is y sends asked fin = absurd (false≢true asked)
-
-  plain_agree : AgreeOn (PlainLine plainly_told.0)
-  plain_agree p q s a i b j is also = (is.0 ∙ sym also.0, let one = is.1 in let other = also.1 in omega (arith, one, other))
-
-  plain_apart : AreApart start false true PlainLine ⊥ turns plain.size fit plainly_told
-  plain_apart asked before later turn split y sends tells maps q place position other line said =
-      all_none start plainly_told.0 plainly_told.2 y.path y.from (none_beside plainly_told.0 plainly_told.2.holds line.2 y.path y.from (λ first. other (line.0 ∙ sym first))) y.segment.options tells.0 maps
-
--- whatever options it takes away
-pub no_plain_run_breaks : (r : Rule) → is_line false true r ≡ true → NoPlainRunBreaks r
-no_plain_run_breaks r is start turns plain fit run side at judged read connection s stream there =
-    (stands_so start false true PlainLine ⊥ turns plain.size fit (plainly_told start turns plain fit) (no_fins start turns plain fit) (λ asked. plain_agree start turns plain fit) (plain_apart start turns plain fit)
-    run side at judged read connection s stream there).untold r is

@@ -243,7 +243,7 @@ module _ (start : Start) (size : HasRoom start) (fit : NumbersFit start) where
       pub next : first_sends path.agenda path ≡ Some sends
       pub same : y ≡ sending_as (shown_path path) sends
 
-    here_so : (y : Sending) → turn_sending turn (world_run octets before (opened_world start)) ≡ Some y → Here y
+    pub here_so : (y : Sending) → turn_sending turn (world_run octets before (opened_world start)) ≡ Some y → Here y
     here_so y is = by turn refl
       where
         none : (let nothing : Option Sending = None in nothing) ≡ Some y → Here y
@@ -270,7 +270,7 @@ module _ (start : Start) (size : HasRoom start) (fit : NumbersFit start) where
             (sym (ap crew_sending (ap (λ (w : WorldState (List ℕ)). slice_get w.crew actor) (run_fresh start before size fit) ∙ crew_at (v before).crew actor))
             ∙ sym (ap (λ (t : Turn). turn_sending t (world_run octets before (opened_world start))) is_turn) ∙ is)
 
-    same_segment : (p : PathState Carried) (t : ToSend) → segment_sent (shown_path p) t ≡ segment_sent p t
+    pub same_segment : (p : PathState Carried) (t : ToSend) → segment_sent (shown_path p) t ≡ segment_sent p t
     same_segment p t = ap (said_by t.kind p.profile t.from) (sym (end_shown t.from p))
 
     -- of a path
@@ -424,9 +424,17 @@ module _ (start : Start) (size : HasRoom start) (fit : NumbersFit start) where
                 takes_owes (Opened later n) (Answered later n) (Spoke later n) (Fell before n) r p said_so owes_so,
               )
 
+          -- a dead end stays dead
+          pub step_dies : (r : Reply) (s : Side) → is_dead (end_at s p).tcp.state ≡ true → is_dead (end_at s (takes values r p)).tcp.state ≡ true
+          step_dies r s dead =
+              fell_at (Opened later n) (Answered later n) (Spoke later n) (λ t. is_dead (end_at t p).tcp.state ≡ true) s (takes values r p)
+              (takes_so (Opened later n) (Answered later n) (Spoke later n) (λ t. is_dead (end_at t p).tcp.state ≡ true) r p
+              (fallen (Opened later n) (Answered later n) (Spoke later n) (Fell before n) (λ t. is_dead (end_at t p).tcp.state ≡ true) p (λ t is. is) said_so) owes_so
+              (λ t. is_dead (end_at t p).tcp.state ≡ true) settles says (λ t is. inl is)) dead
+
     -- after the turn
     module _ (met : WorldMet start.key_a start.key_b (v before)) (h : WorldOpens before (v before)) where
-      settled_at : (i : ℕ) (c : ActorCrew Carried) → slice_get (v before).crew i ≡ Some c → (p : PathState Carried) → c.member ≡ Path p → IsSettled p
+      pub settled_at : (i : ℕ) (c : ActorCrew Carried) → slice_get (v before).crew i ≡ Some c → (p : PathState Carried) → c.member ≡ Path p → IsSettled p
       settled_at i c there p is_path = (subst (MemberIs start.key_a start.key_b true (books_in (v before).books)) is_path (met.keys.crew.each i c there)).settled
 
       quiet_member : (i : ℕ) (c : ActorCrew Carried) → slice_get (v before).crew i ≡ Some c → ((p : PathState Carried) → c.member ≡ Path p → (t : ToSend) → turn ≡ Turn.Step i → first_sends p.agenda p ≡ Some t → ⊥)
@@ -503,6 +511,13 @@ module _ (start : Start) (size : HasRoom start) (fit : NumbersFit start) where
           by : (t : Turn) → turn ≡ t → WorldOpens later (after_turn values t (v before))
           by (Turn.Step actor) is_turn = step_next actor is_turn (slice_get (v before).crew actor) refl
           by Turn.Round is_turn = round is_turn (all_over (v before).crew)
+
+  -- nor does it live again as a round begins
+  pub round_dies : (before : List Turn) (p : PathState Carried) → PathSo before p → (s : Side) → is_dead (end_at s p).tcp.state ≡ true → is_dead (end_at s (next_round p)).tcp.state ≡ true
+  round_dies before p h s dead =
+      fell_at (Opened before (path_of p)) (Answered before (path_of p)) (Spoke before (path_of p)) (λ t. is_dead (end_at t p).tcp.state ≡ true) s (next_round p)
+      (next_so (Opened before (path_of p)) (Answered before (path_of p)) (Spoke before (path_of p)) (λ t. is_dead (end_at t p).tcp.state ≡ true) p
+      (fallen (Opened before (path_of p)) (Answered before (path_of p)) (Spoke before (path_of p)) (Fell before (path_of p)) (λ t. is_dead (end_at t p).tcp.state ≡ true) p (λ t is. is) h.0)).0 dead
 
   opened_so : WorldOpens [] (opened_world start)
   opened_so = opened_actors (λ actor c. MemberOpens [] c.member) start tt tt (λ number plan there. path number plan)

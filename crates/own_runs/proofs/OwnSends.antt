@@ -130,7 +130,7 @@ module _ {C : Type 0} where
   }
 
   -- as before, or by that verdict
-  abbrev Goes : Duty → Reply → Side → PathState C → PathState C → Type 0
+  abbrev pub Goes : Duty → Reply → Side → PathState C → PathState C → Type 0
   Goes d r s p q = (own_of s q ≡ own_of s p) ⊎ ((d ≡ Duty.Ask (AskDuty.FailHeard s)) × (is_infinite_send r ≡ true))
 
   kept_goes : (k : Codec C) (d : Duty) (r : Reply) (p : PathState C) (s : Side) → (writes d).own.own_infinite ≡ false → (writes d).other.own_infinite ≡ false → Goes d r s p (answered k d r p)
@@ -149,7 +149,7 @@ module _ {C : Type 0} where
   answered_goes k (Duty.Silent (SilentDuty.Timer t)) r p s = kept_goes k (Duty.Silent (SilentDuty.Timer t)) r p s refl refl
   answered_goes k d r p s = kept_goes k d r p s refl refl
 
-  takes_goes : (k : Codec C) (d : Duty) (ds : List Duty) (r : Reply) (p : PathState C) (s : Side) → p.agenda ≡ d ∷ ds → Goes d r s p (takes k r p)
+  pub takes_goes : (k : Codec C) (d : Duty) (ds : List Duty) (r : Reply) (p : PathState C) (s : Side) → p.agenda ≡ d ∷ ds → Goes d r s p (takes k r p)
   takes_goes k d ds r p s first =
       let q : PathState C = answers k p.agenda r p in
       let one : Goes d r s p q = subst (λ (xs : List Duty). Goes d r s p (answers k xs r p)) (sym first) (answered_goes k d r p s) in
@@ -189,7 +189,7 @@ member_turns six (Path p) x s asks = by p.agenda refl asks
     by [] first is = cc
     by (d ∷ ds) first is = subst (λ (y : Ask). Turns six (after_ask y six) s (Path p) (Path (takes values (reply_of six y) p))) (same_Some (ask_for values d p) x is) (one d ds first)
 
-next_own : (m : Actor Carried) (s : Side) → own_at s (member_next m) ≡ own_at s m
+pub next_own : (m : Actor Carried) (s : Side) → own_at s (member_next m) ≡ own_at s m
 next_own (App a) s = refl
 next_own (Path p) s = next_same p s
 
@@ -300,24 +300,24 @@ run_own (turn ∷ turns) w sends h =
     let rest = run_own turns (after_turn values turn w) (λ more. sends (turn ∷ more)) one.0 in
     (rest.0, λ actor s m is. rest.1 actor s m (one.1 actor s m is))
 
+pub opened_none : (start : Start) (actor : ℕ) (c : ActorCrew Carried) → slice_get (opened_world {C = Carried} start).crew actor ≡ Some c → (s : Side) → own_at s c.member ≡ None
+opened_none start = opened_actors (λ actor c. (s : Side) → own_at s c.member ≡ None) start (λ s. refl) (λ s. refl) (λ number plan there s. path number plan s)
+  where
+    path : (number : ℕ) (plan : PathPlan) (s : Side) → own_at s (new_path {C = Carried} start number plan).member ≡ None
+    path number plan s =
+        let p : PathState Carried = waiting_path (path_begins start number plan) start.lines in at_side s p (begins_turn p) (begins_lasts (λ p q. SameOwn p q) own_lasts p) ∙ first s
+      where
+        first : (s : Side) → own_of s (waiting_path {C = Carried} (path_begins start number plan) start.lines) ≡ None
+        first A = refl
+        first B = refl
+
 opened_own : (start : Start) → OwnSends (opened_world start)
 opened_own start = record { was = λ actor s m is. by actor s m (slice_get (opened_world {C = Carried} start).crew actor) refl is }
   where
-    none : (actor : ℕ) (c : ActorCrew Carried) → slice_get (opened_world {C = Carried} start).crew actor ≡ Some c → (s : Side) → own_at s c.member ≡ None
-    none = opened_actors (λ actor c. (s : Side) → own_at s c.member ≡ None) start (λ s. refl) (λ s. refl) (λ number plan there s. path number plan s)
-      where
-        path : (number : ℕ) (plan : PathPlan) (s : Side) → own_at s (new_path {C = Carried} start number plan).member ≡ None
-        path number plan s =
-            let p : PathState Carried = waiting_path (path_begins start number plan) start.lines in at_side s p (begins_turn p) (begins_lasts (λ p q. SameOwn p q) own_lasts p) ∙ first s
-          where
-            first : (s : Side) → own_of s (waiting_path {C = Carried} (path_begins start number plan) start.lines) ≡ None
-            first A = refl
-            first B = refl
-
     by : (actor : ℕ) (s : Side) (m : InfiniteMapping) (o : Option (ActorCrew Carried)) → slice_get (opened_world {C = Carried} start).crew actor ≡ o → own_in s o ≡ Some m
         → Was sends_infinite (opened_world {C = Carried} start).books s
     by actor s m None at is = cc
-    by actor s m (Some c) at is = let gone : None ≡ Some m = sym (none actor c at s) ∙ is in cc
+    by actor s m (Some c) at is = let gone : None ≡ Some m = sym (opened_none start actor c at s) ∙ is in cc
 
 pub always_own : (start : Start) (turns : List Turn) → OwnSends (world_run values turns (opened_world start))
 always_own start turns = (run_own turns (opened_world start) (λ more. always_sends start more) (opened_own start)).0

@@ -48,7 +48,7 @@ use Rattle.own_runs.proofs.Own.{IsOwn, own_initial, own_key}
 use Rattle.own_runs.proofs.OwnTrace.{found, from_is, is_own, path_is, payload_same, seen_of, seq_is, values_are}
 use Rattle.own_runs.proofs.Placing.{PlacedIn}
 use Rattle.own_runs.proofs.PlacesKept.{IsTelling, TellingPacket, stream_placed}
-use Rattle.own_runs.proofs.TellsPlaces.{AnyLine, Bearing, PlainLine, RunTells, Tells, plain_tells, run_tells}
+use Rattle.own_runs.proofs.TellsPlaces.{AnyLine, Bearing, RunTells, Tells, plain_tells, run_tells}
 use Rattle.own_runs.proofs.Traces.{traces_are}
 use Rattle.own_runs.proofs.Values.{drawn}
 
@@ -208,4 +208,4 @@ no_run_breaks r is start turns size fit run = breaks_none start turns false AnyL
 
 -- where it alters no payload
 pub no_plain_run_breaks : (r : Rule) → is_place true r ≡ true → NoPlainRunBreaks r
-no_plain_run_breaks r is start turns plain fit run = breaks_none start turns true PlainLine ⊥ (λ calm never. never) plain.size fit run (plain_tells start turns plain fit) r is
+no_plain_run_breaks r is start turns plain fit run = breaks_none start turns true AnyLine ⊥ (λ calm never. never) plain.size fit run (plain_tells start turns plain fit) r is

@@ -210,7 +210,7 @@ module _ (P : Record → Type 0) (any : (r : Record) (x : Sending) → P r → P
   fired_kept : (s : Side) (p : PathState Carried) → Kept p (timer_fired s p)
   fired_kept s p = on s (after_firing p.clock (end_at s p)) (template_fired (is_sixth (end_at s p).tcp) s) p (fire_keeps p.clock (end_at s p).tcp)
 
-  event_kept : (o : Option Event) (r : Reply) (p : PathState Carried) → Kept p (happens_if values o r p)
+  pub event_kept : (o : Option Event) (r : Reply) (p : PathState Carried) → Kept p (happens_if values o r p)
   event_kept None r p = record { a = λ z. z; b = λ z. z }
   event_kept (Some (Event.Joins tick)) r p =
       let k = join_kept r _ _ (record (at_tick tick p) { joined_at = None }) in record { a = k.a; b = k.b }

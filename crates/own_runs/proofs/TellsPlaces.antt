@@ -409,16 +409,6 @@ run_tells start turns size fit = tells_by start (anyhow start size) (anyhow_free
 pub run_told : (start : Start) (turns : List Turn) (size : HasRoom start) → NumbersFit start → RunTold start (anyhow start size) AnyLine (Unit {0}) turns
 run_told start turns size fit = told_by start (anyhow start size) (anyhow_free start size) AnyLine (Unit {0}) (λ is. tt) size fit turns (any_lines start (anyhow start size) turns)
 
--- ---- where the script alters no payload
-
--- an infinite mapping is plain TCP's: that of its position on path 0, where no join was ever answered
-abbrev pub PlainLine : Duo → ℕ → Side → ℕ → ℕ → Type 0
-PlainLine last path s place position = (path ≡ 0) × (suc place ≡ position) × (not last.modes.answered ≡ true)
-
-plain_lines : (start : Start) (plain : IsPlain start) (turns : List Turn) → EachLineKnown start (plainly start plain) PlainLine turns
-plain_lines start plain turns last reaches more later is =
-    record { plain = λ n x at s first fell alone position some. (first, omega (arith, some), alone); own = λ n x at may s m is. absurd (false≢true may) }
-
--- no MP_FAIL is told, either
-pub plain_tells : (start : Start) (turns : List Turn) → IsPlain start → NumbersFit start → RunTells start PlainLine ⊥ turns
-plain_tells start turns plain fit = tells_by start (plainly start plain) (plainly_free start plain) PlainLine ⊥ false≢true plain.size fit turns (plain_lines start plain turns)
+-- no MP_FAIL where it alters no payload
+pub plain_tells : (start : Start) (turns : List Turn) → IsPlain start → NumbersFit start → RunTells start AnyLine ⊥ turns
+plain_tells start turns plain fit = tells_by start (plainly start plain) (plainly_free start plain) AnyLine ⊥ false≢true plain.size fit turns (any_lines start (plainly start plain) turns)

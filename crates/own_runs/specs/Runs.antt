@@ -58,10 +58,6 @@ NoPlainRunBreaks rule = (start : Start) (turns : List Turn) → IsPlain start �
     → (side : Side) (at : Option Side) (judged : JudgedValue) → judged_capture at true (capture_of start turns side) ≡ Ok judged
     → (connection : ℕ) (s : Side) (stream : StreamValue) → stream_in judged connection s ≡ Some stream → broke rule stream ≡ false
 
--- nor in that of one whose start has one path, whatever its script does
-abbrev pub NoLoneRunBreaks : Rule → Type 0
-NoLoneRunBreaks rule = OfRuns (λ start s stream. length start.paths ≡ 1 → broke rule stream ≡ false)
-
 abbrev pub file_of : Start → Side → List ℕ
 file_of start s = pick s start.file_a start.file_b
 

@@ -6,7 +6,7 @@ ghost use Rattle.own_runs.specs.Fitting.{TracesFit};
 ghost use Rattle.own_runs.specs.Handshakes.{EachComesInOrder};
 ghost use Rattle.own_runs.specs.KeysShown.{EachComesBehindKeys, EachShowsKeysSo};
 ghost use Rattle.own_runs.specs.Packets.{CapturesAreTheirPackets};
-ghost use Rattle.own_runs.specs.Runs.{DataFinsEndTheFiles, DeliveredRunsShowTheFiles, NoLoneRunBreaks, NoPlainRunBreaks, NoRunBreaks, NoWholeRunBreaks, ReadersGetWhatIsShown, SeenOctetsAreTheFiles, StreamsBeginTheFiles, TriedOctetsAreSeen, WholeStreamsAreTheFiles};
+ghost use Rattle.own_runs.specs.Runs.{DataFinsEndTheFiles, DeliveredRunsShowTheFiles, NoPlainRunBreaks, NoRunBreaks, NoWholeRunBreaks, ReadersGetWhatIsShown, SeenOctetsAreTheFiles, StreamsBeginTheFiles, TriedOctetsAreSeen, WholeStreamsAreTheFiles};
 ghost use Rattle.own_runs.specs.Segments.{SegmentsAreFound, WrittenSegmentsAreFound};
 ghost use Rattle.own_runs.specs.Traces.{TracesAreTheirPackets, TracesAreTheirSegments};
 ghost use Rattle.own_runs.specs.ResetsEnd.{EachResetEnds};
@@ -45,10 +45,9 @@ pub fn traces_are_their_segments()
 /// nor has a position of a subflow two places, nor a number none (`mapping`), and each checksum is that of its mapping and its octets (`dss_sum`).
 /// Nor has a place two octets, also where an infinite mapping gives it its octet (`place_content`, section 3.7). The DATA_FIN stands at one place,
 /// and no data behind it, also where a FIN stands for it under an infinite mapping (`data_fin`, sections 3.3.3 and 3.7).
-/// Where the script alters no payload no MP_FAIL names what is no mapping (`fail`, section 3.7), as there is none; and what an infinite mapping maps
-/// stays mapped so (`infinite`, section 3.7), also in plain TCP, to which a side may fall back where the script takes options away.
-/// On a start of one path that holds whatever the script does (`infinite_lone`): all of a side's infinite mappings, also those behind an MP_FAIL,
-/// give a position the same place there.
+/// Nor is what an infinite mapping maps mapped otherwise, neither by another one nor by a finite one on its path, nor is anything mapped behind it
+/// on another path (`infinite`, section 3.7): all that a side tells, its own one behind an MP_FAIL and those of plain TCP, are on one path, with one
+/// place less position. Where the script alters no payload no MP_FAIL names what is no mapping (`fail`, section 3.7), as there is none.
 ///
 /// The capture is that of a trace (`traces_are_their_segments`), with sums checked. It holds of every list of turns, lawful or not, whatever the
 /// script takes away or alters, where the numbers of the start fit and the run fits a capture (`traces_are_their_segments`), and wherever the
@@ -66,8 +65,7 @@ pub fn own_runs_break_no_rule()
     ensures place_content { NoRunBreaks PlaceContent }
     ensures data_fin { NoRunBreaks DataFin }
     ensures fail { NoPlainRunBreaks Fail }
-    ensures infinite { NoPlainRunBreaks Infinite }
-    ensures infinite_lone { NoLoneRunBreaks Infinite }
+    ensures infinite { NoRunBreaks Infinite }
 {}
 
 /// A law: the capture of a run is read, and at most one connection is seen in it, whatever the script does. B's key is that of the start, and A's,

@@ -27,7 +27,7 @@ use Rattle.whole_paths.proofs.FewLossesDeliver.{few_losses_end_no_first}
 use Rattle.whole_paths.proofs.FirstHere.{first_here}
 use Rattle.whole_paths.proofs.FirstTexts.{serves_so}
 use Rattle.whole_paths.proofs.GoesOnLiving.{goes_on_living}
-use Rattle.whole_paths.proofs.Harmed.{harms_use_lines}
+use Rattle.whole_paths.proofs.Harmed.{harms_of_a_path_use_lines}
 use Rattle.whole_paths.proofs.ManyEnds.{served_paths_end}
 use Rattle.whole_paths.proofs.ManyPaths.{rounds_so, starts_mildly}
 use Rattle.whole_paths.proofs.OpeningEnds.{LaterPath, delivers_from, first_paths_open_within, later_path}
@@ -147,7 +147,7 @@ first_texts_finish_in_octets script file_a file_b turns h brief lawful four many
 pub few_first_texts_finish : FewFirstTextsFinish
 few_first_texts_finish script file_a file_b turns h directions four brief lawful many =
     let same = as_many script file_a file_b turns h.text h.some brief in
-    let uses = harms_use_lines script file_a file_b 0 turns h.text.mild.ranges directions in
+    let uses = harms_of_a_path_use_lines script file_a file_b 0 turns h.text.mild.ranges directions in
     (whole script file_a file_b turns h.text h.some brief).outcome
     ∙ finishes_so script file_a file_b turns h brief _ (omega (arith, same, uses)) four (values_lawful script file_a file_b turns h.text h.some brief lawful) many
 
@@ -161,4 +161,4 @@ first_texts_go_on_in_octets script file_a file_b turns h brief four =
 
 pub few_first_texts_go_on : FewFirstTextsGoOn
 few_first_texts_go_on script file_a file_b turns h directions four brief =
-    let uses = harms_use_lines script file_a file_b 0 turns h.text.mild.ranges directions in first_texts_go_on_in_octets script file_a file_b turns h brief (omega (arith, uses, four))
+    let uses = harms_of_a_path_use_lines script file_a file_b 0 turns h.text.mild.ranges directions in first_texts_go_on_in_octets script file_a file_b turns h brief (omega (arith, uses, four))

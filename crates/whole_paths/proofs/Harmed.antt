@@ -39,6 +39,7 @@ use Rattle.world_laws.specs.Worlds.{WorldState, Turn, after_turn, all_over, aske
 use Rattle.world_laws.proofs.Worlds.Opened.{opened_actors}
 use Rattle.world_laws.proofs.Writes.Steps.{begins_lasts, settled_lasts}
 use Rattle.whole_paths.specs.Finish.{HarmsUseLines, harmed, harms, harms_between, harms_of, harms_to, is_on_direction}
+use Rattle.whole_paths.specs.PathDirections.{HarmsOfAPathUseLines, SparesDirectionsOf, is_on_direction_of}
 use Rattle.whole_paths.specs.Harms.{IsOnTime, as_it_arrives, harms_left, is_unused, unused}
 use Rattle.whole_paths.proofs.Copies.{LinkStep, LinkStays, link_step, links_last}
 use Rattle.whole_paths.proofs.Copies.LinkStep.{stays, hands, delivers, is_cut}
@@ -47,18 +48,35 @@ use Rattle.whole_paths.proofs.Turns.{turn_each}
 
 -- ---- a link
 
--- without a line that speaks of a direction each has neither a rate nor random loss nor jitter
-pub shape_stays : (s : Side) (path : ℕ) (shape : Shape) (lines : List ScriptLine) → list_all (λ line. not (is_on_direction line)) lines ≡ true → fold (shaped_by s) shape (lines_of path lines) ≡ shape
-shape_stays s path shape [] none = refl
-shape_stays s path shape (line ∷ lines) none =
-    let parts = and_parts (not (is_on_direction line)) (list_all (λ line. not (is_on_direction line)) lines) none in
-    let rest : fold (shaped_by s) shape (lines_of path lines) ≡ shape = shape_stays s path shape lines parts.1 in
-    elim (is_path path (path_named line)) as (λ b. fold (shaped_by s) shape (if b then line ∷ lines_of path lines else lines_of path lines) ≡ shape)
-    [ true ↦ ap (λ x. fold (shaped_by s) x (lines_of path lines)) (by line parts.0) ∙ rest | false ↦ rest ]
+-- without a line that speaks of one of its directions a path has neither a rate nor random loss nor jitter
+shape_stays_of : (s : Side) (path : ℕ) (shape : Shape) (lines : List ScriptLine) → SparesDirectionsOf path lines → fold (shaped_by s) shape (lines_of path lines) ≡ shape
+shape_stays_of s path shape [] none = refl
+shape_stays_of s path shape (line ∷ lines) none =
+    let parts = and_parts (not (is_on_direction_of path line)) (list_all (λ line. not (is_on_direction_of path line)) lines) none in
+    by (is_path path (path_named line)) refl parts.0 (shape_stays_of s path shape lines parts.1)
   where
-    by : (line : ScriptLine) → not (is_on_direction line) ≡ true → shaped_by s shape line ≡ shape
+    stays_by : (line : ScriptLine) → not (is_on_direction_of path line) ≡ true → is_path path (path_named line) ≡ true → shaped_by s shape line ≡ shape
+    stays_by (OnDirection direction impairment) spares here = absurd (true≢false (sym spares ∙ ap not here))
+    stays_by _ spares here = refl
+
+    by : (b : Bool) → is_path path (path_named line) ≡ b → not (is_on_direction_of path line) ≡ true → fold (shaped_by s) shape (lines_of path lines) ≡ shape
+        → fold (shaped_by s) shape (if b then line ∷ lines_of path lines else lines_of path lines) ≡ shape
+    by true here spares rest = ap (λ x. fold (shaped_by s) x (lines_of path lines)) (stays_by line spares here) ∙ rest
+    by false here spares rest = rest
+
+-- where none speaks of a direction, none speaks of one of this path
+pub directions_spared : (path : ℕ) (lines : List ScriptLine) → list_all (λ line. not (is_on_direction line)) lines ≡ true → SparesDirectionsOf path lines
+directions_spared path [] none = refl
+directions_spared path (line ∷ lines) none =
+    let parts = and_parts (not (is_on_direction line)) (list_all (λ line. not (is_on_direction line)) lines) none in
+    and_from (not (is_on_direction_of path line)) (list_all (λ line. not (is_on_direction_of path line)) lines) (by line parts.0) (directions_spared path lines parts.1)
+  where
+    by : (line : ScriptLine) → not (is_on_direction line) ≡ true → not (is_on_direction_of path line) ≡ true
     by (OnDirection direction impairment) is = absurd (true≢false (sym is))
     by _ is = refl
+
+pub shape_stays : (s : Side) (path : ℕ) (shape : Shape) (lines : List ScriptLine) → list_all (λ line. not (is_on_direction line)) lines ≡ true → fold (shaped_by s) shape (lines_of path lines) ≡ shape
+shape_stays s path shape lines none = shape_stays_of s path shape lines (directions_spared path lines none)
 
 any_has : {X : Type 0} (test : X → Bool) (xs : List X) (i : ℕ) (x : X) → slice_get xs i ≡ Some x → test x ≡ true → list_any test xs ≡ true
 any_has test [] i x there is = cc
@@ -311,8 +329,8 @@ plan_delay script first zero (line ∷ lines) plan ranges there =
     omega (arith, most, same)
 plan_delay script first (suc i) (line ∷ lines) plan ranges there = plan_delay script (suc first) i lines plan (All-tail IsPath line lines ranges) there
 
-pub harms_use_lines : HarmsUseLines
-harms_use_lines script file_a file_b number turns ranges none = by (slice_get (opened_world {C = List ℕ} start).crew (2 + number)) refl
+pub harms_of_a_path_use_lines : HarmsOfAPathUseLines
+harms_of_a_path_use_lines script file_a file_b number turns ranges none = by (slice_get (opened_world {C = List ℕ} start).crew (2 + number)) refl
   where
     start : Start
     start = start_of script file_a file_b
@@ -327,7 +345,7 @@ harms_use_lines script file_a file_b number turns ranges none = by (slice_get (o
         let same : n ≡ number = omega (arith, is) in
         subst (λ (m : LinkState (List ℕ)). PlainLink m × (harms_left m ≤ harms_to number script)) (sym (begins_lasts LinkStays links_last p)) (
           record {
-            shape = λ s. shape_stays s n plain_shape script.lines none;
+            shape = λ s. shape_stays_of s n plain_shape script.lines (subst (λ m. SparesDirectionsOf m script.lines) (sym same) none);
             delay = plan_delay script 0 n script.paths plan ranges.paths there;
             from_a = omega arith;
             from_b = omega arith;
@@ -341,3 +359,6 @@ harms_use_lines script file_a file_b number turns ranges none = by (slice_get (o
         let begun = opened_actors Begins start (λ is. absurd (omega (arith, is))) (λ is. absurd (omega (arith, is))) (λ n plan there is. first n plan there is) (2 + number) c there refl in
         let all = each_harmed octets number turns (opened_world start) c there begun.0 in let few = begun.1 in
         omega (arith, all, few)
+
+pub harms_use_lines : HarmsUseLines
+harms_use_lines script file_a file_b number turns ranges none = harms_of_a_path_use_lines script file_a file_b number turns ranges (directions_spared number script.lines none)

@@ -13,12 +13,13 @@ use Rattle.world_laws.specs.Outcomes.{outcome_of}
 use Rattle.world_laws.specs.RoundDone.{reached}
 use Rattle.world_laws.specs.Worlds.{Turn, AreLawful}
 use Rattle.whole_paths.specs.Backups.{ToldNoBackup}
-use Rattle.whole_paths.specs.Finish.{AnEndDied, IsBrief, IsWhole, harmed, harms_to, is_on_direction, opened, rounds_in, run_of}
+use Rattle.whole_paths.specs.Finish.{AnEndDied, IsBrief, IsWhole, harmed, harms_to, opened, rounds_in, run_of}
 use Rattle.whole_paths.specs.KeptAddresses.{spares_first}
 use Rattle.whole_paths.specs.ManyPaths.{IsMildScript, patience_of_all}
 use Rattle.whole_paths.specs.Mild.{IsMildStart}
 use Rattle.whole_paths.specs.OnePathScripts.{AnEndDiedEarly}
 use Rattle.whole_paths.specs.OpeningCourses.{opening_allowance}
+use Rattle.whole_paths.specs.PathDirections.{SparesDirectionsOf}
 use Rattle.whole_paths.specs.ReturnWaits.{most_of_all}
 use Rattle.whole_paths.specs.Rounds.{ticks_for}
 
@@ -93,15 +94,15 @@ module _ {C : Type 0} (k : Codec C) where
       → IsBrief script turns → harmed k 0 turns (opened script file_a file_b) ≤ 4
       → (outcome_of (run_of k script file_a file_b turns).crew ≡ Going) ⊎ (outcome_of (run_of k script file_a file_b turns).crew ≡ Delivered)
 
--- So where four lines at most speak of a segment of path 0, and none of a whole direction: but for the turns that is said of the script's text alone.
+-- So where four lines at most speak of a segment of path 0, and none of a whole direction of it: but for the turns that is said of the script's text alone.
 abbrev pub FewFirstTextsFinish : Type 0
 FewFirstTextsFinish = (script : Script) (file_a file_b : List ℕ) (turns : List Turn) → HarmsNoFirst script file_a file_b
-    → list_all (λ line. not (is_on_direction line)) script.lines ≡ true → harms_to 0 script ≤ 4
+    → SparesDirectionsOf 0 script.lines → harms_to 0 script ≤ 4
     → IsBrief script turns → AreLawful octets turns (opened script file_a file_b)
     → patience_of_texts script file_a file_b (harms_to 0 script) ≤ rounds_in turns
     → outcome_of (run_of octets script file_a file_b turns).crew ≡ Delivered
 
 abbrev pub FewFirstTextsGoOn : Type 0
 FewFirstTextsGoOn = (script : Script) (file_a file_b : List ℕ) (turns : List Turn) → HarmsNoFirst script file_a file_b
-    → list_all (λ line. not (is_on_direction line)) script.lines ≡ true → harms_to 0 script ≤ 4 → IsBrief script turns
+    → SparesDirectionsOf 0 script.lines → harms_to 0 script ≤ 4 → IsBrief script turns
     → (outcome_of (run_of octets script file_a file_b turns).crew ≡ Going) ⊎ (outcome_of (run_of octets script file_a file_b turns).crew ≡ Delivered)

@@ -202,6 +202,7 @@ pub mod Priorities
 pub mod BackupAsks
 pub mod RegularPaths
 pub mod FirstTexts
+pub mod PathDirections
 pub mod ManyWaits
 pub mod ManyGoingOn
 pub mod ManyCourses
