@@ -64,15 +64,15 @@ use Rattle.whole_paths.proofs.Reached.{EndsAreReached, each_is_reached}
 use Rattle.world_laws.proofs.Writes.Steps.{begins_lasts}
 
 -- of a path that joins
-abbrev IfJoined : (PathState Carried → Type 0) → PathState Carried → Type 0
+abbrev pub IfJoined : (PathState Carried → Type 0) → PathState Carried → Type 0
 IfJoined P p = is_joined p.profile ≡ true → P p
 
 -- ---- whether a path joins stays
 
-joined_before : (r : Reply) (p : PathState Carried) → is_joined (takes values r p).profile ≡ true → is_joined p.profile ≡ true
+pub joined_before : (r : Reply) (p : PathState Carried) → is_joined (takes values r p).profile ≡ true → is_joined p.profile ≡ true
 joined_before r p joins = ap is_joined (sym (takes_frames values r p).profile) ∙ joins
 
-joined_round : (p : PathState Carried) → is_joined (next_round p).profile ≡ true → is_joined p.profile ≡ true
+pub joined_round : (p : PathState Carried) → is_joined (next_round p).profile ≡ true → is_joined p.profile ≡ true
 joined_round p joins = ap is_joined (sym (begins_lasts SameProfile profile_lasts (record p { clock = p.until; until = p.until + 100 }))) ∙ joins
 
 module _ (start : Start) (mild : IsMildStart start) where
@@ -89,7 +89,7 @@ module _ (start : Start) (mild : IsMildStart start) where
       by (App a) upright maps = tt
       by (Path p) upright maps = record { stood = upright.passes.settled; maps = maps }
 
-  each_low : (turns : List Turn) → OfEach (IfJoined (λ p. LowAt p.agenda p)) (reached values start turns)
+  pub each_low : (turns : List Turn) → OfEach (IfJoined (λ p. LowAt p.agenda p)) (reached values start turns)
   each_low = each_path values start Stands (IfJoined (λ p. LowAt p.agenda p)) stands (λ number plan joins. opened_low start number plan)
       (λ r p k h joins. let was = joined_before r p joins in takes_low r p k.stood k.maps was (h was)) (λ p k h joins. next_low p (h (joined_round p joins)))
 

@@ -373,3 +373,4 @@ pub mod GrantedPositions
 pub mod NearRounds
 pub mod TakenPieces
 pub mod HeardBytes
+pub mod UnclearJoins

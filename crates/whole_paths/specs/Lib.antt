@@ -217,3 +217,4 @@ pub mod GrantedPieces
 pub mod GrantedPositions
 pub mod NearRounds
 pub mod HeardBytes
+pub mod UnclearJoins

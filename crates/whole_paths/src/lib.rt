@@ -243,6 +243,7 @@ pub use many_laws::regular_first_paths_tell_none;
 pub use many_laws::regular_paths_tell_none;
 pub use many_laws::shut_ends_are_awaited;
 pub use many_laws::shut_ends_stay_shut;
+pub use many_laws::unclear_joins_wait;
 pub use many_laws::what_is_wanted_is_told;
 pub use near_laws::directions_are_mended_unless_more_is_heard;
 pub use near_laws::paths_send_what_is_granted;

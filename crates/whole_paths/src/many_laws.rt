@@ -14,6 +14,7 @@ ghost use Rattle.whole_paths.specs.ManyWaits.{EachMissingByteIsWaitedFor};
 ghost use Rattle.whole_paths.specs.RegularPaths.{EachRegularPathDelivers};
 ghost use Rattle.whole_paths.specs.Mild.{IsPromisedMildly};
 ghost use Rattle.whole_paths.specs.OpeningCourses.{opening_allowance, FirstPathsOpenWithin};
+ghost use Rattle.whole_paths.specs.UnclearJoins.{UnclearJoinsWait};
 ghost use Rattle.whole_paths.specs.Wanted.{WhatIsWantedIsTold};
 ghost use Rattle.whole_paths.specs.WindowWaits.{ShutEndsAreAwaited};
 
@@ -166,6 +167,13 @@ pub fn few_losses_end_no_first()
 /// (RFC 8684, sections 3.2 and 3.3.8), over any number of paths.
 pub fn regular_paths_tell_none()
     ensures { RegularPathsTellNone }
+{}
+
+/// A law: an end of a path that joins, which is past the handshake and lives, but may send no DSS yet, is A's, and waits for the answer to its third
+/// MP_JOIN (RFC 8684, section 3.2): where its turn is over its timer runs.
+pub fn unclear_joins_wait()
+    ensures octets { IsPromisedMildly octets (λ start w. UnclearJoinsWait w) }
+    ensures values { IsPromisedMildly values (λ start w. UnclearJoinsWait w) }
 {}
 
 /// A law: once any path is whole at the end of a round, and still whole when rounds enough have ended, both files are delivered, whatever becomes of the
