@@ -149,10 +149,6 @@ pub served_paths_end : (start : Start) (mild : IsMildStart start) (buffer : 32 �
     → (outcome_of (reached values start (before ++ more)).crew ≡ Delivered) ⊎ AnEndDiedEarlyAt 0 values start (before ++ more)
 served_paths_end = served_path_ends 0 many_paths_bring_all
 
-pub ended_on : (start : Start) → IsMildStart start → (turns : List Turn) → (outcome_of (reached values start turns).crew ≡ Delivered) ⊎ AnEndDiedEarlyAt 0 values start turns
-    → (outcome_of (reached octets start turns).crew ≡ Delivered) ⊎ AnEndDiedEarlyAt 0 octets start turns
-ended_on = ended_at 0 many_paths_bring_all
-
 pub first_paths_end : FirstPathsEnd values
 first_paths_end = delivers_or_dies_at 0 many_paths_bring_all
 
