@@ -23,9 +23,10 @@ use Rattle.whole_paths.specs.OverOctets.{IsAsFarAsOverValues}
 use Rattle.whole_paths.specs.ReturnWaits.{most_of_all}
 use Rattle.whole_paths.specs.Rounds.{ticks_for}
 use Rattle.whole_paths.proofs.Courses.{harmed_append}
+use Rattle.whole_paths.proofs.EachText.{serves_so}
 use Rattle.whole_paths.proofs.FewLossesDeliver.{few_losses_end_no_first}
 use Rattle.whole_paths.proofs.FirstHere.{first_here}
-use Rattle.whole_paths.proofs.FirstTexts.{serves_so}
+use Rattle.whole_paths.proofs.FirstTexts.{as_path}
 use Rattle.whole_paths.proofs.GoesOnLiving.{goes_on_living}
 use Rattle.whole_paths.proofs.Harmed.{harms_of_a_path_use_lines}
 use Rattle.whole_paths.proofs.ManyEnds.{served_paths_end}
@@ -55,7 +56,7 @@ module _ (script : Script) (file_a file_b : List ℕ) (turns : List Turn) (text 
     plan = plan.0;
     there = plan.1;
     buffer = (let least = text.mild.ranges.buffer.least in omega (arith, least));
-    serves = λ turns. serves_so script file_a file_b text turns turns [] (append-nil turns);
+    serves = λ turns. serves_so script 0 file_a file_b (as_path script file_a file_b text) turns turns [] (append-nil turns);
   }
 
   -- with the rounds for so many harms, if no more came

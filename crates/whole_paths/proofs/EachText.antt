@@ -33,7 +33,7 @@ joins_so : (script : Script) (number : ℕ) (file_a file_b : List ℕ) → IsPat
 joins_so script number file_a file_b text plan there =
     let line = line_of_plan script 0 number script.paths plan there in ⊎_elim (λ zeroth. inl zeroth) (λ none. inr (line.2 ∙ none)) (text.joins line.0 line.1)
 
-serves_so : (script : Script) (number : ℕ) (file_a file_b : List ℕ) → IsPathText script number file_a file_b → (turns ts us : List Turn) → ts ++ us ≡ turns → ServesAt number (reached values (start_of script file_a file_b) ts)
+pub serves_so : (script : Script) (number : ℕ) (file_a file_b : List ℕ) → IsPathText script number file_a file_b → (turns ts us : List Turn) → ts ++ us ≡ turns → ServesAt number (reached values (start_of script file_a file_b) ts)
 serves_so script number file_a file_b text turns =
     let start = start_of script file_a file_b in
     who_is_no_backup_serves start number turns (regular_paths_tell_none start turns number (joins_so script number file_a file_b text) text.ranks)

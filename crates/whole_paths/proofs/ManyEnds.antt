@@ -144,10 +144,6 @@ pub served_paths_end : (start : Start) (mild : IsMildStart start) (buffer : 32 �
 served_paths_end start mild buffer before more most lawful short first serves few ticks =
     served_path_ends 0 many_paths_bring_all start mild buffer before more most lawful short first (λ ts us is. serves (before ++ ts) us (append_assoc before ts us ∙ ap (λ xs. before ++ xs) is)) few ticks
 
-pub ended_on : (start : Start) → IsMildStart start → (turns : List Turn) → (outcome_of (reached values start turns).crew ≡ Delivered) ⊎ AnEndDiedEarlyAt 0 values start turns
-    → (outcome_of (reached octets start turns).crew ≡ Delivered) ⊎ AnEndDiedEarlyAt 0 octets start turns
-ended_on = ended_at 0 many_paths_bring_all
-
 pub first_paths_end : FirstPathsEnd values
 first_paths_end = delivers_or_dies_at 0 many_paths_bring_all
 
