@@ -103,6 +103,13 @@ pub fn joined_paths_never_break()
     ensures values { IsPromisedMildly values (λ start w. JoinedPathsNeverBreak w) }
 {}
 
+/// A law: an end of a path that joins, which is past the handshake and lives, but may send no DSS yet, is A's, and waits for the answer to its third
+/// MP_JOIN (RFC 8684, section 3.2): where its turn is over its timer runs.
+pub fn unclear_joins_wait()
+    ensures octets { IsPromisedMildly octets (λ start w. UnclearJoinsWait w) }
+    ensures values { IsPromisedMildly values (λ start w. UnclearJoinsWait w) }
+{}
+
 /// A law: where no line of a mild script tells a priority of path 0, path 0 tells no side that it is a backup, over any number of paths (RFC 8684, sections
 /// 3.2 and 3.3.8).
 ///
@@ -167,13 +174,6 @@ pub fn few_losses_end_no_first()
 /// (RFC 8684, sections 3.2 and 3.3.8), over any number of paths.
 pub fn regular_paths_tell_none()
     ensures { RegularPathsTellNone }
-{}
-
-/// A law: an end of a path that joins, which is past the handshake and lives, but may send no DSS yet, is A's, and waits for the answer to its third
-/// MP_JOIN (RFC 8684, section 3.2): where its turn is over its timer runs.
-pub fn unclear_joins_wait()
-    ensures octets { IsPromisedMildly octets (λ start w. UnclearJoinsWait w) }
-    ensures values { IsPromisedMildly values (λ start w. UnclearJoinsWait w) }
 {}
 
 /// A law: once any path is whole at the end of a round, and still whole when rounds enough have ended, both files are delivered, whatever becomes of the
