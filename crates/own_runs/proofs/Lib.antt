@@ -31,6 +31,7 @@ mod FinSays
 mod FineMoments
 mod FinePositions
 mod Fitting
+mod Flown
 mod Frames
 mod Going
 mod Granted
@@ -62,6 +63,7 @@ mod KnownKeys
 mod LanePlaces
 mod LastLanes
 mod LateJoins
+mod LearnedTold
 mod Learning
 mod LineLinks
 mod Lines
