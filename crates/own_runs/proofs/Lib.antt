@@ -32,6 +32,7 @@ mod FinSays
 mod FineMoments
 mod FinePositions
 mod Fitting
+mod Flown
 mod Frames
 mod Going
 mod Granted
@@ -63,6 +64,7 @@ mod KnownKeys
 mod LanePlaces
 mod LastLanes
 mod LateJoins
+mod LearnedTold
 mod Learning
 mod Leaving
 mod LineLinks

@@ -5,6 +5,7 @@ pub mod Fitting
 pub mod Granting
 pub mod Handshakes
 pub mod KeysShown
+pub mod Learned
 pub mod Packets
 pub mod ResetsEnd
 pub mod Runs

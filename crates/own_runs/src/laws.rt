@@ -5,6 +5,7 @@ ghost use Rattle.own_runs.specs.Connections.{EachRunIsOneConnection};
 ghost use Rattle.own_runs.specs.Fitting.{TracesFit};
 ghost use Rattle.own_runs.specs.Handshakes.{EachComesInOrder};
 ghost use Rattle.own_runs.specs.KeysShown.{EachComesBehindKeys, EachShowsKeysSo};
+ghost use Rattle.own_runs.specs.Learned.{LearnedPlacesWereTold};
 ghost use Rattle.own_runs.specs.Packets.{CapturesAreTheirPackets};
 ghost use Rattle.own_runs.specs.Runs.{DataFinsEndTheFiles, DeliveredRunsShowTheFiles, NoPlainRunBreaks, NoRunBreaks, NoWholeRunBreaks, ReadersGetWhatIsShown, SeenOctetsAreTheFiles, StreamsBeginTheFiles, TriedOctetsAreSeen, WholeStreamsAreTheFiles};
 ghost use Rattle.own_runs.specs.Segments.{SegmentsAreFound, WrittenSegmentsAreFound};
@@ -159,4 +160,11 @@ pub fn data_acks_never_fall()
 pub fn the_opener_shows_both_keys()
     ensures shows { EachShowsKeysSo }
     ensures behind { EachComesBehindKeys }
+{}
+
+/// A law: whatever the script does, an end takes a position of its subflow for that of a place of the stream only where a segment of the other
+/// side on the same path, sent before, has a mapping that says so: that of a DSS, or that of MP_CAPABLE with data (RFC 8684, sections 3.1 and
+/// 3.3.1). It holds after every list of turns, lawful or not, where the numbers of the start fit.
+pub fn learned_places_were_told()
+    ensures { LearnedPlacesWereTold }
 {}

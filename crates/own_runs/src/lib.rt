@@ -9,7 +9,8 @@
 //! whatever the script does (`captures_show_the_files`). What came to a side is in the trace (`what_came_was_sent`), all of both files once the
 //! run is delivered (`delivered_files_were_sent`). Segments map their payload, and acknowledge a DATA_FIN that was told
 //! (`whole_runs_say_what_they_bear`), and Data ACKs never fall (`data_acks_never_fall`). A path opens in its order (`paths_open_in_order`), an
-//! end that sent a reset sends resets alone (`resets_end_a_path`), and A alone shows both keys (`the_opener_shows_both_keys`).
+//! end that sent a reset sends resets alone (`resets_end_a_path`), and A alone shows both keys (`the_opener_shows_both_keys`). An end takes a
+//! position for a place only where it was told so (`learned_places_were_told`).
 #![tactic(auto)]
 
 mod laws;
@@ -17,9 +18,10 @@ mod sent_laws;
 
 pub use laws::{
     captures_are_their_packets, captures_show_the_files, data_acks_never_fall,
-    own_runs_are_one_connection, own_runs_break_no_rule, paths_open_in_order, resets_end_a_path,
-    segments_are_found, the_opener_shows_both_keys, traces_are_their_segments, what_came_was_sent,
-    whole_runs_break_no_rule, whole_runs_end_well, whole_runs_say_what_they_bear,
+    learned_places_were_told, own_runs_are_one_connection, own_runs_break_no_rule,
+    paths_open_in_order, resets_end_a_path, segments_are_found, the_opener_shows_both_keys,
+    traces_are_their_segments, what_came_was_sent, whole_runs_break_no_rule, whole_runs_end_well,
+    whole_runs_say_what_they_bear,
 };
 pub use sent_laws::{
     delivered_files_were_counted, delivered_files_were_granted, delivered_files_were_sent,
