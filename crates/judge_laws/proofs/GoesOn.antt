@@ -14,6 +14,7 @@ pub goes_same : (s : StreamValue) → GoesOn s s
 goes_same s = record {
   octets = λ p o h. h;
   seen = λ p h. h;
+  starts = λ p h. h;
   mapped = omega arith;
   fin = λ t h. h;
   infinite = λ h. h;
@@ -25,6 +26,7 @@ pub goes_then : (a b c : StreamValue) → GoesOn a b → GoesOn b c → GoesOn a
 goes_then a b c first next = record {
   octets = λ p o h. next.octets p o (first.octets p o h);
   seen = λ p h. next.seen p (first.seen p h);
+  starts = λ p h. next.starts p (first.starts p h);
   mapped = omega (arith, first.mapped, next.mapped);
   fin = λ t h. next.fin t (first.fin t h);
   infinite = λ h. next.infinite (first.infinite h);
@@ -47,6 +49,7 @@ pub goes_tell : (rule : Rule) (packet : ℕ) (fault : FaultValue) (s : StreamVal
 goes_tell rule packet fault s = record {
   octets = λ p o h. h;
   seen = λ p h. h;
+  starts = λ p h. h;
   mapped = omega arith;
   fin = λ t h. h;
   infinite = λ h. h;
@@ -63,6 +66,7 @@ pub goes_found : (rule : Rule) (packet : ℕ) (finding : Option Finding) (s : St
 goes_found rule packet finding s = record {
   octets = λ p o h. h;
   seen = λ p h. h;
+  starts = λ p h. h;
   mapped = omega arith;
   fin = λ t h. h;
   infinite = λ h. h;
@@ -77,6 +81,7 @@ pub goes_counted : (s : StreamValue) (keys joins mappings sums data_acks : ℕ)
 goes_counted s keys joins mappings sums data_acks = record {
   octets = λ p o h. h;
   seen = λ p h. h;
+  starts = λ p h. h;
   mapped = omega arith;
   fin = λ t h. h;
   infinite = λ h. h;

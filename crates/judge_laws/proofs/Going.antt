@@ -1,12 +1,13 @@
 -- What was known of a stream stays, behind each step of a rule.
 use Rattle.std.proofs.Common.{◌≡◌, refl, ℕ, ◌+◌, Bool, max, Option, Some, None, List, arith}
+use Rattle.std.proofs.lemmas.Bool.{or_left}
 use Rattle.mptcp_options.specs.Value.{OptionValue}
 use Rattle.judge_rules.specs.declared.acks.ToldPlace.{ToldPlace}
 use Rattle.judge_rules.specs.declared.mappings.Line.{Line}
 use Rattle.seen_connections.specs.SeenOptions.{SeenValue}
 use Rattle.seen_streams.specs.declared.told.Teller.{Teller}
 use Rattle.seen_streams.specs.declared.told.ToldMapping.{ToldMapping}
-use Rattle.seen_streams.specs.State.{LaneValue, StreamValue, tell}
+use Rattle.seen_streams.specs.State.{LaneValue, StreamValue, is_of, tell}
 use Rattle.seen_streams.specs.Acks.{Acked, ended_by_fin, fin_told}
 use Rattle.seen_streams.specs.Content.{as_part, shown}
 use Rattle.seen_streams.specs.Mapped.{fin_after, infinite_after, octets_of, started, told_mapping, with_mapping}
@@ -26,6 +27,7 @@ mapping_goes : (packet : ℕ) (mapping : ToldMapping) (s : StreamValue) → Goes
 mapping_goes packet mapping s = record {
   octets = λ p o h. h;
   seen = λ p h. h;
+  starts = λ p h. or_left (s.starts p) (is_of mapping.place 1 p) h;
   mapped = omega arith;
   fin = λ t h. fin_stays s.fin mapping.fin (mapping.place + octets_of mapping) packet t h;
   infinite = λ h. h;
@@ -38,6 +40,7 @@ line_goes : (teller : Teller) (place : ℕ) (line : Line) (s : StreamValue)
 line_goes teller place line s = record {
   octets = λ p o h. h;
   seen = λ p h. h;
+  starts = λ p h. or_left (s.starts p) (is_of place 1 p) h;
   mapped = omega arith;
   fin = λ t h. h;
   infinite = λ h. refl;
@@ -53,6 +56,7 @@ ended_goes : (lane : LaneValue) (packet : ℕ) (s : StreamValue) → GoesOn s (e
 ended_goes lane packet s = record {
   octets = λ p o h. h;
   seen = λ p h. h;
+  starts = λ p h. h;
   mapped = omega arith;
   fin = λ t h. told_stays s.fin lane.line lane.fin packet t h;
   infinite = λ h. h;
@@ -64,6 +68,7 @@ acked_goes : (place : ℕ) (s : StreamValue) → GoesOn s (record s { acknowledg
 acked_goes place s = record {
   octets = λ p o h. h;
   seen = λ p h. h;
+  starts = λ p h. h;
   mapped = omega arith;
   fin = λ t h. h;
   infinite = λ h. h;

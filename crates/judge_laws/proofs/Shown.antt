@@ -28,6 +28,7 @@ pub shown_goes : (acknowledged packet place count : ℕ) (part : List ℕ) (s : 
 shown_goes acknowledged packet place count part s = record {
   octets = λ p o h. or_known (s.octet p) (octet_by place part packet p) o h;
   seen = λ p h. or_left (s.seen p) (is_of place count p) h;
+  starts = λ p h. h;
   mapped = omega arith;
   fin = λ t h. h;
   infinite = λ h. h;

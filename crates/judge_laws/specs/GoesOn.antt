@@ -12,11 +12,12 @@ use Rattle.rule_book.specs.State.{JudgedValue, stream_at}
 abbrev pub broke : Rule → StreamValue → Bool
 broke rule stream = list_any (same_rule rule) stream.broken
 
--- of each place its octet, which places were seen, how far they are mapped, the place of the DATA_FIN, that an infinite mapping was told,
--- what its side acknowledged, and which rules it broke
+-- of each place its octet, which places were seen, with which ones mappings begin, how far they are mapped, the place of the DATA_FIN, that an
+-- infinite mapping was told, what its side acknowledged, and which rules it broke
 pub record GoesOn (old new : StreamValue) : Type 0 where
   pub octets : (place : ℕ) (octet : Octet) → old.octet place ≡ Some octet → new.octet place ≡ Some octet
   pub seen : (place : ℕ) → old.seen place ≡ true → new.seen place ≡ true
+  pub starts : (place : ℕ) → old.starts place ≡ true → new.starts place ≡ true
   pub mapped : old.top ≤ new.top
   pub fin : (told : ToldPlace) → old.fin ≡ Some told → new.fin ≡ Some told
   pub infinite : is_some old.infinite ≡ true → is_some new.infinite ≡ true

@@ -1,8 +1,9 @@
 //! What is told of a side, as clauses of functions that do nothing.
 ghost use Rattle.judge_laws.specs.Laws.{DataFinsEndStreams, KeptMappingsAreTold, KeptSidesAcknowledgeWhatWasSeen, KeptSidesSentOneStream, KeptSidesSumRight, OctetsStandBeforeDataFins, OneTurnedBitIsNeverKept, PacketsTakeNothingBack, PayloadIsTheStreams, SegmentsTakeNothingBack, WrittenStreamsAreTheirs};
 
-/// A law: no segment, and no packets of a capture, take back what was known of a stream: of a place its octet, which places were seen, how
-/// far it is mapped, the place of its DATA_FIN, that an infinite mapping was told, what its side acknowledged, and which rules that side broke.
+/// A law: no segment, and no packets of a capture, take back what was known of a stream: of a place its octet, which places were seen, with which
+/// ones mappings begin, how far it is mapped, the place of its DATA_FIN, that an infinite mapping was told, what its side acknowledged, and which
+/// rules that side broke.
 pub fn nothing_is_taken_back()
     ensures segment { SegmentsTakeNothingBack }
     ensures packets { PacketsTakeNothingBack }

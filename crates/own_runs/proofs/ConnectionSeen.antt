@@ -18,7 +18,7 @@ use Rattle.own_runs.proofs.AllKept.{all_false, named_kept, none_told}
 use Rattle.own_runs.proofs.Own.{Drawn, same_place}
 use Rattle.own_runs.proofs.OwnFlows.{Each, FlowIs}
 use Rattle.own_runs.proofs.Values.{drawn}
-use Rattle.own_runs.proofs.LinesTimes.{run_read, run_settled, run_verdict}
+use Rattle.own_runs.proofs.OtherPaths.{run_read, run_settled, run_verdict}
 
 few_books : (xs : List Keys) → ((i : ℕ) (keys : Keys) → slice_get xs i ≡ Some keys → i ≡ 0) → length xs ≤ 1
 few_books [] few = omega arith
@@ -133,14 +133,14 @@ either false c is = is
 
 module _ (start : Start) (turns : List Turn) (size : HasRoom start) (fit : NumbersFit start) (run : RunFits start turns) (side : Side) (at : Option Side) where
   abbrev verdict : JudgedValue
-  verdict = run_verdict start turns size fit run side at
+  verdict = run_verdict start size fit turns run side at
 
   refused : list_any was_refused verdict.seen.flows ≡ false
-  refused = all_false was_refused verdict.seen.flows (λ i flow at_i. named_kept flow ((run_settled start turns size fit run side at).named i flow at_i))
+  refused = all_false was_refused verdict.seen.flows (λ i flow at_i. named_kept flow ((run_settled start size fit turns run side at).named i flow at_i))
 
   opens_it : (i : ℕ) (keys : Keys) → slice_get verdict.seen.connections i ≡ Some keys → (flow : Flow) × (slice_get verdict.seen.flows keys.flow ≡ Some flow) × RunsOn 0 flow
   opens_it i keys there =
-      let it = run_settled start turns size fit run side at in
+      let it = run_settled start size fit turns run side at in
       let began = it.one.first i keys there in
       let is = it.own.flows keys.flow began.flow began.there in
       let path : is.0 ≡ 0 = (same_place is.0 0 A A (sym is.1.opener ∙ began.opener)).0 in
@@ -148,7 +148,7 @@ module _ (start : Start) (turns : List Turn) (size : HasRoom start) (fit : Numbe
 
   sees : SeesTheConnection start verdict
   sees =
-      let it = run_settled start turns size fit run side at in record {
+      let it = run_settled start size fit turns run side at in record {
         one = (let same = it.counts.books in let few = few_books verdict.seen.connections it.one.few in omega (arith, same, few));
         keys = λ i keys there. let is = it.own.connections i keys there in record { a = is.a; b = is.b; checksums = is.checksums };
         subflows = λ i flow there. let is = it.own.flows i flow there in (is.0, is.1.within, record { opener = is.1.opener; other = is.1.other; syn = is.1.octets; cut = is.1.cut; wrong_sums = is.1.wrong });
@@ -162,4 +162,4 @@ module _ (start : Start) (turns : List Turn) (size : HasRoom start) (fit : Numbe
 
 pub is_one_connection : EachRunIsOneConnection
 is_one_connection start turns size fit run side at =
-    (run_verdict start turns size fit run side at, run_read start turns size fit run side at, sees start turns size fit run side at)
+    (run_verdict start size fit turns run side at, run_read start size fit turns run side at, sees start turns size fit run side at)

@@ -56,12 +56,12 @@ use Rattle.own_runs.proofs.OwnPositions.{same_position}
 use Rattle.own_runs.proofs.PayloadHeld.{has_all, held_all, none_left, stays_held}
 use Rattle.own_runs.proofs.Telling.{Untold, others_keep}
 
--- that on octets and, where it is asked for, those on the end of a stream and on infinite mappings
-abbrev pub is_line : Bool → Bool → Rule → Bool
-is_line ends endless rule.PlaceContent = true
-is_line ends endless rule.DataFin = ends
-is_line ends endless rule.Infinite = endless
-is_line ends endless _ = false
+-- those on octets, on the end of a stream and on infinite mappings
+abbrev pub is_line : Rule → Bool
+is_line rule.PlaceContent = true
+is_line rule.DataFin = true
+is_line rule.Infinite = true
+is_line _ = false
 
 -- the last of some octets that reach past a line's position, and have the place that it gives them: place less position is the line's
 line_shift : (line : Line) (near place octets last : ℕ) → 1 ≤ octets → reaches_past line.position (pos near) octets ≡ true → IfSome (place_on_line line (near + (octets - 1))) (λ q. q ≡ last)
@@ -100,19 +100,19 @@ IsAway IsLine path s = (q : ℕ) × (m : Line) × (q ≡ path → ⊥) × IsLine
 abbrev pub LinkedTo : Type 0 → ℕ → Option Infinite → Option Line → Type 0
 LinkedTo Away index infinite line = IfSome infinite (λ i. ((i.flow ≡ index) × (is_some line ≡ true)) ⊎ Away)
 
-module _ (ends endless : Bool) (limit : ℕ) (few : limit < 2 ^ 31) (content : ℕ → ℕ) where
+module _ (limit : ℕ) (few : limit < 2 ^ 31) (content : ℕ → ℕ) where
   -- each place that was seen has its octet, and is one of the stream's, the DATA_FIN stands at the end, and the rules weren't broken
   pub record StreamLined (s : StreamValue) : Type 0 where
     pub octets : (q : ℕ) → IfSome (s.octet q) (λ o. (q < limit) × (o.octet ≡ content q))
     pub there : (q : ℕ) → s.seen q ≡ true → is_some (s.octet q) ≡ true
-    pub fin : ends ≡ true → IfSome s.fin (λ told. told.place ≡ limit)
-    pub untold : Untold (is_line ends endless) s.broken
+    pub fin : IfSome s.fin (λ told. told.place ≡ limit)
+    pub untold : Untold is_line s.broken
 
-  tell_so : (r : Rule) (packet : ℕ) (fault : FaultValue) (s : StreamValue) → is_line ends endless r ≡ false → StreamLined s
+  tell_so : (r : Rule) (packet : ℕ) (fault : FaultValue) (s : StreamValue) → is_line r ≡ false → StreamLined s
       → StreamLined (record s { broken = with_broken (record { rule = r; packet = packet; fault = fault }) s.broken })
-  tell_so r packet fault s other h = record { octets = h.octets; there = h.there; fin = h.fin; untold = others_keep (is_line ends endless) r packet fault s.broken other h.untold }
+  tell_so r packet fault s other h = record { octets = h.octets; there = h.there; fin = h.fin; untold = others_keep is_line r packet fault s.broken other h.untold }
 
-  found_so : (r : Rule) (packet : ℕ) (finding : Option Finding) (s : StreamValue) → is_line ends endless r ≡ false → StreamLined s
+  found_so : (r : Rule) (packet : ℕ) (finding : Option Finding) (s : StreamValue) → is_line r ≡ false → StreamLined s
       → StreamLined (record s { broken = with_found r packet finding s.broken })
   found_so r packet None s other h = record { octets = h.octets; there = h.there; fin = h.fin; untold = h.untold }
   found_so r packet (Some finding) s other h = tell_so r packet (Found finding) s other h
@@ -125,12 +125,12 @@ module _ (ends endless : Bool) (limit : ℕ) (few : limit < 2 ^ 31) (content : �
     -- a line gives each of them its place, and the FIN the end of the stream
     pub record LineIs (line : Line) : Type 0 where
       pub places : (p : ℕ) → p ≤ upto → IfSome (place_on_line line p) (λ q. q ≡ where_at p)
-      pub end : ends ≡ true → (p : ℕ) → IsEnd p → IfSome (place_on_line line p) (λ q. q ≡ limit)
+      pub end : (p : ℕ) → IsEnd p → IfSome (place_on_line line p) (λ q. q ≡ limit)
       pub is : IsLine line
 
     -- what maps octets maps those of the lane, and no line of another path is known
     abbrev pub Fits : ℕ → Offer → Type 0
-    Fits near offer = (mapped_octets offer ≡ 0) ⊎ ((near + mapped_octets offer ≤ suc upto) × (endless ≡ true → Away → ⊥))
+    Fits near offer = (mapped_octets offer ≡ 0) ⊎ ((near + mapped_octets offer ≤ suc upto) × (Away → ⊥))
 
     -- an infinite mapping in a segment at a position
     pub record InfiniteLined (near : ℕ) (offer : Offer) : Type 0 where
@@ -149,7 +149,7 @@ module _ (ends endless : Bool) (limit : ℕ) (few : limit < 2 ^ 31) (content : �
         pub line : IfSome l.line LineIs
         pub seen : (p : ℕ) → l.seen p ≡ true → p ≤ upto
         pub there : (p : ℕ) → l.seen p ≡ true → is_some (l.octet p) ≡ true
-        pub fin : ends ≡ true → IfSome l.fin IsEnd
+        pub fin : IfSome l.fin IsEnd
         pub top : l.top ≤ high
 
       abbrev pub Lined : StreamValue → LaneValue → Type 0
@@ -164,21 +164,11 @@ module _ (ends endless : Bool) (limit : ℕ) (few : limit < 2 ^ 31) (content : �
       -- ---- a finite mapping
 
       abbrev Other : Option Broke → Type 0
-      Other o = IfSome o (λ broke. is_line ends endless broke.rule ≡ false)
+      Other o = IfSome o (λ broke. is_line broke.rule ≡ false)
 
-      unasked : (finding : Finding) → (endless ≡ true → Some finding ≡ None) → endless ≡ false
-      unasked finding none = by endless refl
-        where
-          never : Some finding ≡ None → ⊥
-          never e = cc
-
-          by : (b : Bool) → endless ≡ b → b ≡ false
-          by false e = refl
-          by true e = absurd (never (none e))
-
-      infinite_other : (o : Option Finding) → (endless ≡ true → o ≡ None) → Other (by_rule rule.Infinite o)
+      infinite_other : (o : Option Finding) → o ≡ None → Other (by_rule rule.Infinite o)
       infinite_other None none = tt
-      infinite_other (Some finding) none = unasked finding none
+      infinite_other (Some finding) none = cc
 
       abbrev Linked : Teller → StreamValue → LaneValue → Type 0
       Linked teller s l = LinkedTo Away teller.flow s.infinite l.line
@@ -224,7 +214,7 @@ module _ (ends endless : Bool) (limit : ℕ) (few : limit < 2 ^ 31) (content : �
               by zero e = absurd (false≢true (sym e))
               by (suc n) e = omega arith
 
-          clash_or : (clash against : Option Finding) → (endless ≡ true → against ≡ None) → Other (option_or (by_rule rule.Mapping clash) (by_rule rule.Infinite against))
+          clash_or : (clash against : Option Finding) → (against ≡ None) → Other (option_or (by_rule rule.Mapping clash) (by_rule rule.Infinite against))
           clash_or (Some finding) against none = refl
           clash_or None against none = infinite_other against none
 
@@ -241,7 +231,7 @@ module _ (ends endless : Bool) (limit : ℕ) (few : limit < 2 ^ 31) (content : �
               subst (λ (z : ℤ). Other (fault_at z false (int_lt z (pos 0)))) (sym (same_position near offer.relative sits.0))
               (low_or (int_lt (pos near) (pos 0))
               (clash_or (first_clash l.placed near o.place (mapped_octets offer)) (against_infinite s.infinite teller.flow s.top l.line (pos near) o.place (mapped_octets offer))
-              (λ asked. against_none teller s l linked lined (fit.1 asked) near o.place (mapped_octets offer) (some e) fit.0 sits.1)))
+              (against_none teller s l linked lined fit.1 near o.place (mapped_octets offer) (some e) fit.0 sits.1)))
 
       -- nothing is mapped behind the end
       module _ (s : StreamValue) (top : s.top ≤ limit) (fin : IfSome s.fin (λ told. told.place ≡ limit)) (offer : Offer) (place : ℕ) (is : EndsAt limit offer.fin place offer.length) where
@@ -286,22 +276,18 @@ module _ (ends endless : Bool) (limit : ℕ) (few : limit < 2 ^ 31) (content : �
       fault_so : (teller : Teller) (s : StreamValue) (l : LaneValue) → s.top ≤ limit → StreamLined s → (offer : Offer) (position : ℤ) (place : ℕ) → EndsAt limit offer.fin place offer.length
           → Other (octets_fault teller s l offer position place) → Other (finite_fault teller s l offer position place)
       fault_so teller s l top h offer position place is octets =
-          by (octets_fault teller s l offer position place) octets ends refl (fin_fault s.fin s.top (place + mapped_octets offer) offer.fin) (λ asked. fin_so s top (h.fin asked) offer place is)
+          by (octets_fault teller s l offer position place) octets (fin_fault s.fin s.top (place + mapped_octets offer) offer.fin) (fin_so s top h.fin offer place is)
         where
-          by : (o : Option Broke) → Other o → (b : Bool) → ends ≡ b → (fin : Option Finding) → (ends ≡ true → fin ≡ None) → Other (option_or o (by_rule rule.DataFin fin))
-          by (Some broke) is b e fin none = is
-          by None is b e None none = tt
-          by None is false e (Some finding) none = e
-          by None is true e (Some finding) none = absurd (never (none e))
-            where
-              never : Some finding ≡ None → ⊥
-              never e = cc
+          by : (o : Option Broke) → Other o → (fin : Option Finding) → fin ≡ None → Other (option_or o (by_rule rule.DataFin fin))
+          by (Some broke) is fin none = is
+          by None is None none = tt
+          by None is (Some finding) none = cc
 
       finite_by_so : (fault : Option Broke) → Other fault → (packet : ℕ) (offer : Offer) (position : ℤ) (place : ℕ) (state : Mapped) → state.stream.top ≤ limit → EndsAt limit offer.fin place offer.length → Holds state
           → Holds (finite_by fault packet (told_mapping offer position place) state)
       finite_by_so (Some broke) other packet offer position place state top is h = (tell_so broke.rule packet (Found broke.finding) state.stream other h.0, h.1)
       finite_by_so None other packet offer position place state top is h = (
-        record { octets = h.0.octets; there = h.0.there; fin = λ asked. fin_learnt state.stream top (h.0.fin asked) offer place is position packet; untold = h.0.untold },
+        record { octets = h.0.octets; there = h.0.there; fin = fin_learnt state.stream top h.0.fin offer place is position packet; untold = h.0.untold },
         record { line = h.1.line; seen = h.1.seen; there = h.1.there; fin = h.1.fin; top = h.1.top },
       )
 
@@ -337,12 +323,12 @@ module _ (ends endless : Bool) (limit : ℕ) (few : limit < 2 ^ 31) (content : �
           ∙ ap (λ (b : Bool). if b then None else Some (AfterInfinite line.position line.place i.packet))
           ((Decides-int_eq (shift_of line.place line.position) (shift_of old.place old.position)).1 (agree.one line old new.is lined.is))
 
-      infinite_so : (endless ≡ true → LinesAgree IsLine Away) → (teller : Teller) → teller.first ≡ first → (near : ℕ) (offer : Offer) (state : Mapped) → InfiniteLined near offer → state.stream.top ≤ limit → Holds state
+      infinite_so : LinesAgree IsLine Away → (teller : Teller) → teller.first ≡ first → (near : ℕ) (offer : Offer) (state : Mapped) → InfiniteLined near offer → state.stream.top ≤ limit → Holds state
           → Linked teller state.stream state.lane → Holds (mapped.infinite_at (place_near teller.first state.stream.top offer.number) teller offer (mapping.position_near near offer.relative) state)
       infinite_so agree teller is near offer state o top h linked =
           subst (λ (p : Option ℕ). Holds (mapped.infinite_at p teller offer position state)) (sym place_is)
           (by (line_fault state.stream.infinite teller.flow state.lane.line position o.place)
-          (λ asked. agrees_so (agree asked) teller state.stream.infinite state.lane.line (record { position = position; place = o.place }) linked h.1.line o.line))
+          (agrees_so agree teller state.stream.infinite state.lane.line (record { position = position; place = o.place }) linked h.1.line o.line))
         where
           position : ℤ
           position = mapping.position_near near offer.relative
@@ -350,8 +336,8 @@ module _ (ends endless : Bool) (limit : ℕ) (few : limit < 2 ^ 31) (content : �
           place_is : place_near teller.first state.stream.top offer.number ≡ Some o.place
           place_is = ap (λ (n : ℕ). place_near n state.stream.top offer.number) is ∙ near_so first state.stream.top o.place offer.number o.number (omega (arith, top, few)) o.small
 
-          by : (fault : Option Finding) → (endless ≡ true → fault ≡ None) → Holds (infinite_by fault teller position o.place state)
-          by (Some finding) none = (tell_so rule.Infinite teller.packet (Found finding) state.stream (unasked finding none) h.0, h.1)
+          by : (fault : Option Finding) → fault ≡ None → Holds (infinite_by fault teller position o.place state)
+          by (Some finding) none = cc
           by None none = (
             record { octets = h.0.octets; there = h.0.there; fin = h.0.fin; untold = h.0.untold },
             record { line = lowest_so state.lane.line position o.place h.1.line o.line; seen = h.1.seen; there = h.1.there; fin = h.1.fin; top = h.1.top },
@@ -399,7 +385,7 @@ module _ (ends endless : Bool) (limit : ℕ) (few : limit < 2 ^ 31) (content : �
           by true = linked_infinite (place_near teller.first state.stream.top offer.number) teller offer position state h
           by false = linked_finite (mapped_place teller.first state.stream.top offer) teller offer position (one_more state) h
 
-      one_so : (endless ≡ true → LinesAgree IsLine Away) → (teller : Teller) → teller.first ≡ first → (near : ℕ) (offer : Offer) (state : Mapped) → (OfferIs first limit content where_at near offer × Fits near offer) ⊎ InfiniteLined near offer
+      one_so : LinesAgree IsLine Away → (teller : Teller) → teller.first ≡ first → (near : ℕ) (offer : Offer) (state : Mapped) → (OfferIs first limit content where_at near offer × Fits near offer) ⊎ InfiniteLined near offer
           → state.stream.top ≤ limit → Holds state → Linked teller state.stream state.lane → Holds (mapped_at teller offer (mapping.position_near near offer.relative) state)
       one_so agree teller is near offer state (inl o) top h linked =
           let position = mapping.position_near near offer.relative in
@@ -419,7 +405,7 @@ module _ (ends endless : Bool) (limit : ℕ) (few : limit < 2 ^ 31) (content : �
       as_told near offer (inl o) = inl o.0
       as_told near offer (inr o) = inr (record { place = o.place; number = o.number; small = o.small; none = o.none })
 
-      offer_so : (endless ≡ true → LinesAgree IsLine Away) → (teller : Teller) → teller.first ≡ first → (near : ℕ) (offer : Option Offer) (state : Mapped)
+      offer_so : LinesAgree IsLine Away → (teller : Teller) → teller.first ≡ first → (near : ℕ) (offer : Option Offer) (state : Mapped)
           → IfSome offer (λ o. (OfferIs first limit content where_at near o × Fits near o) ⊎ InfiniteLined near o) → Both state → Linked teller state.stream state.lane → Both (mapped_one teller near offer state)
       offer_so agree teller is near None state o h linked = h
       offer_so agree teller is near (Some offer) state o h linked = (
@@ -427,7 +413,7 @@ module _ (ends endless : Bool) (limit : ℕ) (few : limit < 2 ^ 31) (content : �
         one_so agree teller is near offer state o h.0.0.0.top h.1 linked,
       )
 
-      offers_so : (endless ≡ true → LinesAgree IsLine Away) → (teller : Teller) → teller.first ≡ first → (near : ℕ) (options : List OptionValue) (state : Mapped) → All (OptionLined near) options → Both state
+      offers_so : LinesAgree IsLine Away → (teller : Teller) → teller.first ≡ first → (near : ℕ) (options : List OptionValue) (state : Mapped) → All (OptionLined near) options → Both state
           → Linked teller state.stream state.lane → Both (mapped_each teller near options state)
       offers_so agree teller is near [] state all h linked = h
       offers_so agree teller is near (option ∷ options) state all h linked =
@@ -436,7 +422,7 @@ module _ (ends endless : Bool) (limit : ℕ) (few : limit < 2 ^ 31) (content : �
           (subst (λ (n : ℕ). IfSome (offer_of n option) (λ o. (OfferIs first limit content where_at near o × Fits near o) ⊎ InfiniteLined near o)) (sym is) (All-head (OptionLined near) option options all)) h linked)
           (linked_one teller near (offer_of teller.first option) state linked)
 
-      mapped_so : (endless ≡ true → LinesAgree IsLine Away) → (facts : Facts) (known : Option ℕ) → IfSome known (λ n. n ≡ first) → (near : ℕ) (options : List OptionValue) (state : Mapped)
+      mapped_so : LinesAgree IsLine Away → (facts : Facts) (known : Option ℕ) → IfSome known (λ n. n ≡ first) → (near : ℕ) (options : List OptionValue) (state : Mapped)
           → All (OptionLined near) options → Both state → LinkedTo Away facts.index state.stream.infinite state.lane.line → Both (mapped_with facts known near options state)
       mapped_so agree facts None is near options state all h linked = h
       mapped_so agree facts (Some known) is near options state all h linked = offers_so agree (told_in facts known) is near options state all h linked
@@ -449,7 +435,7 @@ module _ (ends endless : Bool) (limit : ℕ) (few : limit < 2 ^ 31) (content : �
           within_each_so facts position mappings (within_one facts position m s) (found_so rule.Within facts.packet (within_found facts position m) s refl h)
 
       ended_so : (packet : ℕ) (s : StreamValue) (l : LaneValue) → Lined s l → StreamLined (ended_by_fin l packet s)
-      ended_so packet s l h = record { octets = h.0.octets; there = h.0.there; fin = λ asked. by s.fin l.line l.fin (h.0.fin asked) h.1.line (h.1.fin asked) asked; untold = h.0.untold }
+      ended_so packet s l h = record { octets = h.0.octets; there = h.0.there; fin = by s.fin l.line l.fin h.0.fin h.1.line h.1.fin; untold = h.0.untold }
         where
           on_line : (line : Line) (fin : ℕ) → IfSome (place_on_line line fin) (λ q. q ≡ limit) → IfSome (line_fin None (Some line) (Some fin) packet) (λ t. t.place ≡ limit)
           on_line line fin is = placed (place_on_line line fin) is
@@ -458,12 +444,12 @@ module _ (ends endless : Bool) (limit : ℕ) (few : limit < 2 ^ 31) (content : �
               placed None is = tt
               placed (Some q) is = is
 
-          by : (fin : Option ToldPlace) (line : Option Line) (at : Option ℕ) → IfSome fin (λ t. t.place ≡ limit) → IfSome line LineIs → IfSome at IsEnd → ends ≡ true
+          by : (fin : Option ToldPlace) (line : Option Line) (at : Option ℕ) → IfSome fin (λ t. t.place ≡ limit) → IfSome line LineIs → IfSome at IsEnd
               → IfSome (line_fin fin line at packet) (λ t. t.place ≡ limit)
-          by (Some t) line at is lined last asked = is
-          by None None at is lined last asked = tt
-          by None (Some line) None is lined last asked = tt
-          by None (Some line) (Some p) is lined last asked = on_line line p (lined.end asked p last)
+          by (Some t) line at is lined last = is
+          by None None at is lined last = tt
+          by None (Some line) None is lined last = tt
+          by None (Some line) (Some p) is lined last = on_line line p (lined.end p last)
 
       -- an octet that is the place's is no other one
       content_none : (acknowledged place : ℕ) (octet : Option ℕ) (s : StreamValue) → StreamLined s → IfSome octet (λ x. x ≡ content place)
@@ -715,9 +701,9 @@ module _ (ends endless : Bool) (limit : ℕ) (few : limit < 2 ^ 31) (content : �
 
       -- ---- all of a segment
 
-      pub at_so : AreInside → (endless ≡ true → LinesAgree IsLine Away) → (facts : Facts) (position : ℕ) (options : List OptionValue) (keys : Keys) (peers s : StreamValue) (l : LaneValue) → IfSome (first_of facts.side keys) (λ n. n ≡ first)
+      pub at_so : AreInside → LinesAgree IsLine Away → (facts : Facts) (position : ℕ) (options : List OptionValue) (keys : Keys) (peers s : StreamValue) (l : LaneValue) → IfSome (first_of facts.side keys) (λ n. n ≡ first)
           → All (OptionLined position) options → Bears at position facts.seen.segment.payload → facts.seen.payload_len ≡ length facts.seen.segment.payload → (payload_len facts ≡ 0) ⊎ (position + payload_len facts ≤ suc upto)
-          → (ends ≡ true → facts.seen.segment.head.fin ≡ true → IsEnd (position + facts.seen.payload_len)) → (payload_at facts position).to ≤ high → Placed s l → Lined s l → LinkedTo Away facts.index s.infinite l.line
+          → (facts.seen.segment.head.fin ≡ true → IsEnd (position + facts.seen.payload_len)) → (payload_at facts position).to ≤ high → Placed s l → Lined s l → LinkedTo Away facts.index s.infinite l.line
           → Lined (judged_at facts position options keys peers s l).stream (judged_at facts position options keys peers s l).lane
       at_so inside agree facts position options keys peers s l is all bears whole within end to h lined linked =
           let before : Mapped = record { stream = s; lane = fin_taken facts position l; learnt = []; has_line = false } in
@@ -737,5 +723,5 @@ module _ (ends endless : Bool) (limit : ℕ) (few : limit < 2 ^ 31) (content : �
           still_linked false = linked
 
           fin_so : (b : Bool) → facts.seen.segment.head.fin ≡ b → LaneLined (if b then with_fin (position + facts.seen.payload_len) l else l)
-          fin_so true e = record { line = lined.1.line; seen = lined.1.seen; there = lined.1.there; fin = λ asked. taken l.fin (lined.1.fin asked) (end asked e); top = lined.1.top }
+          fin_so true e = record { line = lined.1.line; seen = lined.1.seen; there = lined.1.there; fin = taken l.fin lined.1.fin (end e); top = lined.1.top }
           fin_so false e = lined.1

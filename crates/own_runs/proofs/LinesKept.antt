@@ -52,7 +52,7 @@ use Rattle.own_runs.proofs.Telling.{others_keep}
 abbrev pub OffersNone : OptionValue → Type 0
 OffersNone option = (first : ℕ) → offer_of first option ≡ None
 
-module _ (ends endless : Bool) (d : Drawn) (limit : Side → ℕ) (few : (s : Side) → limit s < 2 ^ 31) (content : Side → ℕ → ℕ) (where_at : ℕ → Side → ℕ → ℕ) (upto : ℕ → Side → ℕ)
+module _ (d : Drawn) (limit : Side → ℕ) (few : (s : Side) → limit s < 2 ^ 31) (content : Side → ℕ → ℕ) (where_at : ℕ → Side → ℕ → ℕ) (upto : ℕ → Side → ℕ)
     (IsEnd : ℕ → Side → ℕ → Type 0) (IsLine : ℕ → Side → Line → Type 0) where
   abbrev first_at : Side → ℕ
   first_at s = first_number (own_key d s)
@@ -71,7 +71,7 @@ module _ (ends endless : Bool) (d : Drawn) (limit : Side → ℕ) (few : (s : Si
   FlowKnown path index left = (s : Side) → LinkedIn path index s (infinite_of s left.book) (line_on s left.lanes)
 
   abbrev pub AllAgree : Type 0
-  AllAgree = endless ≡ true → (path : ℕ) (s : Side) → LinesAgree (IsLine path s) (Away path s)
+  AllAgree = (path : ℕ) (s : Side) → LinesAgree (IsLine path s) (Away path s)
 
   relinked : (path index : ℕ) (s : Side) (stream : StreamValue) (book : BookValue) (line : Option Line) → stream.infinite ≡ infinite_of s book → LinkedIn path index s (infinite_of s book) line
       → LinkedIn path index s (infinite_of s (with_stream s stream book)) line
@@ -85,7 +85,7 @@ module _ (ends endless : Bool) (d : Drawn) (limit : Side → ℕ) (few : (s : Si
   own_line B true lanes is = cc
 
   abbrev pub LinedIn : ℕ → Side → ℕ → OptionValue → Type 0
-  LinedIn path s position = OptionLined ends endless (limit s) (few s) (content s) (first_at s) (where_at path s) (upto path s) (IsEnd path s) (IsLine path s) (Away path s) position
+  LinedIn path s position = OptionLined (limit s) (few s) (content s) (first_at s) (where_at path s) (upto path s) (IsEnd path s) (IsLine path s) (Away path s) position
 
   -- by on which paths B's SYN was sent, and which sides sent no reset behind it
   module _ (S : ℕ → Type 0) (Straight : ℕ → Side → Type 0) where
@@ -98,19 +98,19 @@ module _ (ends endless : Bool) (d : Drawn) (limit : Side → ℕ) (few : (s : Si
       -- its places are the stream's, and nothing was cut off
       pub inside : (p : ℕ) → 1 ≤ p → p ≤ upto telling.own.path telling.own.from → where_at telling.own.path telling.own.from p < limit telling.own.from
       pub whole : seen.payload_len ≡ length seen.segment.payload
-      pub end : ends ≡ true → seen.segment.head.fin ≡ true → IsEnd telling.own.path telling.own.from (telling.at + seen.payload_len)
+      pub end : seen.segment.head.fin ≡ true → IsEnd telling.own.path telling.own.from (telling.at + seen.payload_len)
       pub plain : Straight telling.own.path telling.own.from
-          ⊎ ((seen.segment.head.rst ≡ true) × (ends ≡ true → seen.segment.head.fin ≡ false) × All OffersNone telling.own.values)
+          ⊎ ((seen.segment.head.rst ≡ true) × (seen.segment.head.fin ≡ false) × All OffersNone telling.own.values)
 
     abbrev StreamHolds : Side → StreamValue → Type 0
-    StreamHolds s stream = StreamPlaced false (limit s) stream × StreamLined ends endless (limit s) (few s) (content s) stream
+    StreamHolds s stream = StreamPlaced false (limit s) stream × StreamLined (limit s) (few s) (content s) stream
 
     abbrev pub BookLined : BookValue → Type 0
     BookLined book = (s : Side) → StreamHolds s (stream_at s book)
 
     abbrev LaneHolds : ℕ → Side → LaneValue → ℕ → Type 0
     LaneHolds path s l high = LanePlaced false (limit s) (few s) (content s) (first_at s) (where_at path s) l
-        × LaneLined ends endless (limit s) (few s) (content s) (first_at s) (where_at path s) (upto path s) (IsEnd path s) (IsLine path s) (Away path s) high l × (Straight path s → high < 2 ^ 31)
+        × LaneLined (limit s) (few s) (content s) (first_at s) (where_at path s) (upto path s) (IsEnd path s) (IsLine path s) (Away path s) high l × (Straight path s → high < 2 ^ 31)
 
     abbrev Laned : ℕ → Side → LaneValue → Type 0
     Laned path s l = (high : ℕ) × LaneHolds path s l high
@@ -143,8 +143,8 @@ module _ (ends endless : Bool) (d : Drawn) (limit : Side → ℕ) (few : (s : Si
     lanes_lined path B true lane lanes is new h = cc
 
     higher : (path : ℕ) (s : Side) (l : LaneValue) (high more : ℕ) → high ≤ more
-        → LaneLined ends endless (limit s) (few s) (content s) (first_at s) (where_at path s) (upto path s) (IsEnd path s) (IsLine path s) (Away path s) high l
-        → LaneLined ends endless (limit s) (few s) (content s) (first_at s) (where_at path s) (upto path s) (IsEnd path s) (IsLine path s) (Away path s) more l
+        → LaneLined (limit s) (few s) (content s) (first_at s) (where_at path s) (upto path s) (IsEnd path s) (IsLine path s) (Away path s) high l
+        → LaneLined (limit s) (few s) (content s) (first_at s) (where_at path s) (upto path s) (IsEnd path s) (IsLine path s) (Away path s) more l
     higher path s l high more up h = record { line = h.line; seen = h.seen; there = h.there; fin = h.fin; top = (let low = h.top in omega (arith, low, up)) }
 
     top_keeps : (s : Side) → TellingKeeps (λ (stream : StreamValue). stream.top ≤ limit s)
@@ -154,7 +154,7 @@ module _ (ends endless : Bool) (d : Drawn) (limit : Side → ℕ) (few : (s : Si
     record Fields (s : Side) (stream : StreamValue) : Type 0 where
       octets : (q : ℕ) → IfSome (stream.octet q) (λ o. (q < limit s) × (o.octet ≡ content s q))
       there : (q : ℕ) → stream.seen q ≡ true → is_some (stream.octet q) ≡ true
-      fin : ends ≡ true → IfSome stream.fin (λ told. told.place ≡ limit s)
+      fin : IfSome stream.fin (λ told. told.place ≡ limit s)
 
     fields_keep : (s : Side) → TellingKeeps (Fields s)
     fields_keep s = record {
@@ -229,8 +229,8 @@ module _ (ends endless : Bool) (d : Drawn) (limit : Side → ℕ) (few : (s : Si
           abbrev Offered : ℕ → Offer → Type 0
           Offered at offer =
               (OfferIs (first_at s) (limit s) (content s) (where_at own.path s) at offer
-              × Fits ends endless (limit s) (few s) (content s) (first_at s) (where_at own.path s) (upto own.path s) (IsEnd own.path s) (IsLine own.path s) (Away own.path s) at offer)
-              ⊎ InfiniteLined ends endless (limit s) (few s) (content s) (first_at s) (where_at own.path s) (upto own.path s) (IsEnd own.path s) (IsLine own.path s) (Away own.path s) at offer
+              × Fits (limit s) (few s) (content s) (first_at s) (where_at own.path s) (upto own.path s) (IsEnd own.path s) (IsLine own.path s) (Away own.path s) at offer)
+              ⊎ InfiniteLined (limit s) (few s) (content s) (first_at s) (where_at own.path s) (upto own.path s) (IsEnd own.path s) (IsLine own.path s) (Away own.path s) at offer
 
           none_lined : (options : List OptionValue) → All OffersNone options → All (LinedIn own.path s position) options
           none_lined [] all = All-nil (LinedIn own.path s position)
@@ -256,14 +256,14 @@ module _ (ends endless : Bool) (d : Drawn) (limit : Side → ℕ) (few : (s : Si
               let up = ap (upto own.path) sides in omega (arith, most, len, inside, at_it, up))) g.within)
               (λ reset. inl (ap (λ (b : Bool). if b then 0 else facts.seen.payload_len) (ap (λ (x : Seen). x.segment.head.rst) sees ∙ reset.0))) g.plain
 
-          end_here : ends ≡ true → facts.seen.segment.head.fin ≡ true → IsEnd own.path s (position + facts.seen.payload_len)
-          end_here asked fin =
+          end_here : facts.seen.segment.head.fin ≡ true → IsEnd own.path s (position + facts.seen.payload_len)
+          end_here fin =
               let fin_so : seen.segment.head.fin ≡ true = ap (λ (x : Seen). x.segment.head.fin) (sym sees) ∙ fin in
               ⊎_elim
               (λ straight. subst (λ (q : ℕ). IsEnd own.path s q)
               (let at_it = there (subst (Straight own.path) (sym sides) straight) in let len = ap (λ (x : Seen). x.payload_len) sees in let all : p.at + seen.payload_len ≡ position + facts.seen.payload_len = omega (arith, at_it, len) in all)
-              (subst (λ (t : Side). IsEnd own.path t (p.at + seen.payload_len)) (sym sides) (g.end asked fin_so)))
-              (λ reset. absurd (false≢true (sym (reset.1 asked) ∙ fin_so))) g.plain
+              (subst (λ (t : Side). IsEnd own.path t (p.at + seen.payload_len)) (sym sides) (g.end fin_so)))
+              (λ reset. absurd (false≢true (sym reset.1 ∙ fin_so))) g.plain
 
         from : (position : Option ℕ) → position_of (own_base facts) (own_lane facts left.lanes) facts.seen.segment.head.seq facts.seen.payload_len ≡ position
             → LeftLined (judged_from facts position options keys left)
@@ -280,8 +280,8 @@ module _ (ends endless : Bool) (d : Drawn) (limit : Side → ℕ) (few : (s : Si
             let well = subst (λ (t : Side). All (Well own.path t position) options) (sym sides) (wells position (same position e)) in
             let placed = placed_so false (limit s) (few s) (content s) (first_at s) (where_at own.path s) (with_plain options left facts) position options keys peers own_stream its_lane (first_so s keys k) well (never_calm options) bears
             ((h.book s).0, lane.1.0) in
-            let lined = lined_so ends endless (limit s) (few s) (content s) (first_at s) (where_at own.path s) (upto own.path s) (IsEnd own.path s) (IsLine own.path s) (Away own.path s) high
-            (subst (λ (t : Side). (p : ℕ) → 1 ≤ p → p ≤ upto own.path t → where_at own.path t p < limit t) (sym sides) g.inside) (λ asked. agree asked own.path s) (with_plain options left facts) position options keys peers own_stream its_lane
+            let lined = lined_so (limit s) (few s) (content s) (first_at s) (where_at own.path s) (upto own.path s) (IsEnd own.path s) (IsLine own.path s) (Away own.path s) high
+            (subst (λ (t : Side). (p : ℕ) → 1 ≤ p → p ≤ upto own.path t → where_at own.path t p < limit t) (sym sides) g.inside) (agree own.path s) (with_plain options left facts) position options keys peers own_stream its_lane
             (first_so s keys k) (lines_here position e) bears (subst (λ (x : Seen). x.payload_len ≡ length x.segment.payload) (sym sees) g.whole) (within_here position e) (end_here position e) (omega arith) ((h.book s).0, lane.1.0)
             ((h.book s).1, higher own.path s its_lane lane.0 high (omega arith) lane.1.1)
             (subst (LinkedIn own.path facts.index s own_stream.infinite) (own_line s facts.is_opener left.lanes opens) linked) in
@@ -312,7 +312,7 @@ module _ (ends endless : Bool) (d : Drawn) (limit : Side → ℕ) (few : (s : Si
               nonce = subst (λ (o : Option Opened). IfSome o (NonceIs d own.path flow.opening)) e f.nonce;
               opener = opens_so d seen own flow f;
             } in
-            let of_line : IsOf d (is_line ends endless) own.path facts = record {
+            let of_line : IsOf d is_line own.path facts = record {
               opening = f.opening;
               nonce = subst (λ (o : Option Opened). IfSome o (NonceIs d own.path flow.opening)) e f.nonce;
               opener = opens_so d seen own flow f;
@@ -320,7 +320,7 @@ module _ (ends endless : Bool) (d : Drawn) (limit : Side → ℕ) (few : (s : Si
             let was = h.book own.from in
             let first : KeyedValue = record { options = []; keys = keys; stream = stream_at own.from left.book } in
             let made = options_so d (is_place false) own.path facts of_place own.values first own.each (record { keys = k; untold = was.0.untold; each = All-nil (ValueIs d own.path own.from) }) in
-            let also = options_so d (is_line ends endless) own.path facts of_line own.values first own.each (record { keys = k; untold = was.1.untold; each = All-nil (ValueIs d own.path own.from) }) in
+            let also = options_so d is_line own.path facts of_line own.values first own.each (record { keys = k; untold = was.1.untold; each = All-nil (ValueIs d own.path own.from) }) in
             let all = judged_options facts (map Readable own.values) first in
             let top = fields_so (top_keeps own.from) facts (map Readable own.values) first was.0.top in
             let fields = fields_so (fields_keep own.from) facts (map Readable own.values) first (record { octets = was.1.octets; there = was.1.there; fin = was.1.fin }) in
@@ -365,7 +365,7 @@ module _ (ends endless : Bool) (d : Drawn) (limit : Side → ℕ) (few : (s : Si
       1,
       (
         new_placed false d limit few content where_at path s,
-        record { line = tt; seen = λ p is. absurd (false≢true is); there = λ p is. absurd (false≢true is); fin = λ asked. tt; top = omega arith },
+        record { line = tt; seen = λ p is. absurd (false≢true is); there = λ p is. absurd (false≢true is); fin = tt; top = omega arith },
         λ straight. omega arith,
       ),
     )
@@ -379,46 +379,46 @@ module _ (ends endless : Bool) (d : Drawn) (limit : Side → ℕ) (few : (s : Si
           let was = h s in
           with_lined s _ book (
             record { top = was.0.top; untold = others_keep (is_place false) rule.Token wrong.packet (Found (Number32 wrong.expected wrong.was)) (stream_at s book).broken refl was.0.untold },
-            record { octets = was.1.octets; there = was.1.there; fin = was.1.fin; untold = others_keep (is_line ends endless) rule.Token wrong.packet (Found (Number32 wrong.expected wrong.was)) (stream_at s book).broken refl was.1.untold },
+            record { octets = was.1.octets; there = was.1.there; fin = was.1.fin; untold = others_keep is_line rule.Token wrong.packet (Found (Number32 wrong.expected wrong.was)) (stream_at s book).broken refl was.1.untold },
           ) h;
       flow = λ at packet seen g index flow f opens belongs is keys left k h lanes known.
           flow_so agree at packet seen g index flow f opens belongs is keys left k (record { book = h; lanes = lanes }) known;
     }
 
     pub new_lined : BookLined empty_book
-    new_lined A = (record { top = omega arith; untold = λ r is. refl }, record { octets = λ q. tt; there = λ q is. absurd (false≢true is); fin = λ asked. tt; untold = λ r is. refl })
-    new_lined B = (record { top = omega arith; untold = λ r is. refl }, record { octets = λ q. tt; there = λ q is. absurd (false≢true is); fin = λ asked. tt; untold = λ r is. refl })
+    new_lined A = (record { top = omega arith; untold = λ r is. refl }, record { octets = λ q. tt; there = λ q is. absurd (false≢true is); fin = tt; untold = λ r is. refl })
+    new_lined B = (record { top = omega arith; untold = λ r is. refl }, record { octets = λ q. tt; there = λ q is. absurd (false≢true is); fin = tt; untold = λ r is. refl })
 
 -- as more lines were told, and fewer sides are straight
-module _ (ends endless : Bool) (d : Drawn) (limit : Side → ℕ) (few : (s : Side) → limit s < 2 ^ 31) (content : Side → ℕ → ℕ) (where_at : ℕ → Side → ℕ → ℕ) (upto : ℕ → Side → ℕ)
+module _ (d : Drawn) (limit : Side → ℕ) (few : (s : Side) → limit s < 2 ^ 31) (content : Side → ℕ → ℕ) (where_at : ℕ → Side → ℕ → ℕ) (upto : ℕ → Side → ℕ)
     (IsEnd : ℕ → Side → ℕ → Type 0) (IsLine IsLater : ℕ → Side → Line → Type 0) (told : (path : ℕ) (s : Side) (line : Line) → IsLine path s line → IsLater path s line)
     (S S_later : ℕ → Type 0) (Straight Still : ℕ → Side → Type 0) (was : (path : ℕ) (s : Side) → Still path s → Straight path s) where
   abbrev first : Side → ℕ
   first s = first_number (own_key d s)
 
   abbrev Lane : (ℕ → Side → Line → Type 0) → ℕ → Side → ℕ → LaneValue → Type 0
-  Lane Is path s high l = LaneLined ends endless (limit s) (few s) (content s) (first s) (where_at path s) (upto path s) (IsEnd path s) (Is path s) (IsAway Is path s) high l
+  Lane Is path s high l = LaneLined (limit s) (few s) (content s) (first s) (where_at path s) (upto path s) (IsEnd path s) (Is path s) (IsAway Is path s) high l
 
   later_lane : (path : ℕ) (s : Side) (high : ℕ) (l : LaneValue) → Lane IsLine path s high l → Lane IsLater path s high l
   later_lane path s high l h = record { line = by l.line h.line; seen = h.seen; there = h.there; fin = h.fin; top = h.top }
     where
-      by : (o : Option Line) → IfSome o (LineIs ends endless (limit s) (few s) (content s) (first s) (where_at path s) (upto path s) (IsEnd path s) (IsLine path s) (IsAway IsLine path s))
-          → IfSome o (LineIs ends endless (limit s) (few s) (content s) (first s) (where_at path s) (upto path s) (IsEnd path s) (IsLater path s) (IsAway IsLater path s))
+      by : (o : Option Line) → IfSome o (LineIs (limit s) (few s) (content s) (first s) (where_at path s) (upto path s) (IsEnd path s) (IsLine path s) (IsAway IsLine path s))
+          → IfSome o (LineIs (limit s) (few s) (content s) (first s) (where_at path s) (upto path s) (IsEnd path s) (IsLater path s) (IsAway IsLater path s))
       by None is = tt
       by (Some line) is = record { places = is.places; end = is.end; is = told path s line is.is }
 
-  later_lanes : (path : ℕ) (lanes : LanesValue) → LanesLined ends endless d limit few content where_at upto IsEnd IsLine S Straight path lanes
-      → LanesLined ends endless d limit few content where_at upto IsEnd IsLater S_later Still path lanes
+  later_lanes : (path : ℕ) (lanes : LanesValue) → LanesLined d limit few content where_at upto IsEnd IsLine S Straight path lanes
+      → LanesLined d limit few content where_at upto IsEnd IsLater S_later Still path lanes
   later_lanes path lanes h = record {
     opener = (h.opener.0, (h.opener.1.0, later_lane path A h.opener.0 lanes.opener h.opener.1.1, λ still. h.opener.1.2 (was path A still)));
     other = (h.other.0, (h.other.1.0, later_lane path B h.other.0 lanes.other h.other.1.1, λ still. h.other.1.2 (was path B still)));
   }
 
   pub later_holds : (state : JudgedValue)
-      → AllHold d (OpensBy S) (IsLined ends endless d limit few content where_at upto IsEnd IsLine S Straight) (BookLined ends endless d limit few content where_at upto IsEnd IsLine S Straight)
-      (LanesLined ends endless d limit few content where_at upto IsEnd IsLine S Straight) state
-      → AllHold d (OpensBy S_later) (IsLined ends endless d limit few content where_at upto IsEnd IsLater S_later Still) (BookLined ends endless d limit few content where_at upto IsEnd IsLater S_later Still)
-      (LanesLined ends endless d limit few content where_at upto IsEnd IsLater S_later Still) state
+      → AllHold d (OpensBy S) (IsLined d limit few content where_at upto IsEnd IsLine S Straight) (BookLined d limit few content where_at upto IsEnd IsLine S Straight)
+      (LanesLined d limit few content where_at upto IsEnd IsLine S Straight) state
+      → AllHold d (OpensBy S_later) (IsLined d limit few content where_at upto IsEnd IsLater S_later Still) (BookLined d limit few content where_at upto IsEnd IsLater S_later Still)
+      (LanesLined d limit few content where_at upto IsEnd IsLater S_later Still) state
   later_holds state h = record {
     seen = h.seen;
     books = h.books;

@@ -1,5 +1,5 @@
 -- In the capture of a run, whatever its script does, no place has two octets, and the DATA_FIN stands at one place.
-use Rattle.std.proofs.Common.{◌≡◌, refl, sym, ap, ◌∙◌, subst, ℕ, suc, ◌+◌, ◌<◌, ◌^◌, ◌≤◌, ◌⊎◌, inl, inr, ⊎_elim, Bool, true, false, Option, Some, None, option_map, Ok, Result, List, [], ◌∷◌, ◌++◌, append_assoc, length, map, arith}
+use Rattle.std.proofs.Common.{◌≡◌, refl, sym, ap, ◌∙◌, subst, ℕ, suc, ◌+◌, ◌<◌, ◌≤◌, ◌⊎◌, inl, inr, ⊎_elim, true, false, Option, Some, None, option_map, Ok, Result, List, [], ◌∷◌, ◌++◌, append_assoc, length, map, arith}
 use Rattle.std.specs.Prelude.{All}
 use Rattle.std.specs.List.{list_any, slice_get}
 use Rattle.std.proofs.lemmas.Bool.{false≢true, or_cases}
@@ -11,7 +11,6 @@ use Rattle.capture_reader.specs.Steps.{◌>>=◌}
 use Rattle.capture_verdict.specs.Judging.{judged_capture, judged_if_seen, judged_packets}
 use Rattle.judge_laws.proofs.Standing.{some_same}
 use Rattle.judge_laws.specs.GoesOn.{stream_in}
-use Rattle.judge_rules.specs.declared.finding.Rule.{Rule}
 use Rattle.link_trace.specs.declared.sent.Sent.{Sent}
 use Rattle.path_core.specs.Octets.{octets}
 use Rattle.mptcp_options.specs.declared.capable.CapableKeys.TheVariants.{Both, NoKey, Sender, WithData}
@@ -26,26 +25,24 @@ use Rattle.seen_streams.specs.State.{StreamValue}
 use Rattle.sides.specs.declared.side.Side.TheVariants.{A, B}
 use Rattle.sides.specs.declared.side.Side.{Side}
 use Rattle.stream_lanes.specs.Duo.{Duo}
-use Rattle.world_laws.proofs.Lanes.OfAWorld.{anyhow}
 use Rattle.world_laws.specs.Openings.{Start, opened_world}
 use Rattle.world_laws.specs.Promises.{HasRoom, NumbersFit}
 use Rattle.world_laws.specs.Worlds.{Turn, WorldState, after_turn, world_run}
 use Rattle.own_runs.specs.Fitting.{RunFits}
-use Rattle.own_runs.specs.Runs.{NoRunBreaks, capture_of}
+use Rattle.own_runs.specs.Runs.{capture_of}
 use Rattle.own_runs.specs.Traces.{FitsCapture, packet_for}
 use Rattle.own_runs.proofs.AckMoments.{Sends, one_turn}
 use Rattle.own_runs.proofs.Bearing.{maps_octets}
 use Rattle.own_runs.proofs.BearsPlain.{BearsPlain, bears_at}
 use Rattle.own_runs.proofs.ComesTimes.{Answered, Opened, comes_keyed}
-use Rattle.own_runs.proofs.EndMaps.{FinOn, IsMapped, LineAt, content, file_len, lane_of, upto_of}
-use Rattle.own_runs.proofs.FinRuns.{fin_stands}
+use Rattle.own_runs.proofs.EndMaps.{IsMapped, LineAt, content, file_len, lane_of, upto_of}
 use Rattle.own_runs.proofs.Fitting.{traces_fit}
 use Rattle.own_runs.proofs.InTime.{LinesPath, OpensAt, ResetsPath, Sending, SynsAt, SynsPath, TellsLineAt, WasReset, WasSaid, turn_sending, was_last, was_more, was_split}
 use Rattle.own_runs.proofs.Kept.{same_judged}
 use Rattle.own_runs.proofs.LastLanes.{AtLast}
 use Rattle.own_runs.proofs.LateJoins.{ComesBehind, Says}
 use Rattle.own_runs.proofs.Learning.{IsAlone, IsAnswer}
-use Rattle.own_runs.proofs.Lines.{StreamLined, is_line}
+use Rattle.own_runs.proofs.Lines.{StreamLined}
 use Rattle.own_runs.proofs.LinesTrace.{AgreeOn, EndIn, LineKnown, LinesAt, as_told, begins, lines_next}
 use Rattle.own_runs.proofs.MapTrace.{few}
 use Rattle.own_runs.proofs.Offering.{AllFine, OptionFine}
@@ -58,24 +55,24 @@ use Rattle.own_runs.proofs.Moments.{IsSpoken, WorldAlso, world_speaks}
 use Rattle.own_runs.proofs.NextTrace.{octets_append}
 use Rattle.own_runs.proofs.OwnTrace.{found}
 use Rattle.own_runs.proofs.ShownAcks.{both_worlds}
-use Rattle.own_runs.proofs.TellsPlaces.{AnyLine, RunTells, RunTold, Tells, run_told}
+use Rattle.own_runs.proofs.TellsPlaces.{RunTells, Tells}
 use Rattle.own_runs.proofs.TimeRuns.{OpensSo, opens_so}
 use Rattle.own_runs.proofs.Traces.{traces_are}
 
 -- ---- over the segments of a trace
 
-module _ (start : Start) (ends endless : Bool) (Told : Duo → ℕ → Side → ℕ → ℕ → Type 0) (Fails : Type 0) (last : Duo) (fit : NumbersFit start) (ended : AtLast start last) where
+module _ (start : Start) (Told : Duo → ℕ → Side → ℕ → ℕ → Type 0) (Fails : Type 0) (last : Duo) (fit : NumbersFit start) (ended : AtLast start last) where
   -- all that is known of each, where so much was sent before it
   abbrev pub AllKnown : Type 0 → Type 0 → (ℕ → Type 0) → (ℕ → Side → Type 0) → (ℕ → Side → Type 0) → List Sent → Type 0
   AllKnown U T S X G [] = Unit {0}
   AllKnown U T S X G (x ∷ trace) =
-      (s : IsSpoken (LineKnown start ends endless Told Fails last fit ended U T X G) start x)
+      (s : IsSpoken (LineKnown start Told Fails last fit ended U T X G) start x)
       × AllKnown (U ⊎ Says start A IsAlone x s.segment) (T ⊎ Says start B IsAnswer x s.segment) (λ n. S n ⊎ SynsPath x s.segment n)
       (λ n t. X n t ⊎ ((S n ⊎ SynsPath x s.segment n) × ResetsPath x s.segment n t)) (λ n t. G n t ⊎ LinesPath x s.segment n t) trace
 
   -- what each stream is
   abbrev pub BooksLined : JudgedValue → Type 0
-  BooksLined state = (i : ℕ) (book : BookValue) → slice_get state.books i ≡ Some book → (s : Side) → StreamLined ends endless (file_len start s) (few start last fit s) (content start s) (stream_at s book)
+  BooksLined state = (i : ℕ) (book : BookValue) → slice_get state.books i ≡ Some book → (s : Side) → StreamLined (file_len start s) (few start last fit s) (content start s) (stream_at s book)
 
   -- and what is known of the flows and the connection
   pub record Settled (state : JudgedValue) : Type 0 where
@@ -85,31 +82,31 @@ module _ (start : Start) (ends endless : Bool) (Told : Duo → ℕ → Side → 
     pub one : OneHolds (drawn start) state.seen
     pub counts : AreCounted state
 
-  module _ (agree : endless ≡ true → AgreeOn (Told last)) (at : Option Side) where
+  module _ (agree : AgreeOn (Told last)) (at : Option Side) where
     run_lined : (trace : List Sent) (U T : Type 0) (S : ℕ → Type 0) (X G : ℕ → Side → Type 0) (state : JudgedValue) (n : ℕ) → AllKnown U T S X G trace → All FitsCapture trace
-        → LinesAt start ends endless Told Fails last fit ended U T S X G state → Settled (judged_packets at true state n (map packet_for trace))
+        → LinesAt start Told Fails last fit ended U T S X G state → Settled (judged_packets at true state n (map packet_for trace))
     run_lined [] U T S X G state n known fits h =
         record { books = λ i book there s. (h.hold.books i book there s).1; own = h.tokens.seen.own; named = h.tokens.seen.named; one = h.tokens.one; counts = h.counts }
     run_lined (x ∷ trace) U T S X G state n known fits h =
         run_lined trace (U ⊎ Says start A IsAlone x s.segment) (T ⊎ Says start B IsAnswer x s.segment) (λ n. S n ⊎ SynsPath x s.segment n)
         (λ n t. X n t ⊎ ((S n ⊎ SynsPath x s.segment n) × ResetsPath x s.segment n t)) (λ n t. G n t ⊎ LinesPath x s.segment n t) (judged_if_seen at true state n (segment_in_packet (packet_for x))) (n + 1) known.1 (All-tail FitsCapture x trace fits)
-        (subst (λ (o : Option Seen). Now (judged_if_seen at true state n o)) (sym (found (Tells start Told Fails last) start x told short)) (lines_next start ends endless Told Fails last fit ended U T S X G x s short agree at n state h))
+        (subst (λ (o : Option Seen). Now (judged_if_seen at true state n o)) (sym (found (Tells start Told Fails last) start x told short)) (lines_next start Told Fails last fit ended U T S X G x s short agree at n state h))
       where
-        s : IsSpoken (LineKnown start ends endless Told Fails last fit ended U T X G) start x
+        s : IsSpoken (LineKnown start Told Fails last fit ended U T X G) start x
         s = known.0
 
         short : length x.octets ≤ 65515
         short = (All-head FitsCapture x trace fits).octets
 
         told : IsSpoken (Tells start Told Fails last) start x
-        told = as_told start ends endless Told Fails last fit ended U T S X G x s short
+        told = as_told start Told Fails last fit ended U T S X G x s short
 
         Now : JudgedValue → Type 0
-        Now = LinesAt start ends endless Told Fails last fit ended (U ⊎ Says start A IsAlone x s.segment) (T ⊎ Says start B IsAnswer x s.segment) (λ n. S n ⊎ SynsPath x s.segment n)
+        Now = LinesAt start Told Fails last fit ended (U ⊎ Says start A IsAlone x s.segment) (T ⊎ Says start B IsAnswer x s.segment) (λ n. S n ⊎ SynsPath x s.segment n)
             (λ n t. X n t ⊎ ((S n ⊎ SynsPath x s.segment n) × ResetsPath x s.segment n t)) (λ n t. G n t ⊎ LinesPath x s.segment n t)
 
     pub all_lined : (trace : List Sent) → AllKnown ⊥ ⊥ (λ n. ⊥) (λ n t. ⊥) (λ n t. ⊥) trace → All FitsCapture trace → Settled (judged_packets at true nothing_judged 1 (map packet_for trace))
-    all_lined trace known fits = run_lined trace ⊥ ⊥ (λ n. ⊥) (λ n t. ⊥) (λ n t. ⊥) nothing_judged 1 known fits (begins start ends endless Told Fails last fit ended)
+    all_lined trace known fits = run_lined trace ⊥ ⊥ (λ n. ⊥) (λ n t. ⊥) (λ n t. ⊥) nothing_judged 1 known fits (begins start Told Fails last fit ended)
 
   -- on the paths of the start
   pub paths_are : (trace : List Sent) (U T : Type 0) (S : ℕ → Type 0) (X G : ℕ → Side → Type 0) → AllKnown U T S X G trace → All (λ s. s.path < length start.paths) trace
@@ -119,23 +116,23 @@ module _ (start : Start) (ends endless : Bool) (Told : Duo → ℕ → Side → 
 
 -- ---- at each moment of a run
 
-module _ (start : Start) (ends endless : Bool) (Told : Duo → ℕ → Side → ℕ → ℕ → Type 0) (Fails : Type 0) (turns : List Turn) (size : HasRoom start) (fit : NumbersFit start)
+module _ (start : Start) (Told : Duo → ℕ → Side → ℕ → ℕ → Type 0) (Fails : Type 0) (turns : List Turn) (size : HasRoom start) (fit : NumbersFit start)
     (told : RunTells start Told Fails turns) where
   abbrev pub world : List Turn → WorldState (List ℕ)
   world before = world_run octets before (opened_world start)
 
-  -- where the FINs of a trace stand, as far as that is asked
+  -- where the FINs of a trace stand
   abbrev pub FinsStand : Type 0
-  FinsStand = (before later : List Turn) (turn : Turn) → before ++ turn ∷ later ≡ turns → (y : Sending) → turn_sending turn (world before) ≡ Some y → ends ≡ true → y.segment.fin ≡ true
-      → (y.segment.rst ≡ false) × EndIn start ends endless Told Fails told.0 fit told.2 y.path y.from (y.segment.position + length y.segment.payload)
+  FinsStand = (before later : List Turn) (turn : Turn) → before ++ turn ∷ later ≡ turns → (y : Sending) → turn_sending turn (world before) ≡ Some y → y.segment.fin ≡ true
+      → (y.segment.rst ≡ false) × EndIn start Told Fails told.0 fit told.2 y.path y.from (y.segment.position + length y.segment.payload)
 
   -- nothing is mapped behind an infinite mapping that was told on another path
   abbrev pub AreApart : Type 0
-  AreApart = endless ≡ true → (before later : List Turn) (turn : Turn) → before ++ turn ∷ later ≡ turns → (y : Sending) → turn_sending turn (world before) ≡ Some y
+  AreApart = (before later : List Turn) (turn : Turn) → before ++ turn ∷ later ≡ turns → (y : Sending) → turn_sending turn (world before) ≡ Some y
       → Tells start Told Fails told.0 y.path y.from y.segment → list_any maps_octets y.segment.options ≡ true
       → (q place position : ℕ) → (q ≡ y.path → ⊥) → Told told.0 q y.from place position → WasSaid start (TellsLineAt q y.from) before → ⊥
 
-  module _ (fins : FinsStand) (agree : endless ≡ true → AgreeOn (Told told.0)) (apart : AreApart) where
+  module _ (fins : FinsStand) (agree : AgreeOn (Told told.0)) (apart : AreApart) where
     abbrev Q : List Turn → ℕ → Side → PlainSegment → Type 0
     Q before path s sg =
         (Tells start Told Fails told.0 path s sg × ComesBehind (Opened start size fit before) (Answered start size fit before) path s sg) × (OpensSo start size fit before path s sg × BearsPlain path s sg)
@@ -213,7 +210,7 @@ module _ (start : Start) (ends endless : Bool) (Told : Duo → ℕ → Side → 
 
     module _ (before later : List Turn) (turn : Turn) (is : before ++ turn ∷ later ≡ turns) (U T : Type 0) (S : ℕ → Type 0) (X G : ℕ → Side → Type 0) (h : ToldBy before U T S X G) (x : Sent) (o : Option Sending)
         (made : o ≡ turn_sending turn (world before)) (s : IsSpoken (λ path t sg. Q before path t sg × (o ≡ Some (record { path = path; from = t; segment = sg }))) start x) where
-      known : IsSpoken (LineKnown start ends endless Told Fails told.0 fit told.2 U T X G) start x
+      known : IsSpoken (LineKnown start Told Fails told.0 fit told.2 U T X G) start x
       known = record {
         plan = s.plan;
         there = s.there;
@@ -230,9 +227,9 @@ module _ (start : Start) (ends endless : Bool) (Told : Duo → ℕ → Side → 
           });
           living = λ rst x. s.also.0.1.0.living rst (h.reset _ _ x);
           says = s.also.0.1.1.says;
-          apart = λ asked maps away. apart asked before later turn is (record { path = x.path; from = x.from; segment = s.segment }) (sym made ∙ s.also.1) s.also.0.0.0 maps away.0 away.1.place away.3.0.0 away.2
+          apart = λ maps away. apart before later turn is (record { path = x.path; from = x.from; segment = s.segment }) (sym made ∙ s.also.1) s.also.0.0.0 maps away.0 away.1.place away.3.0.0 away.2
               away.3.0.2 (h.line away.0 x.from away.3.1);
-          fin = λ asked fin. fins before later turn is (record { path = x.path; from = x.from; segment = s.segment }) (sym made ∙ s.also.1) asked fin;
+          fin = λ fin. fins before later turn is (record { path = x.path; from = x.from; segment = s.segment }) (sym made ∙ s.also.1) fin;
         };
       }
 
@@ -242,10 +239,10 @@ module _ (start : Start) (ends endless : Bool) (Told : Duo → ℕ → Side → 
     -- what comes of the turns behind one more
     abbrev Rest : List Turn → Turn → List Turn → Type 1
     Rest before turn rest = (V W : Type 0) (R : ℕ → Type 0) (Y H : ℕ → Side → Type 0) → ToldBy (before ++ turn ∷ []) V W R Y H
-        → AllKnown start ends endless Told Fails told.0 fit told.2 V W R Y H (trace_of rest (world (before ++ turn ∷ [])))
+        → AllKnown start Told Fails told.0 fit told.2 V W R Y H (trace_of rest (world (before ++ turn ∷ [])))
 
     known_rest : (rest before : List Turn) → before ++ rest ≡ turns → (U T : Type 0) (S : ℕ → Type 0) (X G : ℕ → Side → Type 0) → ToldBy before U T S X G
-        → AllKnown start ends endless Told Fails told.0 fit told.2 U T S X G (trace_of rest (world before))
+        → AllKnown start Told Fails told.0 fit told.2 U T S X G (trace_of rest (world before))
     unfolding known
     known_rest [] before is U T S X G h = tt
     known_rest (turn ∷ rest) before is U T S X G h =
@@ -255,14 +252,14 @@ module _ (start : Start) (ends endless : Bool) (Told : Duo → ℕ → Side → 
         is_next = append_assoc before (turn ∷ []) rest ∙ is
 
         by : Rest before turn rest → Sends (Q before) start (sent_at turn (world before)) (turn_sending turn (world before))
-            → AllKnown start ends endless Told Fails told.0 fit told.2 U T S X G (sent_at turn (world before) ++ trace_of rest (after_turn octets turn (world before)))
+            → AllKnown start Told Fails told.0 fit told.2 U T S X G (sent_at turn (world before) ++ trace_of rest (after_turn octets turn (world before)))
         by later (inl it) =
-            subst (λ (xs : List Sent). AllKnown start ends endless Told Fails told.0 fit told.2 U T S X G (xs ++ trace_of rest (after_turn octets turn (world before)))) (sym it.0)
-            (subst (λ (w : WorldState (List ℕ)). AllKnown start ends endless Told Fails told.0 fit told.2 U T S X G (trace_of rest w)) (next_world before turn) (later U T S X G (none_more before turn U T S X G h it.1)))
+            subst (λ (xs : List Sent). AllKnown start Told Fails told.0 fit told.2 U T S X G (xs ++ trace_of rest (after_turn octets turn (world before)))) (sym it.0)
+            (subst (λ (w : WorldState (List ℕ)). AllKnown start Told Fails told.0 fit told.2 U T S X G (trace_of rest w)) (next_world before turn) (later U T S X G (none_more before turn U T S X G h it.1)))
         by later (inr it) =
-            subst (λ (xs : List Sent). AllKnown start ends endless Told Fails told.0 fit told.2 U T S X G (xs ++ trace_of rest (after_turn octets turn (world before)))) (sym it.1) (
+            subst (λ (xs : List Sent). AllKnown start Told Fails told.0 fit told.2 U T S X G (xs ++ trace_of rest (after_turn octets turn (world before)))) (sym it.1) (
               known before rest turn is U T S X G h it.0 (turn_sending turn (world before)) refl it.2,
-              subst (λ (w : WorldState (List ℕ)). AllKnown start ends endless Told Fails told.0 fit told.2 V W R Y H (trace_of rest w)) (next_world before turn)
+              subst (λ (w : WorldState (List ℕ)). AllKnown start Told Fails told.0 fit told.2 V W R Y H (trace_of rest w)) (next_world before turn)
                   (later V W R Y H (one_more before turn U T S X G h it.0 it.2.segment it.2.also.1)),
             )
           where
@@ -288,7 +285,7 @@ module _ (start : Start) (ends endless : Bool) (Told : Duo → ℕ → Side → 
         none [] e = cc
         none (m ∷ more) e = cc
 
-    pub all_known : AllKnown start ends endless Told Fails told.0 fit told.2 ⊥ ⊥ (λ n. ⊥) (λ n t. ⊥) (λ n t. ⊥) (trace_of turns (opened_world start))
+    pub all_known : AllKnown start Told Fails told.0 fit told.2 ⊥ ⊥ (λ n. ⊥) (λ n t. ⊥) (λ n t. ⊥) (trace_of turns (opened_world start))
     all_known =
         known_rest turns [] refl ⊥ ⊥ (λ n. ⊥) (λ n t. ⊥) (λ n t. ⊥)
         (record { opened = λ is. none_said (OpensAt 0) is; answered = λ is. none_said Keyed is; syn = λ n no. absurd no; reset = λ n t no. absurd no; line = λ n t no. absurd no })
@@ -308,58 +305,22 @@ module _ (start : Start) (ends endless : Bool) (Told : Duo → ℕ → Side → 
       is_read =
           let few_paths = fit.paths in
           ap (λ (m : Result (List Captured) ℕ). m >>= λ packets. Ok (judged_packets at true nothing_judged 1 packets))
-          (traces_are side (length start.paths) trace (omega (arith, few_paths)) (paths_are start ends endless Told Fails told.0 fit told.2 trace _ _ _ _ _ all_known) room)
+          (traces_are side (length start.paths) trace (omega (arith, few_paths)) (paths_are start Told Fails told.0 fit told.2 trace _ _ _ _ _ all_known) room)
 
-      pub settled : Settled start ends endless Told Fails told.0 fit told.2 verdict
-      settled = all_lined start ends endless Told Fails told.0 fit told.2 agree at trace all_known room
+      pub settled : Settled start Told Fails told.0 fit told.2 verdict
+      settled = all_lined start Told Fails told.0 fit told.2 agree at trace all_known room
 
       -- of a side
       pub stands_so : (judged : JudgedValue) → judged_capture at true (capture_of start turns side) ≡ Ok judged → (connection : ℕ) (s : Side) (stream : StreamValue)
-          → stream_in judged connection s ≡ Some stream → StreamLined ends endless (file_len start s) (few start told.0 fit s) (content start s) stream
+          → stream_in judged connection s ≡ Some stream → StreamLined (file_len start s) (few start told.0 fit s) (content start s) stream
       stands_so judged read connection s stream there =
           by (slice_get verdict.books connection) refl (ap (λ (j : JudgedValue). stream_in j connection s) (same_judged verdict judged (sym is_read ∙ read)) ∙ there)
         where
           by : (o : Option BookValue) → slice_get verdict.books connection ≡ o → option_map (stream_at s) o ≡ Some stream
-              → StreamLined ends endless (file_len start s) (few start told.0 fit s) (content start s) stream
+              → StreamLined (file_len start s) (few start told.0 fit s) (content start s) stream
           by None e none = cc
           by (Some book) e some =
-              subst (StreamLined ends endless (file_len start s) (few start told.0 fit s) (content start s)) (some_same (stream_at s book) stream some) (settled.books connection book e s)
-
--- whatever its script does
-module _ (start : Start) (turns : List Turn) (size : HasRoom start) (fit : NumbersFit start) (run : RunFits start turns) (side : Side) (at : Option Side) where
-  abbrev pub told : RunTold start (anyhow start size) AnyLine (Unit {0}) turns
-  told = run_told start turns size fit
-
-  pub stand : FinsStand start true false AnyLine (Unit {0}) turns size fit (told.0, told.1, told.2)
-  stand before later turn split y sends asked fin =
-      let it = fin_stands start (anyhow start size) size fit turns told.0 told.3 before later turn split y sends fin in
-      (it.0, subst (FinOn (lane_of told.0 y.path y.from)) (at_end y.segment.position y.segment.payload it.1) it.2)
-    where
-      at_end : (position : ℕ) (payload : List ℕ) → payload ≡ [] → position ≡ position + length payload
-      at_end position payload none = let empty : length payload ≡ 0 = ap (λ (xs : List ℕ). length xs) none in omega (arith, empty)
-
-  pub never : false ≡ true → AgreeOn (AnyLine told.0)
-  never asked = absurd (false≢true asked)
-
-  pub far : AreApart start true false AnyLine (Unit {0}) turns size fit (told.0, told.1, told.2)
-  far asked = absurd (false≢true asked)
-
-  abbrev pub run_verdict : JudgedValue
-  run_verdict = verdict start true false AnyLine (Unit {0}) turns size fit (told.0, told.1, told.2) stand never far run side at
-
-  pub run_read : judged_capture at true (capture_of start turns side) ≡ Ok run_verdict
-  run_read = is_read start true false AnyLine (Unit {0}) turns size fit (told.0, told.1, told.2) stand never far run side at
-
-  pub run_settled : Settled start true false AnyLine (Unit {0}) told.0 fit told.2 run_verdict
-  run_settled = settled start true false AnyLine (Unit {0}) turns size fit (told.0, told.1, told.2) stand never far run side at
-
-  pub run_lined_so : (judged : JudgedValue) → judged_capture at true (capture_of start turns side) ≡ Ok judged → (connection : ℕ) (s : Side) (stream : StreamValue)
-      → stream_in judged connection s ≡ Some stream → (small : file_len start s < 2 ^ 31) × StreamLined true false (file_len start s) small (content start s) stream
-  run_lined_so judged read connection s stream there =
-      (few start told.0 fit s, stands_so start true false AnyLine (Unit {0}) turns size fit (told.0, told.1, told.2) stand never far run side at judged read connection s stream there)
-
-pub no_run_breaks : (r : Rule) → is_line true false r ≡ true → NoRunBreaks r
-no_run_breaks r is start turns size fit run side at judged read connection s stream there = (run_lined_so start turns size fit run side at judged read connection s stream there).1.untold r is
+              subst (StreamLined (file_len start s) (few start told.0 fit s) (content start s)) (some_same (stream_at s book) stream some) (settled.books connection book e s)
 
 -- ---- nothing on a lane
 

@@ -86,7 +86,7 @@ AgreeOn Is = (p q : ℕ) (s : Side) (a i b j : ℕ) → Is p s a i → Is q s b 
 abbrev pub LineOf : (ℕ → Side → ℕ → ℕ → Type 0) → ℕ → Side → Line → Type 0
 LineOf Is path s line = (from : ℕ) × (line.position ≡ pos from) × Is path s line.place from
 
-module _ (start : Start) (ends endless : Bool) (Told : Duo → ℕ → Side → ℕ → ℕ → Type 0) (Fails : Type 0) (last : Duo) (fit : NumbersFit start) (ended : AtLast start last) where
+module _ (start : Start) (Told : Duo → ℕ → Side → ℕ → ℕ → Type 0) (Fails : Type 0) (last : Duo) (fit : NumbersFit start) (ended : AtLast start last) where
   -- how many positions a lane has, and where its FIN stands
   abbrev pub upto_in : ℕ → Side → ℕ
   upto_in path s = upto_of (lane_of last path s)
@@ -118,7 +118,7 @@ module _ (start : Start) (ends endless : Bool) (Told : Duo → ℕ → Side → 
     first = first_number (own_key (drawn start) s)
 
     abbrev pub LinedAt : ℕ → OptionValue → Type 0
-    LinedAt at option = OptionLined ends endless (file_len start s) (few start last fit s) (content start s) first (where_in last path s) (upto_in path s) (EndIn path s) (IsLine G path s) (IsAway (IsLine G) path s) at option
+    LinedAt at option = OptionLined (file_len start s) (few start last fit s) (content start s) first (where_in last path s) (upto_in path s) (EndIn path s) (IsLine G path s) (IsAway (IsLine G) path s) at option
 
     -- the line of an infinite mapping from a position on
     module _ (at place from : ℕ) (here : IsShort at) (low : IsShort from) (is : LineAt start Told last path s place from) (now : G path s) where
@@ -137,23 +137,23 @@ module _ (start : Start) (ends endless : Bool) (Told : Duo → ℕ → Side → 
               let low : from ≤ p = ltb-false p from more in
               subst R (ap (λ (n : ℕ). place + n) (sym (minus_is p from low))) (holds low)
 
-      pub line_is : LineIs ends endless (file_len start s) (few start last fit s) (content start s) first (where_in last path s) (upto_in path s) (EndIn path s) (IsLine G path s) (IsAway (IsLine G) path s) (record { position = position_near at (relative_number from); place = place })
+      pub line_is : LineIs (file_len start s) (few start last fit s) (content start s) first (where_in last path s) (upto_in path s) (EndIn path s) (IsLine G path s) (IsAway (IsLine G) path s) (record { position = position_near at (relative_number from); place = place })
       line_is =
-          subst (λ (z : ℤ). LineIs ends endless (file_len start s) (few start last fit s) (content start s) first (where_in last path s) (upto_in path s) (EndIn path s) (IsLine G path s) (IsAway (IsLine G) path s) (record { position = z; place = place })) (sym position_is)
+          subst (λ (z : ℤ). LineIs (file_len start s) (few start last fit s) (content start s) first (where_in last path s) (upto_in path s) (EndIn path s) (IsLine G path s) (IsAway (IsLine G) path s) (record { position = z; place = place })) (sym position_is)
           (record {
             places = λ p below. on_line p (λ q. q ≡ where_in last path s p)
                 (λ behind. sym (ap (place_at (lane_of last path s)) (let short = upto_low path s in let same : p % 2 ^ 32 ≡ p = omega (arith, below, short) in same) ∙ is.0.1 p behind below));
-            end = λ asked p fin. on_line p (λ q. q ≡ file_len start s) (λ behind. is.0.2 p fin behind);
+            end = λ p fin. on_line p (λ q. q ≡ file_len start s) (λ behind. is.0.2 p fin behind);
             is = ((from, refl, is.1), now);
           })
 
     module _ (key at octets : ℕ) (short : (octets ≡ 0) ⊎ (at + octets < 2 ^ 31)) where
       lined_so : (o : PlainOption) → PlacedIn key at octets o → OptionFine (file_len start) (IsMapped start last path) (LineAt start Told last path) Fails s o → IsSmall (path_begins start path plan).profile s o
-          → (is_mapping o ≡ true → IsShort at) → (tells_line o ≡ true → G path s) → (endless ≡ true → maps_octets o ≡ true → IsAway (IsLine G) path s → ⊥) → LinedAt at (said_option spelling s o)
+          → (is_mapping o ≡ true → IsShort at) → (tells_line o ≡ true → G path s) → (maps_octets o ≡ true → IsAway (IsLine G) path s → ⊥) → LinedAt at (said_option spelling s o)
       lined_so (Dss next None) placed is small here now apart = tt
       lined_so (Dss next (Some (Bytes place from len false checksum))) placed is small here now apart = inl (
         well_so start last path plan s key at octets at refl short (Dss next (Some (Bytes place from len false checksum))) placed is,
-        inr (let within = is.3.3 in let same = placed.0 in omega (arith, within, same), λ asked. apart asked refl),
+        inr (let within = is.3.3 in let same = placed.0 in omega (arith, within, same), apart refl),
       )
       lined_so (Dss next (Some (Bytes place from len true checksum))) placed is small here now apart = absurd (false≢true (sym placed.2))
       lined_so (Dss next (Some (End place checksum))) placed is small here now apart =
@@ -162,7 +162,7 @@ module _ (start : Start) (ends endless : Bool) (Told : Duo → ℕ → Side → 
           inr (record { place = place; number = number_so start path plan s place; small = small.short.1.0; none = refl; line = line_is at place from (here refl) small.short.1.1 is (now refl) })
       lined_so (Capable flag_a flag_c (WithData sender receiver len checksum)) placed is small here now apart = inl (
         well_so start last path plan s key at octets at refl short (Capable flag_a flag_c (WithData sender receiver len checksum)) placed is,
-        inr (let within = is.2.3 in let same = placed.0 in omega (arith, within, same), λ asked. apart asked refl),
+        inr (let within = is.2.3 in let same = placed.0 in omega (arith, within, same), apart refl),
       )
       lined_so (Capable flag_a flag_c NoKey) placed is small here now apart = tt
       lined_so (Capable flag_a flag_c (Sender sender)) placed is small here now apart = tt
@@ -171,17 +171,17 @@ module _ (start : Start) (ends endless : Bool) (Told : Duo → ℕ → Side → 
 
       all_lined : (options : List PlainOption) → Every (PlacedIn key at octets) options → AllFine (file_len start) (IsMapped start last path) (LineAt start Told last path) Fails s options
           → All (IsSmall (path_begins start path plan).profile s) options → (list_any is_mapping options ≡ true → IsShort at) → (list_any tells_line options ≡ true → G path s)
-          → (endless ≡ true → list_any maps_octets options ≡ true → IsAway (IsLine G) path s → ⊥) → All (LinedAt at) (map (said_option spelling s) options)
+          → (list_any maps_octets options ≡ true → IsAway (IsLine G) path s → ⊥) → All (LinedAt at) (map (said_option spelling s) options)
       all_lined [] placed each small here now apart = All-nil (LinedAt at)
       all_lined (o ∷ options) placed each small here now apart =
           All-cons (LinedAt at) (said_option spelling s o) (map (said_option spelling s) options)
           (lined_so o (placed.each 0 o refl) (each.each 0 o refl) (All-head (IsSmall (path_begins start path plan).profile s) o options small) (λ maps. here (or_left (is_mapping o) (list_any is_mapping options) maps))
           (λ tells. now (or_left (tells_line o) (list_any tells_line options) tells))
-          (λ asked maps. apart asked (or_left (maps_octets o) (list_any maps_octets options) maps)))
+          (λ maps. apart (or_left (maps_octets o) (list_any maps_octets options) maps)))
           (all_lined options (record { each = λ i y at_y. placed.each (suc i) y at_y }) (record { each = λ i y at_y. each.each (suc i) y at_y })
           (All-tail (IsSmall (path_begins start path plan).profile s) o options small) (λ maps. here (or_right (is_mapping o) (list_any is_mapping options) maps))
           (λ tells. now (or_right (tells_line o) (list_any tells_line options) tells))
-          (λ asked maps. apart asked (or_right (maps_octets o) (list_any maps_octets options) maps)))
+          (λ maps. apart (or_right (maps_octets o) (list_any maps_octets options) maps)))
 
     -- one without a mapping maps nothing
     none_so : (o : PlainOption) → is_mapping o ≡ false → OffersNone (said_option spelling s o)
@@ -208,25 +208,24 @@ module _ (start : Start) (ends endless : Bool) (Told : Duo → ℕ → Side → 
 
   -- ---- all that is known of a segment
 
-  -- the FIN is known where it is asked for
   pub record LineKnown (U T : Type 0) (X G : ℕ → Side → Type 0) (path : ℕ) (s : Side) (sg : PlainSegment) : Type 0 where
     pub tells : Tells start Told Fails last path s sg
     pub comes : ComesBehind U T path s sg
     pub living : sg.rst ≡ false → X path s → ⊥
     pub says : says_more sg ≡ true → sg.rst ≡ false
     -- nothing is mapped where an infinite mapping was told on another path
-    pub apart : endless ≡ true → list_any maps_octets sg.options ≡ true → IsAway (IsLine G) path s → ⊥
-    pub fin : ends ≡ true → sg.fin ≡ true → (sg.rst ≡ false) × EndIn path s (sg.position + length sg.payload)
+    pub apart : list_any maps_octets sg.options ≡ true → IsAway (IsLine G) path s → ⊥
+    pub fin : sg.fin ≡ true → (sg.rst ≡ false) × EndIn path s (sg.position + length sg.payload)
 
   module _ (S : ℕ → Type 0) (X G : ℕ → Side → Type 0) where
     abbrev pub LinedSeen : Seen → Type 0
-    LinedSeen seen = IsLined ends endless (drawn start) (file_len start) (few start last fit) (content start) (where_in last) upto_in EndIn (IsLine G) S (λ n s. X n s → ⊥) seen
+    LinedSeen seen = IsLined (drawn start) (file_len start) (few start last fit) (content start) (where_in last) upto_in EndIn (IsLine G) S (λ n s. X n s → ⊥) seen
 
     abbrev pub LinedBook : BookValue → Type 0
-    LinedBook book = BookLined ends endless (drawn start) (file_len start) (few start last fit) (content start) (where_in last) upto_in EndIn (IsLine G) S (λ n s. X n s → ⊥) book
+    LinedBook book = BookLined (drawn start) (file_len start) (few start last fit) (content start) (where_in last) upto_in EndIn (IsLine G) S (λ n s. X n s → ⊥) book
 
     abbrev pub LinedLanes : ℕ → LanesValue → Type 0
-    LinedLanes path lanes = LanesLined ends endless (drawn start) (file_len start) (few start last fit) (content start) (where_in last) upto_in EndIn (IsLine G) S (λ n s. X n s → ⊥) path lanes
+    LinedLanes path lanes = LanesLined (drawn start) (file_len start) (few start last fit) (content start) (where_in last) upto_in EndIn (IsLine G) S (λ n s. X n s → ⊥) path lanes
 
     abbrev pub AllLined : JudgedValue → Type 0
     AllLined state = AllHold (drawn start) (OpensBy S) LinedSeen LinedBook LinedLanes state
@@ -256,20 +255,20 @@ module _ (start : Start) (ends endless : Bool) (Told : Duo → ℕ → Side → 
     line_in : (path : ℕ) (s : Side) (lanes : LanesValue) → LinedLanes S X G path lanes → IfSome (line_on s lanes) (IsLine G path s)
     line_in path A lanes h = by lanes.opener.line h.opener.1.1.line
       where
-        by : (o : Option Line) → IfSome o (LineIs ends endless (file_len start A) (few start last fit A) (content start A) (first_number (own_key (drawn start) A)) (where_in last path A) (upto_in path A) (EndIn path A) (IsLine G path A) (IsAway (IsLine G) path A))
+        by : (o : Option Line) → IfSome o (LineIs (file_len start A) (few start last fit A) (content start A) (first_number (own_key (drawn start) A)) (where_in last path A) (upto_in path A) (EndIn path A) (IsLine G path A) (IsAway (IsLine G) path A))
             → IfSome o (IsLine G path A)
         by None is = tt
         by (Some m) is = is.is
     line_in path B lanes h = by lanes.other.line h.other.1.1.line
       where
-        by : (o : Option Line) → IfSome o (LineIs ends endless (file_len start B) (few start last fit B) (content start B) (first_number (own_key (drawn start) B)) (where_in last path B) (upto_in path B) (EndIn path B) (IsLine G path B) (IsAway (IsLine G) path B))
+        by : (o : Option Line) → IfSome o (LineIs (file_len start B) (few start last fit B) (content start B) (first_number (own_key (drawn start) B)) (where_in last path B) (upto_in path B) (EndIn path B) (IsLine G path B) (IsAway (IsLine G) path B))
             → IfSome o (IsLine G path B)
         by None is = tt
         by (Some m) is = is.is
 
     known_so : (path : ℕ) (told : JudgedValue) → AllLined S X G told → LinesLinked told → OneEach told.seen.flows
         → AreKnown (drawn start) (OpensBy S) (LinedSeen S X G) (LinedBook S X G) (LinedLanes S X G)
-        (FlowKnown ends endless (drawn start) (file_len start) (few start last fit) (content start) (where_in last) upto_in EndIn (IsLine G)) path told
+        (FlowKnown (drawn start) (file_len start) (few start last fit) (content start) (where_in last) upto_in EndIn (IsLine G)) path told
     known_so path told held linked one index flow there opener c book at_book lanes at_lanes s = by (infinite_of s book) (linked c book at_book s)
       where
         same_lanes : (i : ℕ) → i ≡ index → (has : HasLine told.lanes s i) → is_some (line_on s lanes) ≡ true
@@ -374,9 +373,9 @@ module _ (start : Start) (ends endless : Bool) (Told : Duo → ℕ → Side → 
     maps_short maps = place_short (s.also.says (or_right (has_octets sg.payload) (list_any is_mapping sg.options) maps))
 
     -- what this one tells is on its own path
-    apart_so : endless ≡ true → list_any maps_octets sg.options ≡ true → IsAway (IsLine MoreG) x.path x.from → ⊥
-    apart_so asked maps away =
-        ⊎_elim (λ was. s.also.apart asked maps (away.0, away.1, away.2, (away.3.0, was))) (λ now. away.2 (sym now.0)) away.3.1
+    apart_so : list_any maps_octets sg.options ≡ true → IsAway (IsLine MoreG) x.path x.from → ⊥
+    apart_so maps away =
+        ⊎_elim (λ was. s.also.apart maps (away.0, away.1, away.2, (away.3.0, was))) (λ now. away.2 (sym now.0)) away.3.1
 
     lines_so : All (LinedAt MoreG x.path s.plan x.from telling.at) telling.own.values
     lines_so =
@@ -396,43 +395,43 @@ module _ (start : Start) (ends endless : Bool) (Told : Duo → ℕ → Side → 
     lined_seen = record {
       telling = telling;
       low = low_so;
-      lines = subst (λ (n : ℕ). All (OptionLined ends endless (file_len start telling.own.from) (few start last fit telling.own.from) (content start telling.own.from) (first_number (own_key (drawn start) telling.own.from))
+      lines = subst (λ (n : ℕ). All (OptionLined (file_len start telling.own.from) (few start last fit telling.own.from) (content start telling.own.from) (first_number (own_key (drawn start) telling.own.from))
           (where_in last n telling.own.from) (upto_in n telling.own.from) (EndIn n telling.own.from) (IsLine MoreG n telling.own.from) (IsAway (IsLine MoreG) n telling.own.from) telling.at) telling.own.values) (sym path_so)
-          (subst (λ (t : Side). All (OptionLined ends endless (file_len start t) (few start last fit t) (content start t) (first_number (own_key (drawn start) t))
+          (subst (λ (t : Side). All (OptionLined (file_len start t) (few start last fit t) (content start t) (first_number (own_key (drawn start) t))
           (where_in last x.path t) (upto_in x.path t) (EndIn x.path t) (IsLine MoreG x.path t) (IsAway (IsLine MoreG) x.path t) telling.at) telling.own.values) (sym from_so) lines_so);
       within = subst (λ (n : ℕ). (seen.payload_len ≡ 0) ⊎ (telling.at + seen.payload_len ≤ suc (upto_in n telling.own.from))) (sym path_so)
           (subst (λ (t : Side). (seen.payload_len ≡ 0) ⊎ (telling.at + seen.payload_len ≤ suc (upto_in x.path t))) (sym from_so) within_so);
-      end = λ asked fin. subst (λ (n : ℕ). EndIn n telling.own.from (telling.at + seen.payload_len)) (sym path_so)
+      end = λ fin. subst (λ (n : ℕ). EndIn n telling.own.from (telling.at + seen.payload_len)) (sym path_so)
           (subst (λ (t : Side). EndIn x.path t (telling.at + seen.payload_len)) (sym from_so)
           (subst (λ (q : ℕ). EndIn x.path x.from q) (let at = at_so in let len = len_so in let same : sg.position + length sg.payload ≡ telling.at + seen.payload_len = omega (arith, at, len) in same)
-          (s.also.fin asked (sym fin_so ∙ fin)).1));
+          (s.also.fin (sym fin_so ∙ fin)).1));
       inside = inside_so telling.own.path telling.own.from;
       whole = refl;
       plain = plain_by sg.rst refl;
     }
       where
-        no_fin : (b : Bool) → sg.fin ≡ b → sg.rst ≡ true → ends ≡ true → b ≡ false
-        no_fin false e reset asked = refl
-        no_fin true e reset asked = absurd (both_ways sg.rst (s.also.fin asked e).0 reset)
+        no_fin : (b : Bool) → sg.fin ≡ b → sg.rst ≡ true → b ≡ false
+        no_fin false e reset = refl
+        no_fin true e reset = absurd (both_ways sg.rst (s.also.fin e).0 reset)
 
         no_maps : (b : Bool) → list_any is_mapping sg.options ≡ b → sg.rst ≡ true → b ≡ false
         no_maps false e reset = refl
         no_maps true e reset = absurd (both_ways sg.rst (s.also.says (or_right (has_octets sg.payload) (list_any is_mapping sg.options) e)) reset)
 
         plain_by : (b : Bool) → sg.rst ≡ b
-            → (MoreX telling.own.path telling.own.from → ⊥) ⊎ ((seen.segment.head.rst ≡ true) × (ends ≡ true → seen.segment.head.fin ≡ false) × All OffersNone telling.own.values)
+            → (MoreX telling.own.path telling.own.from → ⊥) ⊎ ((seen.segment.head.rst ≡ true) × (seen.segment.head.fin ≡ false) × All OffersNone telling.own.values)
         plain_by false living =
             inl (λ fell. ⊎_elim (λ was. s.also.living living (subst (λ (t : Side). X x.path t) from_so (subst (λ (n : ℕ). X n telling.own.from) path_so was)))
             (λ now. both_ways sg.rst living now.1.2) fell)
         plain_by true reset = inr (
           rst_so ∙ reset,
-          λ asked. fin_so ∙ no_fin sg.fin refl reset asked,
+          fin_so ∙ no_fin sg.fin refl reset,
           subst (All OffersNone) (sym values_so) (none_all MoreG x.path s.plan x.from sg.options (no_maps (list_any is_mapping sg.options) refl reset)),
         )
 
     -- ---- what it leaves
 
-    module _ (agree : endless ≡ true → AgreeOn (Told last)) (at : Option Side) (n : ℕ) (state : JudgedValue) (h : LinesAt U T S X G state) where
+    module _ (agree : AgreeOn (Told last)) (at : Option Side) (n : ℕ) (state : JudgedValue) (h : LinesAt U T S X G state) where
       abbrev V : Type 0
       V = Says start A IsAlone x s.segment
 
@@ -458,7 +457,7 @@ module _ (start : Start) (ends endless : Bool) (Told : Duo → ℕ → Side → 
 
       ready : AllLined MoreS MoreX MoreG state
       ready =
-          later_holds ends endless (drawn start) (file_len start) (few start last fit) (content start) (where_in last) upto_in EndIn (IsLine G) (IsLine MoreG)
+          later_holds (drawn start) (file_len start) (few start last fit) (content start) (where_in last) upto_in EndIn (IsLine G) (IsLine MoreG)
           (λ path t line is. (is.0, inl is.1)) S MoreS (λ n t. X n t → ⊥) (λ n t. MoreX n t → ⊥) (λ path t still was. still (inl was)) state h.hold
 
       only_now : Each (OpensBy MoreS) (taken state.seen n seen true).now.flows
@@ -479,7 +478,7 @@ module _ (start : Start) (ends endless : Bool) (Told : Duo → ℕ → Side → 
 
       knows : (wrong : Option WrongToken) → AllLined MoreS MoreX MoreG (with_wrong_token wrong (grown (taken state.seen n seen true).now state))
           → (path : ℕ) → AreKnown (drawn start) (OpensBy MoreS) (LinedSeen MoreS MoreX MoreG) (LinedBook MoreS MoreX MoreG) (LinedLanes MoreS MoreX MoreG)
-          (FlowKnown ends endless (drawn start) (file_len start) (few start last fit) (content start) (where_in last) upto_in EndIn (IsLine MoreG)) path
+          (FlowKnown (drawn start) (file_len start) (few start last fit) (content start) (where_in last) upto_in EndIn (IsLine MoreG)) path
           (with_wrong_token wrong (grown (taken state.seen n seen true).now state))
       knows wrong held path =
           let told = with_wrong_token wrong (grown (taken state.seen n seen true).now state) in
@@ -492,8 +491,8 @@ module _ (start : Start) (ends endless : Bool) (Told : Duo → ℕ → Side → 
         counts = counted.0;
         only = subst (Each (OpensBy MoreS)) (sym counted.1) only_now;
         hold = segment_so (drawn start) (OpensBy MoreS) (LinedSeen MoreS MoreX MoreG) (LinedBook MoreS MoreX MoreG) (LinedLanes MoreS MoreX MoreG)
-            (keep ends endless (drawn start) (file_len start) (few start last fit) (content start) (where_in last) upto_in EndIn (IsLine MoreG) MoreS (λ n t. MoreX n t → ⊥) (λ asked. all_agree MoreG (agree asked))) at n seen lined_seen state
-            (λ more. new_lined ends endless (drawn start) (file_len start) (few start last fit) (content start) (where_in last) upto_in EndIn (IsLine MoreG) MoreS (λ n t. MoreX n t → ⊥)) only_now ready knows;
+            (keep (drawn start) (file_len start) (few start last fit) (content start) (where_in last) upto_in EndIn (IsLine MoreG) MoreS (λ n t. MoreX n t → ⊥) (all_agree MoreG agree)) at n seen lined_seen state
+            (λ more. new_lined (drawn start) (file_len start) (few start last fit) (content start) (where_in last) upto_in EndIn (IsLine MoreG) MoreS (λ n t. MoreX n t → ⊥)) only_now ready knows;
         linked = judged_linked at n seen state of_a h.linked;
       }
 

@@ -1,6 +1,6 @@
 -- Behind an infinite mapping that a side told on a path (RFC 8684, section 3.7) nothing is mapped on its other ones, whatever the script does: where it is plain
 -- TCP's they have nothing, and where it is the side's own one all their ends are quiet. So no infinite mapping is broken.
-use Rattle.std.proofs.Common.{◌≡◌, refl, sym, ap, ◌∙◌, subst, ℕ, suc, ◌≤◌, ◌⊎◌, ◌||◌, inl, inr, ⊎_elim, not, true, false, Option, Some, None, List, [], ◌∷◌, ◌++◌, append-nil, append_assoc, length, arith}
+use Rattle.std.proofs.Common.{◌≡◌, refl, sym, ap, ◌∙◌, subst, ℕ, suc, ◌≤◌, ◌⊎◌, ◌||◌, inl, inr, ⊎_elim, not, true, false, Option, Some, None, List, [], ◌∷◌, ◌++◌, append-nil, append_assoc, length, arith, ◌+◌, ◌<◌, ◌^◌, Ok}
 use Rattle.std.specs.Option.{IfSome, option_map}
 use Rattle.std.specs.List.{list_any, slice_get}
 use Rattle.std.proofs.lemmas.Bool.{false≢true, or_cases}
@@ -34,16 +34,23 @@ use Rattle.world_laws.specs.Openings.{Start, opened_world}
 use Rattle.world_laws.specs.Promises.{HasRoom, NumbersFit}
 use Rattle.world_laws.specs.Worlds.{Turn, WorldState, world_run}
 use Rattle.world_laws.specs.declared.member.Member.TheVariants.{App, Path}
-use Rattle.own_runs.specs.Runs.{NoRunBreaks}
+use Rattle.capture_verdict.specs.Judging.{judged_capture}
+use Rattle.judge_laws.specs.GoesOn.{stream_in}
+use Rattle.rule_book.specs.State.{JudgedValue}
+use Rattle.seen_streams.specs.State.{StreamValue}
+use Rattle.own_runs.specs.Fitting.{RunFits}
+use Rattle.own_runs.specs.Runs.{NoRunBreaks, capture_of}
 use Rattle.own_runs.proofs.Bearing.{Carries, RecordsCarry, first_carries, maps_octets}
 use Rattle.own_runs.proofs.ActorNumbers.{actor_is}
 use Rattle.own_runs.proofs.BearsPlain.{BearsPlain, bears_at}
-use Rattle.own_runs.proofs.EndMaps.{IsMapped, LineAt, file_len}
+use Rattle.own_runs.proofs.EndMaps.{FinOn, IsMapped, LineAt, content, file_len, lane_of}
 use Rattle.own_runs.proofs.Homes.{fell_at, home_of, homes_agree, IsHome, own_told, plain_told}
 use Rattle.own_runs.proofs.InTime.{Sending, TellsLineAt, WasSaid, has_octets, is_bearing, crew_sending, member_sending, sending_as, tells_end, tells_line, turn_sending}
 use Rattle.own_runs.proofs.LastLanes.{none_beside}
-use Rattle.own_runs.proofs.Lines.{is_line}
-use Rattle.own_runs.proofs.LinesTimes.{AreApart, FinsStand, all_none, stands_so}
+use Rattle.own_runs.proofs.Lines.{StreamLined, is_line}
+use Rattle.own_runs.proofs.LinesTimes.{AreApart, FinsStand, Settled, all_none, is_read, settled, stands_so, verdict}
+use Rattle.own_runs.proofs.MapTrace.{few}
+use Rattle.own_runs.proofs.FinRuns.{fin_stands}
 use Rattle.own_runs.proofs.LinesTrace.{AgreeOn}
 use Rattle.own_runs.proofs.Moments.{MemberAlso, MemberSpeaks, Spoken, WorldAlso, world_speaks}
 use Rattle.own_runs.proofs.Offering.{AllFine, OptionFine}
@@ -56,7 +63,7 @@ use Rattle.own_runs.proofs.PlainSends.{SendsWell, sends_at}
 use Rattle.own_runs.proofs.QuietBeside.{HasNone, IsQuiet, always_quiet}
 use Rattle.own_runs.proofs.SendingModes.{always_sends}
 use Rattle.own_runs.proofs.Speaking.{ToSend}
-use Rattle.own_runs.proofs.TellsPlaces.{EachLineKnown, RunTells, Tells, tells_by}
+use Rattle.own_runs.proofs.TellsPlaces.{EachLineKnown, RunTells, RunTold, Tells, tells_by, told_by}
 
 -- ---- a segment that is sent
 
@@ -218,7 +225,7 @@ each_stands start before size fit i c at = by c.member (world_speaks start befor
 
 module _ (start : Start) (size : HasRoom start) (fit : NumbersFit start) where
   -- an own infinite mapping of a side on a path, behind these turns
-  abbrev OwnIn : List Turn → Side → ℕ → Type 0
+  abbrev pub OwnIn : List Turn → Side → ℕ → Type 0
   OwnIn turns s n = (m : InfiniteMapping) × (own_in s (slice_get (world_run values turns (opened_world start)).crew (suc (suc n))) ≡ Some m)
 
   -- one that was told was plain TCP's, or an own one
@@ -253,10 +260,10 @@ module _ (start : Start) (size : HasRoom start) (fit : NumbersFit start) where
 
   module _ (turns : List Turn) where
     -- one that is told has its side's home, and is plain TCP's, or an own one
-    abbrev EveryLine : Duo → ℕ → Side → ℕ → ℕ → Type 0
+    abbrev pub EveryLine : Duo → ℕ → Side → ℕ → ℕ → Type 0
     EveryLine last n s place position = IsHome (home_of start turns s) n place position × (((n ≡ 0) × (not last.modes.answered ≡ true)) ⊎ OwnIn turns s n)
 
-    every_known : EachLineKnown start (anyhow start size) EveryLine turns
+    pub every_known : EachLineKnown start (anyhow start size) EveryLine turns
     every_known last reaches more later is = record {
       plain = λ n x at s first fell alone position some. (plain_told start (anyhow start size) more later turns is ended n x at s fell position some, inl (first, alone));
       own = λ n x at may s m own. (
@@ -268,13 +275,21 @@ module _ (start : Start) (size : HasRoom start) (fit : NumbersFit start) where
         ended : Reached (anyhow start size).links start (world_run values turns (opened_world start))
         ended = (reaches turns [] (append-nil turns)).0
 
-    abbrev told : RunTells start EveryLine (Unit {0}) turns
-    told = tells_by start (anyhow start size) (anyhow_free start size) EveryLine (Unit {0}) (λ is. tt) size fit turns every_known
+    abbrev pub reached : RunTold start (anyhow start size) EveryLine (Unit {0}) turns
+    reached = told_by start (anyhow start size) (anyhow_free start size) EveryLine (Unit {0}) (λ is. tt) size fit turns every_known
 
-    no_fins : FinsStand start false true EveryLine (Unit {0}) turns size fit told
-    no_fins before later turn is y sends asked fin = absurd (false≢true asked)
+    abbrev pub told : RunTells start EveryLine (Unit {0}) turns
+    told = (reached.0, reached.1, reached.2)
 
-    all_agree : AgreeOn (EveryLine told.0)
+    pub stand : FinsStand start EveryLine (Unit {0}) turns size fit told
+    stand before later turn split y sends fin =
+        let it = fin_stands start (anyhow start size) size fit turns reached.0 reached.3 before later turn split y sends fin in
+        (it.0, subst (FinOn (lane_of reached.0 y.path y.from)) (at_end y.segment.position y.segment.payload it.1) it.2)
+      where
+        at_end : (position : ℕ) (payload : List ℕ) → payload ≡ [] → position ≡ position + length payload
+        at_end position payload none = let empty : length payload ≡ 0 = ap (λ (xs : List ℕ). length xs) none in omega (arith, empty)
+
+    pub all_agree : AgreeOn (EveryLine told.0)
     all_agree p q s a i b j is also = homes_agree (home_of start turns s) p q a i b j is.0 also.0
 
     module _ (before later : List Turn) (turn : Turn) (split : before ++ turn ∷ later ≡ turns) (y : Sending) (sends : turn_sending turn (world_run octets before (opened_world start)) ≡ Some y)
@@ -300,14 +315,27 @@ module _ (start : Start) (size : HasRoom start) (fit : NumbersFit start) where
               quiet_not start size fit before turn y sends some
               (always_quiet start size fit before y.from q y.path it.0 (own_stays start said.more (said.turn ∷ said.later) before said.is (suc (suc q)) y.from it.0 it.1) other)
 
-    every_apart : AreApart start false true EveryLine (Unit {0}) turns size fit told
-    every_apart asked before later turn split y sends tells maps q place position other line said =
+    pub every_apart : AreApart start EveryLine (Unit {0}) turns size fit told
+    every_apart before later turn split y sends tells maps q place position other line said =
         ⊎_elim
         (λ plain. all_none start EveryLine (Unit {0}) told.0 y.path y.from (none_beside told.0 told.2.holds plain.1 y.path y.from (λ first. other (plain.0 ∙ sym first))) y.segment.options tells.0 maps)
         (own_apart before later turn split y sends tells maps q other said) line.1
 
--- whatever its script does
-pub no_run_breaks : (r : Rule) → is_line false true r ≡ true → NoRunBreaks r
-no_run_breaks r is start turns size fit run side at judged read connection s stream there =
-    (stands_so start false true (EveryLine start size fit turns) (Unit {0}) turns size fit (told start size fit turns) (no_fins start size fit turns) (λ asked. all_agree start size fit turns)
-    (every_apart start size fit turns) run side at judged read connection s stream there).untold r is
+    -- what the judge finds
+    module _ (run : RunFits start turns) (side : Side) (at : Option Side) where
+      abbrev pub run_verdict : JudgedValue
+      run_verdict = verdict start EveryLine (Unit {0}) turns size fit told stand all_agree every_apart run side at
+
+      pub run_read : judged_capture at true (capture_of start turns side) ≡ Ok run_verdict
+      run_read = is_read start EveryLine (Unit {0}) turns size fit told stand all_agree every_apart run side at
+
+      pub run_settled : Settled start EveryLine (Unit {0}) told.0 fit told.2 run_verdict
+      run_settled = settled start EveryLine (Unit {0}) turns size fit told stand all_agree every_apart run side at
+
+      pub run_lined_so : (judged : JudgedValue) → judged_capture at true (capture_of start turns side) ≡ Ok judged → (connection : ℕ) (s : Side) (stream : StreamValue)
+          → stream_in judged connection s ≡ Some stream → (small : file_len start s < 2 ^ 31) × StreamLined (file_len start s) small (content start s) stream
+      run_lined_so judged read connection s stream there =
+          (few start told.0 fit s, stands_so start EveryLine (Unit {0}) turns size fit told stand all_agree every_apart run side at judged read connection s stream there)
+
+pub no_run_breaks : (r : Rule) → is_line r ≡ true → NoRunBreaks r
+no_run_breaks r is start turns size fit run side at judged read connection s stream there = (run_lined_so start size fit turns run side at judged read connection s stream there).1.untold r is

@@ -1,6 +1,6 @@
 -- Whatever a script does, what the judge finds of a side's stream is of the side's file: each octet that was seen is there, at its place, and the
 -- DATA_FIN stands behind the last one.
-use Rattle.std.proofs.Common.{◌≡◌, refl, sym, ap, ◌∙◌, subst, ℕ, ◌+◌, ◌<◌, ◌^◌, true, false, Option, Some, None, is_some, option_map, List, [], ◌∷◌, ◌++◌, append-nil, length, length-append, arith}
+use Rattle.std.proofs.Common.{◌≡◌, refl, sym, ap, ◌∙◌, subst, ℕ, ◌+◌, ◌<◌, ◌^◌, true, Option, Some, None, is_some, option_map, List, [], ◌∷◌, ◌++◌, append-nil, length, length-append, arith}
 use Rattle.std.specs.Prelude.{IfSome, get_or}
 use Rattle.std.specs.List.{slice_get}
 use Rattle.std.proofs.lemmas.Bool.{false≢true}
@@ -12,7 +12,7 @@ use Rattle.seen_octets.specs.declared.octet.Octet.{Octet}
 use Rattle.seen_streams.specs.State.{StreamValue}
 use Rattle.own_runs.specs.Runs.{DataFinsEndTheFiles, SeenOctetsAreTheFiles, StreamsBeginTheFiles, WholeStreamsAreTheFiles, file_of}
 use Rattle.own_runs.proofs.Lines.{StreamLined}
-use Rattle.own_runs.proofs.LinesTimes.{run_lined_so}
+use Rattle.own_runs.proofs.OtherPaths.{run_lined_so}
 use Rattle.own_runs.proofs.MapTrace.{all_same}
 
 -- a part as long as all is all
@@ -26,7 +26,7 @@ all_of_it octets file begins same =
     nothing [] none = refl
     nothing (x ∷ xs) none = absurd (omega (arith, none))
 
-module _ (file : List ℕ) (few : length file < 2 ^ 31) (stream : StreamValue) (h : StreamLined true false (length file) few (λ q. get_or file q 0) stream) where
+module _ (file : List ℕ) (few : length file < 2 ^ 31) (stream : StreamValue) (h : StreamLined (length file) few (λ q. get_or file q 0) stream) where
   begins : (octets : List ℕ) → IsSent stream.octet octets → IsPrefix octets file
   begins octets sent = all_same octets file (λ i below. by i (stream.octet i) (h.octets i)
       (subst (λ (k : ℕ). option_map (λ (o : Octet). o.octet) (stream.octet k) ≡ Some (get_or octets i 0)) (let same : 0 + i ≡ i = omega arith in same) (sent.held i below)))
@@ -48,23 +48,23 @@ module _ (file : List ℕ) (few : length file < 2 ^ 31) (stream : StreamValue) (
       by (Some o) is some = (is.0, ap (λ (x : ℕ). Some x) is.1 ∙ sym (slice_get-get_or file place 0 is.0))
 
   end : (fin : ToldPlace) → stream.fin ≡ Some fin → fin.place ≡ length file
-  end fin is = subst (λ (o : Option ToldPlace). IfSome o (λ told. told.place ≡ length file)) is (h.fin refl)
+  end fin is = subst (λ (o : Option ToldPlace). IfSome o (λ told. told.place ≡ length file)) is h.fin
 
 -- ---- of a run
 
 pub streams_are : StreamsBeginTheFiles
 streams_are start turns size fit run side at judged read connection s stream there =
-    let it = run_lined_so start turns size fit run side at judged read connection s stream there in begins (file_of start s) it.0 stream it.1
+    let it = run_lined_so start size fit turns run side at judged read connection s stream there in begins (file_of start s) it.0 stream it.1
 
 pub seen_are : SeenOctetsAreTheFiles
 seen_are start turns size fit run side at judged read connection s stream there =
-    let it = run_lined_so start turns size fit run side at judged read connection s stream there in seen (file_of start s) it.0 stream it.1
+    let it = run_lined_so start size fit turns run side at judged read connection s stream there in seen (file_of start s) it.0 stream it.1
 
 pub ends_are : DataFinsEndTheFiles
 ends_are start turns size fit run side at judged read connection s stream there =
-    let it = run_lined_so start turns size fit run side at judged read connection s stream there in end (file_of start s) it.0 stream it.1
+    let it = run_lined_so start size fit turns run side at judged read connection s stream there in end (file_of start s) it.0 stream it.1
 
 pub whole_are : WholeStreamsAreTheFiles
 whole_are start turns size fit run side at judged read connection s stream there fin is octets sent same =
-    let it = run_lined_so start turns size fit run side at judged read connection s stream there in
+    let it = run_lined_so start size fit turns run side at judged read connection s stream there in
     all_of_it octets (file_of start s) (begins (file_of start s) it.0 stream it.1 octets sent) (same ∙ end (file_of start s) it.0 stream it.1 fin is)

@@ -406,9 +406,6 @@ any_lines start can turns last reaches more later is = record { plain = λ n x a
 pub run_tells : (start : Start) (turns : List Turn) → HasRoom start → NumbersFit start → RunTells start AnyLine (Unit {0}) turns
 run_tells start turns size fit = tells_by start (anyhow start size) (anyhow_free start size) AnyLine (Unit {0}) (λ is. tt) size fit turns (any_lines start (anyhow start size) turns)
 
-pub run_told : (start : Start) (turns : List Turn) (size : HasRoom start) → NumbersFit start → RunTold start (anyhow start size) AnyLine (Unit {0}) turns
-run_told start turns size fit = told_by start (anyhow start size) (anyhow_free start size) AnyLine (Unit {0}) (λ is. tt) size fit turns (any_lines start (anyhow start size) turns)
-
 -- no MP_FAIL where it alters no payload
 pub plain_tells : (start : Start) (turns : List Turn) → IsPlain start → NumbersFit start → RunTells start AnyLine ⊥ turns
 plain_tells start turns plain fit = tells_by start (plainly start plain) (plainly_free start plain) AnyLine ⊥ false≢true plain.size fit turns (any_lines start (plainly start plain) turns)

@@ -1,8 +1,7 @@
 use Rattle.std.proofs.Common.{refl}
 use Rattle.judge_rules.specs.declared.finding.Rule.TheVariants.{AddressHmac, DataFin, DssSum, Fail, FastCloseKey, Form, Infinite, JoinHmac, Keys, Mapping, PlaceContent, Token, Within}
 use Rattle.own_runs.proofs.Kept.{no_run_breaks}
-use Rattle.own_runs.proofs.LinesTimes as lines
-use Rattle.own_runs.proofs.OtherPaths as others
+use Rattle.own_runs.proofs.OtherPaths as lines
 use Rattle.own_runs.proofs.PlacesTrace as places
 use Rattle.own_runs.proofs.laws.own_runs_break_no_rule.Goals as goal
 
@@ -43,4 +42,4 @@ pub returns-clause-fail : goal.returns-clause-fail
 returns-clause-fail c = places.no_plain_run_breaks Fail refl
 
 pub returns-clause-infinite : goal.returns-clause-infinite
-returns-clause-infinite c = others.no_run_breaks Infinite refl
+returns-clause-infinite c = lines.no_run_breaks Infinite refl
