@@ -82,6 +82,7 @@ use Rattle.world_laws.specs.StampedBooks.{answer_to}
 use Rattle.world_laws.proofs.Worlds.Turns.{run_so}
 use Rattle.whole_paths.proofs.JoinFlags.{answer_flag, asked_flag}
 use Rattle.whole_paths.proofs.SaidWords.{Fits}
+
 -- ---- the flag of an MP_JOIN
 
 -- neither end comes to hear one
@@ -298,7 +299,6 @@ rank_spares path number (OnSegment segment happens) lines none h = h
 rank_spares path number (OnDirection direction impairment) lines none h = h
 rank_spares path number (StripAll named s tick) lines none h = h
 rank_spares path number (FastClose s tick) lines none h = h
-
 
 module _ (start : Start) (number : ℕ) (regular : JoinsAsNoBackup number start) (ranks : RankNone number start.lines) where
   abbrev at : List Turn → WorldState Carried
