@@ -49,6 +49,7 @@ mod JudgedHere
 mod Kept
 mod KeptCovers
 mod KeptOptions
+mod KeptTold
 mod KeyBears
 mod KeyDuties
 mod KeyHears
@@ -78,6 +79,8 @@ mod MapPositions
 mod MapTrace
 mod MomentFacts
 mod Moments
+mod NamedTold
+mod Naming
 mod NextGrows
 mod NextRuns
 mod NextSent

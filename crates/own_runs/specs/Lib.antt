@@ -6,6 +6,7 @@ pub mod Granting
 pub mod Handshakes
 pub mod KeysShown
 pub mod Learned
+pub mod Named
 pub mod Packets
 pub mod ResetsEnd
 pub mod Runs

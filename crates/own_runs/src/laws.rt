@@ -6,6 +6,7 @@ ghost use Rattle.own_runs.specs.Fitting.{TracesFit};
 ghost use Rattle.own_runs.specs.Handshakes.{EachComesInOrder};
 ghost use Rattle.own_runs.specs.KeysShown.{EachComesBehindKeys, EachShowsKeysSo};
 ghost use Rattle.own_runs.specs.Learned.{LearnedPlacesWereTold};
+ghost use Rattle.own_runs.specs.Named.{NamedMappingsWereTold};
 ghost use Rattle.own_runs.specs.Packets.{CapturesAreTheirPackets};
 ghost use Rattle.own_runs.specs.Runs.{DataFinsEndTheFiles, DeliveredRunsShowTheFiles, NoPlainRunBreaks, NoRunBreaks, NoWholeRunBreaks, ReadersGetWhatIsShown, SeenOctetsAreTheFiles, StreamsBeginTheFiles, TriedOctetsAreSeen, WholeStreamsAreTheFiles};
 ghost use Rattle.own_runs.specs.Segments.{SegmentsAreFound, WrittenSegmentsAreFound};
@@ -167,4 +168,11 @@ pub fn the_opener_shows_both_keys()
 /// 3.3.1). It holds after every list of turns, lawful or not, where the numbers of the start fit.
 pub fn learned_places_were_told()
     ensures { LearnedPlacesWereTold }
+{}
+
+/// A law: whatever the script does, the place that an end names in MP_FAIL, where it goes on without a mapping or breaks its path for it
+/// (RFC 8684, section 3.7), is one at which a mapping of octets begins that a segment of the other side on the same path, sent before, told. It holds
+/// after every list of turns, lawful or not, where the numbers of the start fit.
+pub fn named_mappings_were_told()
+    ensures { NamedMappingsWereTold }
 {}
